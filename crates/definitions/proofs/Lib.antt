@@ -1,0 +1,3 @@
+-- Laws about the definitions that several crates cite.
+pub mod Replies
+pub mod Stores

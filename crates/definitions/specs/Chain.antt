@@ -1,0 +1,139 @@
+-- From a chain of data lists to a record: lists in turn, and the fragments of each in turn. f is the file, and id the id
+-- of its data blocks.
+use Prim.Native.Nat.{ℕ, zero, suc, _+_, _-_, _*_}
+use mathlib.Core.List.{List, [], _∷_, _++_}
+use mathlib.Core.Bool.{Bool, not, _&&_, _||_}
+use lib.ListN.{length, take, drop}
+use lib.Dec.{ltb, leb, eqb}
+use Rattle.definitions.specs.Reply.{Reply, Outcome, answer, refusal, if_then_else_, andThen}
+use Rattle.definitions.specs.Bytes.{span, u64At, idAt}
+use Rattle.definitions.specs.DataList.{DataList, listOf, oneLength}
+use Rattle.definitions.specs.Channel.{Channel, ValidValue, validValueOf}
+
+-- `##DT`
+abbrev pub idDT : List ℕ
+idDT = 35 ∷ 35 ∷ 68 ∷ 84 ∷ []
+
+-- ---- a data block
+
+-- an address in the file that is not 0 and has 24 bytes from it on, else 11
+abbrev pub hasHeader : List ℕ → ℕ → Bool
+hasHeader f a = not (eqb a 0) && leb (a + 24) (length f)
+
+-- a data block of the chain: its address, and how many bytes of data follow its header
+pub record Block : Type 0 where
+  pub address : ℕ
+  pub size : ℕ
+
+abbrev pub dataOf : List ℕ → Block → List ℕ
+dataOf f b = span f (b .address + 24) (b .size)
+
+-- the blocks' data end to end, and its length
+unfoldable pub joined : List ℕ → List Block → List ℕ
+joined f [] = []
+joined f (b ∷ bs) = dataOf f b ++ joined f bs
+
+unfoldable pub total : List Block → ℕ
+total [] = 0
+total (b ∷ bs) = b .size + total bs
+
+-- 12: another id, links, a length under 24, or an end past the file
+unfoldable pub blockAt : List ℕ → List ℕ → ℕ → Reply Block
+blockAt id f a =
+    if not (hasHeader f a) then refusal 11 0
+    else if not (idAt f a id) then refusal 12 0
+    else if not (eqb (u64At f (a + 16)) 0) then refusal 12 0
+    else if ltb (u64At f (a + 8)) 24 then refusal 12 0
+    else if ltb (length f) (a + u64At f (a + 8)) then refusal 12 0
+    else answer (record { address = a; size = u64At f (a + 8) - 24 })
+
+-- ---- a fragment
+
+-- Whether what a list declares of its fragment i is true; s is the file from the list on, and the data of all fragments
+-- before this one is p bytes. With one length, every fragment has it, but the list's last may be shorter
+abbrev pub declared : List ℕ → DataList → ℕ → ℕ → ℕ → Bool
+declared s d i p size =
+    if oneLength (d .flags)
+    then (if ltb (i + 1) (d .links) then eqb size (u64At s (d .restAt)) else leb size (u64At s (d .restAt)))
+    else eqb (u64At s (d .restAt + i * 8)) p
+
+-- 14: the joined data would pass 2^63-1 bytes; 13: a declared length or offset is untrue
+abbrev pub judged : List ℕ → DataList → ℕ → ℕ → Block → Reply Block
+judged s d i p b =
+    if ltb 9223372036854775807 (p + b .size) then refusal 14 0
+    else if not (declared s d i p (b .size)) then refusal 13 0
+    else answer b
+
+unfoldable pub fragmentOf : List ℕ → List ℕ → List ℕ → DataList → ℕ → ℕ → Reply Block
+fragmentOf id f s d i p = andThen (blockAt id f (u64At s (d .linksAt + i * 8))) (judged s d i p)
+
+-- n fragments of a list from fragment i on, added to the blocks before them
+unfoldable pub fragments : List ℕ → List ℕ → List ℕ → DataList → ℕ → ℕ → List Block → Reply (List Block)
+fragments id f s d i zero before = answer before
+fragments id f s d i (suc n) before =
+    andThen (fragmentOf id f s d i (total before)) (λ b. fragments id f s d (i + 1) n (before ++ (b ∷ [])))
+
+-- ---- a list
+
+-- 10: count is not links less 1, or the block length is less than the fields take
+abbrev pub agrees : DataList → Bool
+agrees d = eqb (d .count) (d .links) && leb (d .restAt + d .rest * 8) (d .header .blockLength)
+
+-- 9: the chain's fragments pass 4,096, n of them being in the lists before
+abbrev pub admitted : ℕ → DataList → Reply DataList
+admitted n d =
+    if not (agrees d) then refusal 10 0
+    else if ltb 4096 (n + d .links) then refusal 9 0
+    else answer d
+
+-- a list is read from its address to the file's end
+unfoldable pub listAt : List ℕ → ℕ → ℕ → Reply DataList
+listAt f n a = if not (hasHeader f a) then refusal 11 0 else andThen (listOf (drop a f)) (admitted n)
+
+-- ---- the chain
+
+-- k lists at most from the one at a on, added to the blocks before them; 8: one list more would be read
+unfoldable pub lists : List ℕ → List ℕ → ℕ → ℕ → List Block → Reply (List Block)
+lists id f zero a before = refusal 8 0
+lists id f (suc k) a before =
+    andThen (listAt f (length before) a)
+    (λ d. andThen (fragments id f (drop a f) d 0 (d .links) before)
+    (λ bs. if eqb (d .next) 0 then answer bs else lists id f k (d .next) bs))
+
+unfoldable pub chainOf : List ℕ → List ℕ → ℕ → Reply (List Block)
+chainOf id f start = lists id f 256 start []
+
+-- ---- a record
+
+-- 15: record size 0 or over 16,384, or a record buffer shorter than that
+abbrev pub badSize : ℕ → ℕ → Bool
+badSize size room = eqb size 0 || ltb 16384 size || ltb room size
+
+-- record k of the joined data j into the buffer; 16: it is not wholly inside
+unfoldable pub recordOf : List ℕ → ℕ → ℕ → List ℕ → Outcome (Unit {0})
+recordOf j k size out =
+    if ltb (length j) (k * size + size)
+    then record { reply = refusal 16 0; buffer = out }
+    else record { reply = answer tt; buffer = span j (k * size) size ++ drop size out }
+
+-- what a refused chain leaves, or go on with its blocks
+abbrev pub onBlocks : {A : Type 0} → Reply (List Block) → (List Block → Outcome A) → List ℕ → Outcome A
+onBlocks (answer bs) f out = f bs
+onBlocks (refusal n t) f out = record { reply = refusal n t; buffer = out }
+
+-- 15, 7 for a file longer than 2^40 bytes, the chain's own, 16
+unfoldable pub fetched : List ℕ → ℕ → ℕ → ℕ → List ℕ → Outcome (Unit {0})
+fetched f start k size out =
+    if badSize size (length out) then record { reply = refusal 15 0; buffer = out }
+    else if ltb 1099511627776 (length f) then record { reply = refusal 7 0; buffer = out }
+    else onBlocks (chainOf idDT f start) (λ bs. recordOf (joined f bs) k size out) out
+
+-- the record, then its field from those bytes alone; a refused field leaves the record in the buffer
+abbrev pub fieldOf : ℕ → ℕ → ℕ → Channel → Outcome (Unit {0}) → Outcome ValidValue
+fieldOf size idSize dataBytes c o = record {
+  reply = andThen (o .reply) (λ u. validValueOf (take size (o .buffer)) idSize dataBytes c);
+  buffer = o .buffer;
+}
+
+unfoldable pub valueFetched : List ℕ → ℕ → ℕ → ℕ → ℕ → ℕ → Channel → List ℕ → Outcome ValidValue
+valueFetched f start k size idSize dataBytes c out = fieldOf size idSize dataBytes c (fetched f start k size out)

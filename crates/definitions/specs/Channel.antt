@@ -1,0 +1,153 @@
+-- A channel's value in a record, as a double too, and its validity.
+use Prim.Native.Nat.{ℕ, _+_, _/_, _%_, max}
+use mathlib.Core.List.{List}
+use mathlib.Core.Bool.{Bool, true, false, not, _&&_, _||_}
+use lib.IntN.{ℤ, pos}
+use lib.ListN.{length, getD}
+use lib.Dec.{ltb, eqb}
+use lib.Ieee.{Float, binary64, ofBits}
+use Rattle.definitions.specs.Reply.{Reply, answer, refusal, if_then_else_, andThen}
+use Rattle.definitions.specs.Bytes.{Order, span, bit, bytesFor, fieldAt, twosComplement}
+use Rattle.definitions.specs.Ieee754.{nanPattern, doubleOf, widened}
+use Rattle.definitions.specs.Unicode.{Encoding, stopped}
+use Rattle.definitions.specs.DataType.{DataType, unsignedInteger, signedInteger, float, complex, string, byteArray, mimeSample, mimeStream, canOpenDate, canOpenTime, unknown, Kind, integer, floating, whole, undecoded, kindOf}
+
+-- what is known of a channel
+pub record Channel : Type 0 where
+  pub dataType : DataType
+  pub channelType : ℕ
+  pub bitOffset : ℕ
+  pub byteOffset : ℕ
+  pub bitCount : ℕ
+  pub flags : ℕ
+  pub invalidationBit : ℕ
+  pub dataLink : ℕ
+
+-- ---- where the field lies
+
+-- channel type 1 and a data link other than 0: the slice given is the payload
+abbrev pub variableLength : Channel → Bool
+variableLength c = eqb (c .channelType) 1 && not (eqb (c .dataLink) 0)
+
+-- a field starts at record id size + byte offset, a payload at its first byte
+abbrev pub startOf : ℕ → Channel → ℕ
+startOf idSize c = if variableLength c then 0 else idSize + c .byteOffset
+
+-- ceil((bit offset + bit count) / 8) bytes, at least 1
+abbrev pub bitSpan : Channel → ℕ
+bitSpan c = max 1 (bytesFor (c .bitOffset) (c .bitCount))
+
+-- a number has the span of its bits. Of a payload every other type takes the whole, which is n bytes. In a record
+-- texts, byte arrays and MIME have whole bytes, possibly 0, and ignore the bit offset
+abbrev pub spanIn : Bool → Kind → ℕ → Channel → ℕ
+spanIn payload integer n c = bitSpan c
+spanIn payload floating n c = bitSpan c
+spanIn payload whole n c = if payload then n else c .bitCount / 8
+spanIn payload undecoded n c = if payload then n else bitSpan c
+
+abbrev pub spanOf : List ℕ → Channel → ℕ
+spanOf s c = spanIn (variableLength c) (kindOf (c .dataType)) (length s) c
+
+-- ---- the value
+
+-- texts and bytes are told by place and length in the slice given; a double by its value and its 64-bit pattern
+pub data Value : Type 0 where
+  unsigned : ℕ → Value
+  signed : ℤ → Value
+  double : Float → ℕ → Value
+  text bytes sample stream : ℕ → ℕ → Value
+  unknownValue : Value
+
+abbrev pub doubleValue : ℕ → Value
+doubleValue pattern = double (ofBits binary64 pattern) pattern
+
+-- a 64-bit field keeps its bits, a 32-bit one widens
+abbrev pub floatBits : ℕ → ℕ → ℕ
+floatBits count x = if eqb count 64 then x else widened x
+
+-- the field of a number
+abbrev pub numberIn : Order → List ℕ → ℕ → Channel → ℕ
+numberIn o s at c = fieldAt o s at (c .bitOffset) (c .bitCount)
+
+-- what the n bytes from `at` on stand for; a text ends where it stops
+unfoldable pub decoded : DataType → List ℕ → ℕ → ℕ → Channel → Value
+decoded (unsignedInteger o) s at n c = unsigned (numberIn o s at c)
+decoded (signedInteger o) s at n c = signed (twosComplement (c .bitCount) (numberIn o s at c))
+decoded (float o) s at n c = doubleValue (floatBits (c .bitCount) (numberIn o s at c))
+decoded (string e) s at n c = text at (length (stopped e (span s at n)))
+decoded byteArray s at n c = bytes at n
+decoded mimeSample s at n c = sample at n
+decoded mimeStream s at n c = stream at n
+decoded canOpenDate s at n c = unknownValue
+decoded canOpenTime s at n c = unknownValue
+decoded (complex o) s at n c = unknownValue
+decoded unknown s at n c = unknownValue
+
+abbrev pub isInteger : Kind → Bool
+isInteger integer = true
+isInteger floating = false
+isInteger whole = false
+isInteger undecoded = false
+
+abbrev pub isFloating : Kind → Bool
+isFloating integer = false
+isFloating floating = true
+isFloating whole = false
+isFloating undecoded = false
+
+abbrev pub isNumber : Kind → Bool
+isNumber k = isInteger k || isFloating k
+
+-- 1: the decoder has no value
+abbrev pub noValue : {A : Type 0} → Reply A
+noValue = refusal 1 0
+
+-- the tests in turn: a number of bit count 0, a number's bit offset over 7, an integer over 64 bits, the span ends
+-- outside the slice, a float of another width than 32 or 64
+unfoldable pub valueBy : Kind → ℕ → ℕ → List ℕ → Channel → Reply Value
+valueBy k at n s c =
+    if isNumber k && eqb (c .bitCount) 0 then noValue
+    else if isNumber k && ltb 7 (c .bitOffset) then noValue
+    else if isInteger k && ltb 64 (c .bitCount) then noValue
+    else if ltb (length s) (at + n) then noValue
+    else if isFloating k && not (eqb (c .bitCount) 32 || eqb (c .bitCount) 64) then noValue
+    else answer (decoded (c .dataType) s at n c)
+
+unfoldable pub valueOf : List ℕ → ℕ → Channel → Reply Value
+valueOf s idSize c = valueBy (kindOf (c .dataType)) (startOf idSize c) (spanOf s c) s c
+
+-- ---- as a double
+
+-- integers: the nearest double; floats as they are; no number, or refused: NaN
+abbrev pub doubleIn : Reply Value → ℕ
+doubleIn (answer (unsigned n)) = doubleOf (pos n)
+doubleIn (answer (signed z)) = doubleOf z
+doubleIn (answer (double x pattern)) = pattern
+doubleIn (answer (text at n)) = nanPattern
+doubleIn (answer (bytes at n)) = nanPattern
+doubleIn (answer (sample at n)) = nanPattern
+doubleIn (answer (stream at n)) = nanPattern
+doubleIn (answer unknownValue) = nanPattern
+doubleIn (refusal number told) = nanPattern
+
+-- a payload gives NaN too
+unfoldable pub recordDouble : List ℕ → ℕ → Channel → ℕ
+recordDouble s idSize c = if variableLength c then nanPattern else doubleIn (valueOf s idSize c)
+
+-- ---- validity
+
+-- flag bit 0: invalid. Bits 0 and 1 clear: valid. Else the invalidation bit tells, and a byte beyond the slice reads 0
+unfoldable pub validOf : List ℕ → ℕ → ℕ → Channel → Bool
+validOf s idSize dataBytes c =
+    if eqb (bit (c .flags) 0) 1 then false
+    else if eqb (bit (c .flags) 1) 0 then true
+    else eqb (bit (getD s (idSize + dataBytes + c .invalidationBit / 8) 0) (c .invalidationBit % 8)) 0
+
+-- both; there is no validity without a value
+pub record ValidValue : Type 0 where
+  pub value : Value
+  pub valid : Bool
+
+unfoldable pub validValueOf : List ℕ → ℕ → ℕ → Channel → Reply ValidValue
+validValueOf s idSize dataBytes c =
+    andThen (valueOf s idSize c) (λ v. answer (record { value = v; valid = validOf s idSize dataBytes c }))

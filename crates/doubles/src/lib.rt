@@ -1,0 +1,12 @@
+// Patterns of doubles, made with integers alone: of integers, and of 32-bit floats.
+mod patterns;
+mod round;
+mod sign;
+mod value;
+mod widening;
+
+pub use round::double_of;
+pub use sign::double_of_sign;
+pub use sign::double_of_signed;
+pub use value::value_of;
+pub use widening::widen;

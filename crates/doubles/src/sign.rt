@@ -1,0 +1,43 @@
+// The doubles of integers of both signs.
+ghost use mathlib.Core.Path.{_≡_};
+ghost use mathlib.Core.Bool.{cond};
+ghost use Prim.Native.Nat.{_+_, _^_, _<_};
+ghost use lib.IntN.{pos, negsuc};
+ghost use lib.Signed.{ltZ};
+ghost use lib.Dec.{T};
+ghost use Rattle.definitions.specs.Ieee754.{doubleOf, doubleOfSign};
+use crate::patterns::SIGN;
+use crate::round::double_of;
+
+// A pattern whose sign is clear, with a sign.
+pub(crate) fn with_sign(negative: bool, pattern: u64) -> u64
+    requires { ⌜ pattern < 2 ^ 63 ⌝ }
+    ensures { λ r. ⌜ r ≡ cond negative (2 ^ 63) 0 + pattern ⌝ }
+{
+    if negative { SIGN + pattern } else { pattern }
+}
+
+// The pattern of the double nearest to the integer of a sign and a magnitude; a negative 0 gives -0.
+pub fn double_of_sign(negative: bool, magnitude: u64) -> u64
+    ensures { λ r. ⌜ r ≡ doubleOfSign negative magnitude ⌝ }
+{
+    with_sign(negative, double_of(magnitude))
+}
+
+// One less than the magnitude of a negative number, which fits at i64::MIN too.
+fn magnitude_less_one(n: i64) -> u64
+    requires { ⌜ T (ltZ n (pos 0)) ⌝ }
+    ensures { λ r. ⌜ (n ≡ negsuc r) × (r < 2 ^ 63) ⌝ }
+{
+    (-1 - n) as u64
+}
+
+// The pattern of the double nearest to n.
+pub fn double_of_signed(n: i64) -> u64
+    ensures { λ r. ⌜ r ≡ doubleOf n ⌝ }
+{
+    if n < 0 {
+        return double_of_sign(true, magnitude_less_one(n) + 1);
+    }
+    double_of_sign(false, n as u64)
+}

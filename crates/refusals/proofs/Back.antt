@@ -1,0 +1,39 @@
+-- The meaning is one-to-one: from its number and what it tells the refusal comes back.
+use mathlib.Core.Path.{_≡_, refl, sym, ap₂, _∙_}
+use mathlib.Core.List.{List, [], _∷_}
+use Prim.Native.Nat.{ℕ}
+use lib.ListN.{getD}
+use Rattle.refusals.specs.Meaning.{numberOf, toldOf}
+use Rattle.refusals.specs.declared.Refusal.{Refusal}
+use Rattle.refusals.specs.declared.Refusal.the-variants.{NoValue, TooFewBytes, OtherId, NoLinks, UnwritableList, NoRoom, FileTooLong, TooManyLists, TooManyFragments, ListDisagrees, NoBlockThere, BadDataBlock, UntrueDeclaration, DataTooLong, BadRecordSize, NoSuchRecord}
+
+-- the refusals by their numbers, where they tell t
+abbrev pub numbered : ℕ → List Refusal
+numbered t =
+    NoValue ∷ NoValue ∷ TooFewBytes t ∷ OtherId ∷ NoLinks ∷ UnwritableList ∷ NoRoom t ∷ FileTooLong ∷ TooManyLists
+    ∷ TooManyFragments ∷ ListDisagrees ∷ NoBlockThere ∷ BadDataBlock ∷ UntrueDeclaration ∷ DataTooLong ∷ BadRecordSize
+    ∷ NoSuchRecord ∷ []
+
+abbrev pub refusalOf : ℕ → ℕ → Refusal
+refusalOf n t = getD (numbered t) n NoValue
+
+pub back : (r : Refusal) → refusalOf (numberOf r) (toldOf r) ≡ r
+back NoValue = refl
+back (TooFewBytes n) = refl
+back OtherId = refl
+back NoLinks = refl
+back UnwritableList = refl
+back (NoRoom n) = refl
+back FileTooLong = refl
+back TooManyLists = refl
+back TooManyFragments = refl
+back ListDisagrees = refl
+back NoBlockThere = refl
+back BadDataBlock = refl
+back UntrueDeclaration = refl
+back DataTooLong = refl
+back BadRecordSize = refl
+back NoSuchRecord = refl
+
+pub one : (a b : Refusal) → numberOf a ≡ numberOf b → toldOf a ≡ toldOf b → a ≡ b
+one a b p q = sym (back a) ∙ ap₂ refusalOf p q ∙ back b

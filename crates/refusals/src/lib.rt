@@ -1,0 +1,87 @@
+// The numbered refusals, as one enum that every crate's answers share.
+ghost use mathlib.Core.Path.{_≡_};
+ghost use Rattle.refusals.specs.Meaning.{numberOf, toldOf};
+
+pub enum Refusal {
+    // 1
+    NoValue,
+    // 2, with the bytes that the block needs
+    TooFewBytes(u64),
+    // 3
+    OtherId,
+    // 4
+    NoLinks,
+    // 5
+    UnwritableList,
+    // 6, with the bytes that the output needs
+    NoRoom(u64),
+    // 7
+    FileTooLong,
+    // 8
+    TooManyLists,
+    // 9
+    TooManyFragments,
+    // 10
+    ListDisagrees,
+    // 11
+    NoBlockThere,
+    // 12
+    BadDataBlock,
+    // 13
+    UntrueDeclaration,
+    // 14
+    DataTooLong,
+    // 15
+    BadRecordSize,
+    // 16
+    NoSuchRecord,
+}
+
+impl Refusal {
+    pub fn number(self) -> u32
+        ensures { λ r. ⌜ r ≡ numberOf self ⌝ }
+    {
+        match self {
+            Refusal::NoValue => 1,
+            Refusal::TooFewBytes(_) => 2,
+            Refusal::OtherId => 3,
+            Refusal::NoLinks => 4,
+            Refusal::UnwritableList => 5,
+            Refusal::NoRoom(_) => 6,
+            Refusal::FileTooLong => 7,
+            Refusal::TooManyLists => 8,
+            Refusal::TooManyFragments => 9,
+            Refusal::ListDisagrees => 10,
+            Refusal::NoBlockThere => 11,
+            Refusal::BadDataBlock => 12,
+            Refusal::UntrueDeclaration => 13,
+            Refusal::DataTooLong => 14,
+            Refusal::BadRecordSize => 15,
+            Refusal::NoSuchRecord => 16,
+        }
+    }
+
+    // what the refusal tells beside its number, and 0 where it tells nothing
+    pub fn told(self) -> u64
+        ensures { λ r. ⌜ r ≡ toldOf self ⌝ }
+    {
+        match self {
+            Refusal::NoValue => 0,
+            Refusal::TooFewBytes(n) => n,
+            Refusal::OtherId => 0,
+            Refusal::NoLinks => 0,
+            Refusal::UnwritableList => 0,
+            Refusal::NoRoom(n) => n,
+            Refusal::FileTooLong => 0,
+            Refusal::TooManyLists => 0,
+            Refusal::TooManyFragments => 0,
+            Refusal::ListDisagrees => 0,
+            Refusal::NoBlockThere => 0,
+            Refusal::BadDataBlock => 0,
+            Refusal::UntrueDeclaration => 0,
+            Refusal::DataTooLong => 0,
+            Refusal::BadRecordSize => 0,
+            Refusal::NoSuchRecord => 0,
+        }
+    }
+}

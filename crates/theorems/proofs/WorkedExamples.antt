@@ -1,0 +1,14 @@
+-- The worked examples hold: the definitions compute to what the table says.
+use mathlib.Core.Path.{refl}
+use lib.Ieee.{toUnsigned, ofBits, toBits, ofInt}
+use Rattle.definitions.specs.Bytes.{leOf, le, les}
+use Rattle.definitions.specs.Unicode.{stopped, beforeNul}
+use Rattle.definitions.specs.Channel.{decoded, valueBy, valueOf, recordDouble, validOf}
+use Rattle.definitions.specs.Header.{headerOf, headerBytes}
+use Rattle.definitions.specs.DataList.{listOf, linksOf, restOf, listBytes}
+use Rattle.definitions.specs.Chain.{joined, total, blockAt, fragmentOf, fragments, listAt, lists, chainOf, recordOf, fetched}
+use Rattle.theorems.specs.Examples.{Claim}
+
+pub claim : Claim
+unfolding toUnsigned ofBits toBits ofInt leOf le les stopped beforeNul decoded valueBy valueOf recordDouble validOf headerOf headerBytes listOf linksOf restOf listBytes joined total blockAt fragmentOf fragments listAt lists chainOf recordOf fetched
+claim = refl

@@ -1,0 +1,131 @@
+-- The worked examples: one table of calls with what each replies, and the one claim that the definitions give just that.
+use Prim.Native.Nat.{ℕ}
+use mathlib.Core.Path.{_≡_}
+use mathlib.Core.List.{List, [], _∷_, _++_, map}
+use mathlib.Core.Bool.{Bool, true, false}
+use lib.IntN.{pos, negsuc}
+use lib.Ieee.{binary64, ofBits, toUnsigned, fin}
+use Rattle.definitions.specs.Reply.{Reply, Outcome, answer, refusal}
+use Rattle.definitions.specs.Bytes.{little, big, le}
+use Rattle.definitions.specs.Unicode.{latin1}
+use Rattle.definitions.specs.DataType.{DataType, unsignedInteger, signedInteger, float, string}
+use Rattle.definitions.specs.Channel.{Channel, Value, unsigned, signed, double, text, valueOf, recordDouble, validOf}
+use Rattle.definitions.specs.DataList.{DataList, idDL, listOf, listBytes}
+use Rattle.definitions.specs.Chain.{idDT, fetched}
+
+-- a fixed channel: byte offset, flags, invalidation bit position, data type, bit offset, bit count
+abbrev pub fixed : ℕ → ℕ → ℕ → DataType → ℕ → ℕ → Channel
+fixed at flags position t offset count = record {
+  dataType = t;
+  channelType = 0;
+  bitOffset = offset;
+  byteOffset = at;
+  bitCount = count;
+  flags = flags;
+  invalidationBit = position;
+  dataLink = 0;
+}
+
+-- one at the record's first byte, and one with flags and an invalidation bit
+abbrev pub channel : DataType → ℕ → ℕ → Channel
+channel = fixed 0 0 0
+
+abbrev pub flagged : ℕ → ℕ → Channel
+flagged flags position = fixed 0 flags position (unsignedInteger little) 0 8
+
+-- a list of 40 bytes with the given links and flags, and count 0
+abbrev pub shortList : ℕ → ℕ → List ℕ
+shortList links flags = idDL ++ le 4 0 ++ le 8 40 ++ le 8 links ++ le 8 0 ++ (flags ∷ 0 ∷ 0 ∷ 0 ∷ []) ++ le 4 0
+
+-- a data block
+abbrev pub dataBlock : ℕ → List ℕ → List ℕ
+dataBlock size bytes = idDT ++ le 4 0 ++ le 8 size ++ le 8 0 ++ bytes
+
+-- 01 to 06 in three blocks of 3, 0 and 3 bytes, with their offsets; and in one block, with its length. The list is at 8
+abbrev pub cut : List ℕ
+cut =
+    le 8 0 ++ listBytes 0 (96 ∷ 123 ∷ 147 ∷ []) 0 (0 ∷ 3 ∷ 3 ∷ [])
+    ++ dataBlock 27 (1 ∷ 2 ∷ 3 ∷ []) ++ dataBlock 24 [] ++ dataBlock 27 (4 ∷ 5 ∷ 6 ∷ [])
+
+abbrev pub uncut : List ℕ
+uncut = le 8 0 ++ listBytes 0 (64 ∷ []) 1 (6 ∷ []) ++ dataBlock 30 (1 ∷ 2 ∷ 3 ∷ 4 ∷ 5 ∷ 6 ∷ [])
+
+-- a call, and what it replies
+pub data Row : Type 0 where
+  value : List ℕ → Channel → Reply Value → Row
+  -- the double of an unsigned 64-bit counter, as the whole number that it is
+  counter : ℕ → ℕ → Row
+  -- validity with id size 0 and 2 data bytes
+  validity : List ℕ → Channel → Bool → Row
+  list : List ℕ → Reply DataList → Row
+  -- record k of size 2 from the chain at 8, into a buffer of 2 bytes FF
+  fetch : List ℕ → ℕ → Outcome (Unit {0}) → Row
+
+-- a reply, of whichever call
+pub data Said : Type 0 where
+  aValue : Reply Value → Said
+  aNumber : ℕ → Said
+  aTest : Bool → Said
+  aList : Reply DataList → Said
+  aRecord : Outcome (Unit {0}) → Said
+
+-- what the definitions give for a row's call, and what the row says
+abbrev pub given : Row → Said
+given (value s c r) = aValue (valueOf s 0 c)
+given (counter n r) = aNumber (toUnsigned 64 (ofBits binary64 (recordDouble (le 8 n) 0 (channel (unsignedInteger little) 0 64))))
+given (validity s c r) = aTest (validOf s 0 2 c)
+given (list s r) = aList (listOf s)
+given (fetch f k r) = aRecord (fetched f 8 k 2 (255 ∷ 255 ∷ []))
+
+abbrev pub stated : Row → Said
+stated (value s c r) = aValue r
+stated (counter n r) = aNumber r
+stated (validity s c r) = aTest r
+stated (list s r) = aList r
+stated (fetch f k r) = aRecord r
+
+abbrev pub table : List Row
+table =
+    value (0x34 ∷ 0x12 ∷ []) (channel (unsignedInteger little) 0 16) (answer (unsigned 4660))
+    ∷ value (0x34 ∷ 0x12 ∷ []) (channel (unsignedInteger big) 0 16) (answer (unsigned 13330))
+    ∷ value (0x34 ∷ 0x12 ∷ []) (channel (unsignedInteger little) 4 8) (answer (unsigned 35))
+    ∷ value (0x34 ∷ 0x12 ∷ []) (channel (unsignedInteger big) 4 8) (answer (unsigned 65))
+    ∷ value (0xF0 ∷ []) (channel (signedInteger little) 4 4) (answer (signed (negsuc 0)))
+    ∷ value (0x80 ∷ []) (channel (signedInteger little) 4 4) (answer (signed (negsuc 7)))
+    ∷ value (0x70 ∷ []) (channel (signedInteger little) 4 4) (answer (signed (pos 7)))
+    ∷ value (0x01 ∷ []) (channel (signedInteger little) 0 1) (answer (signed (negsuc 0)))
+    ∷ value (le 8 0 ++ (0x0F ∷ [])) (channel (signedInteger little) 4 64) (answer (signed (negsuc 1152921504606846975)))
+    ∷ value (le 8 0) (channel (signedInteger little) 4 64) (refusal 1 0)
+    ∷ value (0x00 ∷ 0x00 ∷ 0x80 ∷ 0x3F ∷ []) (channel (float little) 0 32) (answer (double (fin false 1 (pos 0)) 0x3FF0000000000000))
+    ∷ value (0x01 ∷ 0x00 ∷ 0x00 ∷ 0x00 ∷ []) (channel (float little) 0 32) (answer (double (fin false 1 (negsuc 148)) 0x36A0000000000000))
+    ∷ value (0x00 ∷ 0x00 ∷ []) (channel (float little) 0 16) (refusal 1 0)
+    ∷ counter 9007199254740993 9007199254740992
+    ∷ counter 9007199254740995 9007199254740996
+    ∷ value (0x50 ∷ 0x58 ∷ 0x31 ∷ 0x00 ∷ 0x39 ∷ []) (channel (string latin1) 0 40) (answer (text 0 3))
+    ∷ value (0x50 ∷ 0x58 ∷ []) (fixed 2 0 0 (string latin1) 0 7) (answer (text 2 0))
+    ∷ value (0x50 ∷ 0x58 ∷ []) (fixed 3 0 0 (string latin1) 0 7) (refusal 1 0)
+    ∷ validity (0x34 ∷ 0x12 ∷ 0x00 ∷ 0x02 ∷ []) (flagged 2 9) false
+    ∷ validity (0x34 ∷ 0x12 ∷ 0x00 ∷ 0x02 ∷ []) (flagged 2 16) true
+    ∷ validity (0x34 ∷ 0x12 ∷ 0x00 ∷ 0x02 ∷ []) (flagged 3 9) false
+    ∷ list (shortList 1 0) (answer (record {
+      header = record { id = 1279533859; reserved = 0; blockLength = 40; linkCount = 1 };
+      next = 0;
+      linksAt = 32;
+      links = 0;
+      flags = 0;
+      reserved = 0;
+      count = 0;
+      restAt = 40;
+      rest = 0;
+    }))
+    ∷ list (shortList 1 1) (refusal 2 48)
+    ∷ list (shortList 18446744073709551615 0) (refusal 2 18446744073709551615)
+    ∷ fetch cut 1 (record { reply = answer tt; buffer = 3 ∷ 4 ∷ [] })
+    ∷ fetch uncut 1 (record { reply = answer tt; buffer = 3 ∷ 4 ∷ [] })
+    ∷ fetch cut 3 (record { reply = refusal 16 0; buffer = 255 ∷ 255 ∷ [] })
+    ∷ fetch uncut 3 (record { reply = refusal 16 0; buffer = 255 ∷ 255 ∷ [] })
+    ∷ []
+
+-- every row of the table is right
+abbrev pub Claim : Type 0
+Claim = map given table ≡ map stated table

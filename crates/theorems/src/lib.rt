@@ -1,0 +1,1 @@
+// No code: what follows from the definitions and the promises.

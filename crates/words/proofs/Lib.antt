@@ -1,0 +1,10 @@
+-- The laws of bytes, words and fields, for the proofs here and in the crates above.
+pub mod Numbers
+pub mod Spans
+pub mod Bits
+pub mod Locality
+pub mod Stores
+pub mod Shifts
+pub mod Ways
+pub mod Signs
+pub mod Ids

@@ -1,0 +1,28 @@
+-- Each way has a callee for it.
+use mathlib.Core.Path.{ap, _∙_}
+use Prim.Native.Nat.{ℕ}
+use borrow.Author.Needs.{needs}
+use Rattle.definitions.specs.Bytes.{bits}
+use Rattle.words.proofs.field.field_le.Statement.{statement}
+use Rattle.words.proofs.field.field_le.Tie as tie
+
+returns-3 : tie.Need-returns-3
+returns-3 c =
+    let a = c .before .before .before .before .before .args in
+    c .cut .ensures ∙ ap (λ (x : ℕ). bits x (a .offset) (a .count)) (c .before .le-bytes .ensures .0)
+
+pub field-le-spec : {M : Type 1} → statement M
+field-le-spec =
+    tie.close
+    (tie.spec
+    (λ c. search needs)
+    (λ c. search needs)
+    (λ c. search needs)
+    (λ c κs. search needs)
+    (λ c. search needs)
+    (λ c. search needs)
+    (λ c κs. search needs)
+    (λ c. search needs)
+    (λ c κs. search needs)
+    (λ c κs. search needs)
+    returns-3)
