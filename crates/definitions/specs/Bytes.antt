@@ -40,6 +40,11 @@ u32At s at = leOf (span s at 4)
 abbrev pub u64At : List ℕ → ℕ → ℕ
 u64At s at = leOf (span s at 8)
 
+-- n numbers of eight bytes each, from `at` on
+unfoldable pub u64sAt : List ℕ → ℕ → ℕ → List ℕ
+u64sAt s at zero = []
+u64sAt s at (suc n) = u64At s at ∷ u64sAt s (at + 8) n
+
 -- whether the four bytes of s from `at` on are those of a block id
 abbrev pub idAt : List ℕ → ℕ → List ℕ → Bool
 idAt s at id =

@@ -1,0 +1,64 @@
+-- When a data list is answered: exactly then, with the list that stands in the bytes.
+use mathlib.Core.Path.{_≡_, refl, sym, ap, _∙_}
+use mathlib.Core.List.{List}
+use mathlib.Core.Bool.{Bool, true, false, not}
+use Prim.Native.Nat.{ℕ, _+_, _*_, _≤_, _<_}
+use native.Mathlib.Omega.{arith}
+use lib.ListN.{length}
+use lib.Dec.{eqb}
+use borrow.Author.Tests.{eqb-false}
+use Rattle.definitions.specs.Reply.{Reply, answer, refusal, if_then_else_, andThen, needing}
+use Rattle.definitions.specs.Bytes.{u64At, idAt}
+use Rattle.definitions.specs.Header.{Header, headerOf, headerIn}
+use Rattle.definitions.specs.DataList.{DataList, idDL, listOf, linksOf, restOf, listIn, restIn, flagsAt}
+use Rattle.blocks.proofs.Headers.{apart, needed, header-met, header-answered}
+use Rattle.blocks.proofs.Lists.{list-linked}
+use Rattle.definitions.proofs.Replies.{needing-met}
+
+-- the id, a link, and room for all that the fields take
+pub record Stands (s : List ℕ) : Type 0 where
+  pub named : idAt s 0 idDL ≡ true
+  pub some : 0 < u64At s 16
+  pub whole : flagsAt (u64At s 16) + 8 + restIn s (u64At s 16) * 8 ≤ length s
+
+module _ (s : List ℕ) where
+  pub list-answered : Stands s → listOf s ≡ answer (listIn s (headerIn s))
+  unfolding restOf
+  list-answered h =
+      let w = h .whole in
+      let l : 24 ≤ length s = omega arith in
+      let z : u64At s 16 ≡ 0 → ⊥ = λ e. omega (arith, e, h .some) in
+      list-linked s (headerIn s) (header-met s l) (h .named) z (omega arith) ∙ needing-met s _ _ w
+
+  by-tests : (x : Header) (d : DataList) (i k : Bool) → idAt s 0 idDL ≡ i → eqb (x .linkCount) 0 ≡ k
+      → (if not i then refusal 3 0 else if k then refusal 4 0 else needing s (flagsAt (x .linkCount) + 8) (restOf s x)) ≡ answer d
+      → (idAt s 0 idDL ≡ true) × (x .linkCount ≡ 0 → ⊥) × (restOf s x ≡ answer d)
+  by-tests x d false k e f h = apart d _ _ h
+  by-tests x d true true e f h = apart d _ _ h
+  by-tests x d true false e f h = (e, eqb-false _ _ f, needed s _ _ d h .1)
+
+  linked : (x : Header) (d : DataList) → linksOf s x ≡ answer d → (idAt s 0 idDL ≡ true) × (x .linkCount ≡ 0 → ⊥) × (restOf s x ≡ answer d)
+  unfolding linksOf
+  linked x d h = by-tests x d (idAt s 0 idDL) (eqb (x .linkCount) 0) refl refl h
+
+  by-header : (d : DataList) (r : Reply Header) → headerOf s ≡ r → andThen r (linksOf s) ≡ answer d → linksOf s (headerIn s) ≡ answer d
+  by-header d (refusal n t) e h = apart d _ _ h
+  by-header d (answer x) e h = ap (linksOf s) (sym (header-answered s x e .1)) ∙ h
+
+  headed : (d : DataList) → listOf s ≡ answer d → linksOf s (headerIn s) ≡ answer d
+  unfolding listOf
+  headed d h = by-header d (headerOf s) refl h
+
+  rested : (d : DataList) → restOf s (headerIn s) ≡ answer d
+      → (flagsAt (u64At s 16) + 8 + restIn s (u64At s 16) * 8 ≤ length s) × (answer (listIn s (headerIn s)) ≡ answer d)
+  unfolding restOf
+  rested d h = needed s _ _ d h
+
+  above-zero : (n : ℕ) → (n ≡ 0 → ⊥) → 0 < n
+  above-zero n h = omega arith
+
+  pub list-stands : (d : DataList) → listOf s ≡ answer d → Stands s × (d ≡ listIn s (headerIn s))
+  list-stands d h =
+      let p = linked (headerIn s) d (headed d h) in
+      let q = rested d (p .2) in
+      (record { named = p .0; some = above-zero (u64At s 16) (p .1); whole = q .0 }, cc)
