@@ -1,0 +1,257 @@
+/*
+ * mf4.h: reading MDF4 channels and data lists, proved.
+ *
+ * Every call ends with an answer or a numbered refusal, for every input. A call that can refuse returns a struct by
+ * value: `reply` is 0 (MF4_ANSWER) or the refusal's number, `told` is what the refusal tells beside its number (0 where it
+ * tells nothing), and the other fields are the answer's, all zero on a refusal. A refusal writes nothing. One exception:
+ * mf4_record_value leaves a record that it has fetched in the buffer when the record's field is then refused.
+ *
+ * A pair (pointer, count) is a slice; the pointer may be NULL where the count is 0. An output buffer must not overlap an
+ * input. Nothing is allocated and nothing is kept between calls, so calls from several threads do not meet.
+ *
+ * Link with libmf4.a. C99, C++98 or later.
+ */
+#ifndef MF4_H
+#define MF4_H
+
+#include <stddef.h>
+#include <stdint.h>
+#include <string.h>
+
+#ifdef __cplusplus
+extern "C" {
+#endif
+
+/* ---- replies ---------------------------------------------------------------------------------------------------- */
+
+enum mf4_reply {
+    MF4_ANSWER = 0,
+    MF4_NO_VALUE = 1,            /* the decoder has no value                                                      */
+    MF4_TOO_FEW_BYTES = 2,       /* a block has too few bytes; told: how many it needs                            */
+    MF4_OTHER_ID = 3,            /* the block id is another                                                       */
+    MF4_NO_LINKS = 4,            /* a data list has 0 links                                                       */
+    MF4_UNWRITABLE_LIST = 5,     /* write: links and offsets differ in number, or over 4,096 data links           */
+    MF4_NO_ROOM = 6,             /* output buffer too small; told: the bytes needed                               */
+    MF4_FILE_TOO_LONG = 7,       /* file longer than 2^40 bytes                                                   */
+    MF4_TOO_MANY_LISTS = 8,      /* a 257th list would be read                                                    */
+    MF4_TOO_MANY_FRAGMENTS = 9,  /* the chain's fragments pass 4,096                                              */
+    MF4_LIST_DISAGREES = 10,     /* a list's count is not its links less 1, or its block length is too small      */
+    MF4_NO_BLOCK_THERE = 11,     /* a link or the start is 0, or has under 24 bytes of file from it on            */
+    MF4_BAD_DATA_BLOCK = 12,     /* data block: id not ##DT, links not 0, length under 24, or end past the file   */
+    MF4_UNTRUE_DECLARATION = 13, /* a declared length or offset is untrue                                         */
+    MF4_DATA_TOO_LONG = 14,      /* the joined data would pass 2^63-1 bytes                                       */
+    MF4_BAD_RECORD_SIZE = 15,    /* record size 0 or over 16,384, or record buffer shorter than that              */
+    MF4_NO_SUCH_RECORD = 16      /* the record is not wholly inside the joined data                               */
+};
+
+/* A reply in words, for people. */
+static inline const char *mf4_reply_text(uint32_t reply)
+{
+    switch (reply) {
+    case MF4_ANSWER: return "an answer";
+    case MF4_NO_VALUE: return "the field has no value";
+    case MF4_TOO_FEW_BYTES: return "the block has too few bytes";
+    case MF4_OTHER_ID: return "the block has another id";
+    case MF4_NO_LINKS: return "the data list has no links";
+    case MF4_UNWRITABLE_LIST: return "links and offsets differ in number, or there are over 4096 links";
+    case MF4_NO_ROOM: return "the output buffer is too small";
+    case MF4_FILE_TOO_LONG: return "the file is longer than 2^40 bytes";
+    case MF4_TOO_MANY_LISTS: return "the chain has over 256 lists";
+    case MF4_TOO_MANY_FRAGMENTS: return "the chain has over 4096 fragments";
+    case MF4_LIST_DISAGREES: return "a list's count or block length disagrees with its links";
+    case MF4_NO_BLOCK_THERE: return "a link leads to no block";
+    case MF4_BAD_DATA_BLOCK: return "a data block is damaged";
+    case MF4_UNTRUE_DECLARATION: return "a list declares a length or an offset that is untrue";
+    case MF4_DATA_TOO_LONG: return "the joined data passes 2^63-1 bytes";
+    case MF4_BAD_RECORD_SIZE: return "the record size is 0 or over 16384, or the buffer is too short";
+    case MF4_NO_SUCH_RECORD: return "the record is not inside the data";
+    default: return "no reply of this library";
+    }
+}
+
+/* ---- block headers ---------------------------------------------------------------------------------------------- */
+
+/* The 24 bytes in front of every block. id: the four raw bytes, the first the lowest. */
+typedef struct mf4_block_header {
+    uint32_t id;
+    uint32_t reserved0;
+    uint64_t block_len;
+    uint64_t links_nr;
+} mf4_block_header;
+
+typedef struct mf4_header {
+    uint32_t reply;
+    uint64_t told;
+    mf4_block_header header;
+} mf4_header;
+
+/* How many bytes a call wrote from the start of its output buffer. Nothing behind them changes. */
+typedef struct mf4_written {
+    uint32_t reply;
+    uint64_t told;
+    uint64_t count;
+} mf4_written;
+
+/* Refuses with 2. */
+mf4_header mf4_read_header(const uint8_t *bytes, size_t bytes_len);
+
+/* Writes 24 bytes. Refuses with 6. */
+mf4_written mf4_write_header(mf4_block_header header, uint8_t *out, size_t out_len);
+
+/* ---- data types ------------------------------------------------------------------------------------------------- */
+
+enum mf4_data_type {
+    MF4_UNSIGNED_LE = 0, MF4_UNSIGNED_BE = 1, MF4_SIGNED_LE = 2, MF4_SIGNED_BE = 3, MF4_FLOAT_LE = 4, MF4_FLOAT_BE = 5,
+    MF4_LATIN1 = 6, MF4_UTF8 = 7, MF4_UTF16_LE = 8, MF4_UTF16_BE = 9,
+    MF4_BYTE_ARRAY = 10, MF4_MIME_SAMPLE = 11, MF4_MIME_STREAM = 12, MF4_CANOPEN_DATE = 13, MF4_CANOPEN_TIME = 14,
+    MF4_COMPLEX_LE = 15, MF4_COMPLEX_BE = 16
+};
+
+/* The code of the type that a code stands for: itself up to 16; every other code is an unknown type, which gives 0. */
+uint8_t mf4_type_code(uint8_t code);
+
+/* The bits of a channel of that type where nobody says how many. */
+uint32_t mf4_default_bits(uint8_t code);
+
+/* ---- data lists ------------------------------------------------------------------------------------------------- */
+
+/* links_at, links: where the data links stand in the bytes given, and how many; 8 bytes each, little-endian.
+ * rest_at, rest: the same of the one length (flag bit 0) or of the offsets. Neither data_block_nr nor block_len is
+ * compared with anything here. */
+typedef struct mf4_list {
+    uint32_t reply;
+    uint64_t told;
+    mf4_block_header header;
+    uint64_t next;
+    uint64_t links_at;
+    uint64_t links;
+    uint8_t flags;
+    uint32_t reserved1;
+    uint32_t data_block_nr;
+    uint64_t rest_at;
+    uint64_t rest;
+} mf4_list;
+
+/* Refuses with 2, 3, 4. */
+mf4_list mf4_read_list(const uint8_t *bytes, size_t bytes_len);
+
+/* A list whose fragments all have one length. Refuses with 5, then 6. */
+mf4_written mf4_write_list_equal(uint8_t *out, size_t out_len, uint64_t next, const uint64_t *links, size_t links_len,
+                                 uint64_t length);
+
+/* A list with the offset of each fragment's data in the joined data. Refuses with 5, then 6. */
+mf4_written mf4_write_list_variable(uint8_t *out, size_t out_len, uint64_t next, const uint64_t *links, size_t links_len,
+                                    const uint64_t *offsets, size_t offsets_len);
+
+/* ---- values ----------------------------------------------------------------------------------------------------- */
+
+/* A channel's description. data_type: a code of enum mf4_data_type. */
+typedef struct mf4_channel {
+    uint8_t data_type;
+    uint8_t channel_type;
+    uint8_t bit_offset;
+    uint32_t byte_offset;
+    uint32_t bit_count;
+    uint32_t flags;
+    uint32_t pos_invalidation_bit;
+    uint64_t data;
+} mf4_channel;
+
+enum mf4_kind {
+    MF4_NOTHING = 0,      /* on a refusal                                           */
+    MF4_UNSIGNED = 1,     /* unsigned_value                                         */
+    MF4_SIGNED = 2,       /* signed_value                                           */
+    MF4_DOUBLE = 3,       /* double_bits; mf4_double_of gives the double            */
+    MF4_TEXT = 4,         /* at, length: up to the text's stop, in the bytes given  */
+    MF4_BYTES = 5,        /* at, length                                             */
+    MF4_SAMPLE = 6,       /* at, length                                             */
+    MF4_STREAM = 7,       /* at, length                                             */
+    MF4_UNKNOWN = 8       /* a type without decoding here                           */
+};
+
+typedef struct mf4_decoded {
+    uint32_t kind;
+    uint64_t unsigned_value;
+    int64_t signed_value;
+    uint64_t double_bits;
+    uint64_t at;
+    uint64_t length;
+} mf4_decoded;
+
+typedef struct mf4_value {
+    uint32_t reply;
+    uint64_t told;
+    mf4_decoded value;
+} mf4_value;
+
+typedef struct mf4_valid_value {
+    uint32_t reply;
+    uint64_t told;
+    mf4_decoded value;
+    uint8_t is_valid;
+} mf4_valid_value;
+
+/* The value of a channel in a record, or in a payload where channel_type is 1 and data is not 0. Refuses with 1. */
+mf4_value mf4_decode_value(const uint8_t *record, size_t record_len, uint64_t record_id_size, mf4_channel channel);
+
+/* 1 if the value is valid, 0 if not. A byte beyond the record means valid. */
+uint8_t mf4_check_validity(const uint8_t *record, size_t record_len, uint64_t record_id_size, uint32_t data_bytes,
+                           mf4_channel channel);
+
+/* Both. Refuses with 1, and then says nothing of validity. */
+mf4_valid_value mf4_decode_valid_value(const uint8_t *record, size_t record_len, uint64_t record_id_size,
+                                       uint32_t data_bytes, mf4_channel channel);
+
+/* The value as a double's 64-bit pattern: integers rounded to the nearest double, ties to even. NaN, 0x7FF8000000000000,
+ * for a payload, no value, or no number. */
+uint64_t mf4_decode_double(const uint8_t *record, size_t record_len, uint64_t record_id_size, mf4_channel channel);
+
+/* The double of a pattern. */
+static inline double mf4_double_of(uint64_t bits)
+{
+    double x;
+    memcpy(&x, &bits, sizeof x);
+    return x;
+}
+
+/* ---- texts ------------------------------------------------------------------------------------------------------ */
+
+/* damaged: the bytes are not well-formed, and a placeholder such as <Invalid UTF8> was written in their place. */
+typedef struct mf4_text {
+    uint32_t reply;
+    uint64_t told;
+    uint64_t count;
+    uint8_t damaged;
+} mf4_text;
+
+/* A text's bytes as UTF-8, up to its stop: the first NUL byte, or for UTF-16 the first zero unit. No NUL is added.
+ * Refuse with 6. */
+mf4_text mf4_text_latin1(const uint8_t *bytes, size_t bytes_len, uint8_t *out, size_t out_len);
+mf4_text mf4_text_utf8(const uint8_t *bytes, size_t bytes_len, uint8_t *out, size_t out_len);
+mf4_text mf4_text_utf16_le(const uint8_t *bytes, size_t bytes_len, uint8_t *out, size_t out_len);
+mf4_text mf4_text_utf16_be(const uint8_t *bytes, size_t bytes_len, uint8_t *out, size_t out_len);
+
+/* ---- records through a chain of data lists ---------------------------------------------------------------------- */
+
+typedef struct mf4_fetched {
+    uint32_t reply;
+    uint64_t told;
+} mf4_fetched;
+
+/* Record `number` of the joined data of the chain that starts at the address `start` of the file: bytes
+ * number * record_size up to (number + 1) * record_size, into the first record_size bytes of the buffer.
+ * Refuses with 15, 7, then what the chain shows: 8, 11, 2, 3, 4, 10, 9, 12, 14, 13; then 16. */
+mf4_fetched mf4_read_record(const uint8_t *file, size_t file_len, uint64_t start, uint64_t number, uint64_t record_size,
+                            uint8_t *buffer, size_t buffer_len);
+
+/* The record, and then a channel's value and validity in it. Refuses as mf4_read_record, then with 1, where the record
+ * stays in the buffer. */
+mf4_valid_value mf4_record_value(const uint8_t *file, size_t file_len, uint64_t start, uint64_t number,
+                                 uint64_t record_size, uint64_t record_id_size, uint32_t data_bytes, mf4_channel channel,
+                                 uint8_t *buffer, size_t buffer_len);
+
+#ifdef __cplusplus
+}
+#endif
+
+#endif
