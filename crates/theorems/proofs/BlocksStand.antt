@@ -1,0 +1,103 @@
+-- A block is taken at an address exactly where it stands there, and a list exactly where it stands and agrees.
+use mathlib.Core.Path.{_≡_, refl, sym, ap, _∙_}
+use mathlib.Core.Bool.{Bool, true, false, not}
+use mathlib.Core.List.{List}
+use Prim.Native.Nat.{ℕ, _+_, _-_, _*_, _≤_, _<_}
+use native.Mathlib.Omega.{arith}
+use lib.ListN.{length, drop}
+use lib.Dec.{ltb, eqb}
+use borrow.Author.Tests.{leb-true, ltb-false, eqb-true, eqb-false, not-true, le-leb, le-ltb, eq-eqb, ne-eqb}
+use Rattle.definitions.specs.Reply.{Reply, answer}
+use Rattle.definitions.specs.Bytes.{u64At, idAt}
+use Rattle.definitions.specs.DataList.{DataList, listOf}
+use Rattle.definitions.specs.Chain.{Block, hasHeader, blockAt, judged, declared, fragmentOf, agrees, admitted, listAt}
+use Rattle.definitions.specs.Accepted.{BlockStands}
+use Rattle.theorems.proofs.Tested.{passed, held, gone-on, both}
+
+module _ (f : List ℕ) (a : ℕ) where
+  not-zero : (a ≡ 0 → ⊥) → 0 < a
+  not-zero h = omega arith
+
+  has-header : hasHeader f a ≡ true → (0 < a) × (a + 24 ≤ length f)
+  has-header h =
+      let p = both _ _ h in
+      (not-zero (eqb-false a 0 (not-true _ (p .0))), leb-true _ _ (p .1))
+
+  header-there : 0 < a → a + 24 ≤ length f → hasHeader f a ≡ true
+  header-there h l =
+      let z : a ≡ 0 → ⊥ = λ e. omega arith in
+      rw (ne-eqb _ _ z, le-leb _ _ l)
+
+module _ (id f : List ℕ) where
+  same-block : (a n m : ℕ) → m ≡ n - 24 → 24 ≤ n → n ≡ 24 + m
+  same-block a n m e h = omega arith
+
+  pub block-stands : (a : ℕ) (b : Block) → blockAt id f a ≡ answer b → (b .address ≡ a) × BlockStands id f b
+  unfolding blockAt
+  block-stands a b h =
+      let p = held 11 0 _ b (hasHeader f a) h in
+      let q = held 12 0 _ b (idAt f a id) (p .1) in
+      let r = held 12 0 _ b (eqb (u64At f (a + 16)) 0) (q .1) in
+      let s = passed 12 0 _ b (ltb (u64At f (a + 8)) 24) (r .1) in
+      let t = passed 12 0 _ b (ltb (length f) (a + u64At f (a + 8))) (s .1) in
+      let at : b .address ≡ a = cc in
+      let size : b .size ≡ u64At f (a + 8) - 24 = cc in
+      let there = has-header f a (p .0) in
+      let long : 24 ≤ u64At f (a + 8) = ltb-false _ _ (s .0) in
+      let ends : a + u64At f (a + 8) ≤ length f = ltb-false _ _ (t .0) in (
+        at,
+        record {
+          somewhere = omega (arith, there .0);
+          inside = omega arith;
+          named = rw at (q .0);
+          links = rw at (eqb-true _ _ (r .0));
+          blockLength = rw at (same-block a (u64At f (a + 8)) (b .size) size long);
+        },
+      )
+
+  pub block-taken : (b : Block) → BlockStands id f b → blockAt id f (b .address) ≡ answer b
+  unfolding blockAt
+  block-taken b h =
+      let in-file = h .inside in
+      let l : u64At f (b .address + 8) ≡ 24 + b .size = h .blockLength in
+      let there : hasHeader f (b .address) ≡ true = header-there f (b .address) (h .somewhere) (omega arith) in
+      let long : 24 ≤ 24 + b .size = omega arith in
+      let ends : b .address + (24 + b .size) ≤ length f = omega arith in
+      let less : 24 + b .size - 24 ≡ b .size = omega arith in
+      rw (there, h .named, eq-eqb _ _ (h .links), l, le-ltb _ _ long, le-ltb _ _ ends, less)
+
+  module _ (s : List ℕ) (d : DataList) (i p : ℕ) where
+    pub fragment-stands : (b : Block) → fragmentOf id f s d i p ≡ answer b
+        → (u64At s (d .linksAt + i * 8) ≡ b .address) × BlockStands id f b × (declared s d i p (b .size) ≡ true) × (p + b .size ≤ 9223372036854775807)
+    unfolding fragmentOf
+    fragment-stands b h =
+        let g = gone-on (blockAt id f (u64At s (d .linksAt + i * 8))) (judged s d i p) b h in
+        let k = block-stands (u64At s (d .linksAt + i * 8)) (g .0) (g .1) in
+        let m = passed 14 0 _ b (ltb 9223372036854775807 (p + g .0 .size)) (g .2) in
+        let t = held 13 0 _ b (declared s d i p (g .0 .size)) (m .1) in
+        let same : g .0 ≡ b = cc in
+        (rw (sym same) (sym (k .0)), rw (sym same) (k .1), rw (sym same) (t .0), rw (sym same) (ltb-false _ _ (m .0)))
+
+    pub fragment-taken : (b : Block) → u64At s (d .linksAt + i * 8) ≡ b .address → BlockStands id f b → declared s d i p (b .size) ≡ true
+        → p + b .size ≤ 9223372036854775807 → fragmentOf id f s d i p ≡ answer b
+    unfolding fragmentOf
+    fragment-taken b e h t l = rw (e, block-taken b h, le-ltb _ _ l, t)
+
+module _ (f : List ℕ) (n a : ℕ) where
+  pub list-there : (d : DataList) → listAt f n a ≡ answer d
+      → (0 < a) × (a + 24 ≤ length f) × (listOf (drop a f) ≡ answer d) × (d .count ≡ d .links) × (d .restAt + d .rest * 8 ≤ d .header .blockLength) × (n + d .links ≤ 4096)
+  unfolding listAt
+  list-there d h =
+      let p = held 11 0 _ d (hasHeader f a) h in
+      let there = has-header f a (p .0) in
+      let g = gone-on (listOf (drop a f)) (admitted n) d (p .1) in
+      let q = held 10 0 _ d (agrees (g .0)) (g .2) in
+      let r = passed 9 0 _ d (ltb 4096 (n + g .0 .links)) (q .1) in
+      let same : g .0 ≡ d = cc in
+      let t = both _ _ (q .0) in
+      (there .0, there .1, g .1 ∙ ap answer same, rw (sym same) (eqb-true _ _ (t .0)), rw (sym same) (leb-true _ _ (t .1)), rw (sym same) (ltb-false _ _ (r .0)))
+
+  pub list-taken : (d : DataList) → 0 < a → a + 24 ≤ length f → listOf (drop a f) ≡ answer d → d .count ≡ d .links
+      → d .restAt + d .rest * 8 ≤ d .header .blockLength → n + d .links ≤ 4096 → listAt f n a ≡ answer d
+  unfolding listAt
+  list-taken d h l e c b m = rw (header-there f a h l, e, eq-eqb _ _ c, le-leb _ _ b, le-ltb _ _ m)
