@@ -1,5 +1,6 @@
 -- The two ways through a test of a size, and when a meaning is one-to-one.
-use mathlib.Core.Path.{_≡_, sym, ap, _∙_}
+use mathlib.Core.Path.{_≡_, refl, sym, ap, _∙_}
+use mathlib.Core.Bool.{Bool, true, false, _&&_}
 use mathlib.Core.List.{List, _++_}
 use Prim.Native.Nat.{ℕ, _≤_, _<_}
 use native.Mathlib.Omega.{arith}
@@ -35,6 +36,11 @@ module _ {A : Type 0} (out bytes : List ℕ) (a : A) where
   writing-met left h e =
       let all : left ≡ bytes ++ drop (length bytes) out = e ∙ sets-front out bytes h in
       rw (le-ltb _ _ h, all)
+
+-- a conjunction's parts
+pub both : (p q : Bool) → p && q ≡ true → (p ≡ true) × (q ≡ true)
+both true q h = (refl, h)
+both false q h = (h, cc)
 
 -- what has a way back is one-to-one
 pub one-by : {A B : Type 0} (f : A → B) (g : B → A) → ((a : A) → g (f a) ≡ a) → (a b : A) → f a ≡ f b → a ≡ b

@@ -199,7 +199,8 @@ pub record TextWritten : Type 0 where
   pub count : ℕ
   pub damaged : Bool
 
+unfoldable pub writtenText : List ℕ → Text → Outcome TextWritten
+writtenText out t = writing out (t .bytes) (record { count = length (t .bytes); damaged = t .damaged })
+
 unfoldable pub textWritten : List ℕ → Encoding → List ℕ → Outcome TextWritten
-textWritten out e s =
-    let t : Text = textOf e s in
-    writing out (t .bytes) (record { count = length (t .bytes); damaged = t .damaged })
+textWritten out e s = writtenText out (textOf e s)

@@ -12,7 +12,8 @@ use Rattle.definitions.specs.Bytes.{u64At, idAt}
 use Rattle.definitions.specs.DataList.{DataList, listOf}
 use Rattle.definitions.specs.Chain.{Block, hasHeader, blockAt, judged, declared, fragmentOf, agrees, admitted, listAt}
 use Rattle.definitions.specs.Accepted.{BlockStands}
-use Rattle.theorems.proofs.Tested.{passed, held, gone-on, both}
+use Rattle.definitions.proofs.Replies.{both}
+use Rattle.theorems.proofs.Tested.{passed, held, gone-on}
 
 module _ (f : List ℕ) (a : ℕ) where
   not-zero : (a ≡ 0 → ⊥) → 0 < a

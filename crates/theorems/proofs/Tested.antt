@@ -1,6 +1,6 @@
 -- What an answer behind a test tells of the test.
 use mathlib.Core.Path.{_≡_, refl}
-use mathlib.Core.Bool.{Bool, true, false, not, _&&_}
+use mathlib.Core.Bool.{Bool, true, false, not}
 use Prim.Native.Nat.{ℕ}
 use Rattle.definitions.specs.Reply.{Reply, answer, refusal, if_then_else_, andThen}
 use Rattle.blocks.proofs.Headers.{apart}
@@ -20,7 +20,3 @@ module _ {A : Type 0} (n t : ℕ) (r : Reply A) (a : A) where
 pub gone-on : {A B : Type 0} (r : Reply A) (f : A → Reply B) (b : B) → andThen r f ≡ answer b → (a : A) × (r ≡ answer a) × (f a ≡ answer b)
 gone-on (answer a) f b h = (a, refl, h)
 gone-on (refusal n t) f b h = apart b n t h
-
-pub both : (p q : Bool) → p && q ≡ true → (p ≡ true) × (q ≡ true)
-both true q h = (refl, h)
-both false q h = (h, cc)

@@ -10,12 +10,9 @@ use lib.Seq.{ext-getD}
 use lib.Dec.{eqb}
 use borrow.Author.Tests.{eq-eqb, ne-eqb, eqb-true}
 use Rattle.definitions.specs.Bytes.{leOf, span, u32At, idAt}
+use Rattle.definitions.proofs.Replies.{both}
 use Rattle.words.proofs.Numbers.{Bytes, one-number}
 use Rattle.words.proofs.Spans.{bytes-span, length-span, getD-span}
-
-both : (a b : Bool) → a && b ≡ true → (a ≡ true) × (b ≡ true)
-both true b h = (refl, h)
-both false b h = (h, cc)
 
 -- a test that holds just where the numbers are equal
 eqb-is : (x y : ℕ) (t : Bool) → (t ≡ true → x ≡ y) → (x ≡ y → t ≡ true) → eqb x y ≡ t

@@ -1,0 +1,16 @@
+pub mod Tests
+pub mod Scalars
+pub mod Widths
+pub mod Spelling
+pub mod Decided
+pub mod FirstChar
+pub mod Stopping
+pub mod Copying
+pub mod Walk
+pub mod Result
+pub mod Reading
+pub mod Wellformed
+pub mod Texts
+pub mod Verbatim
+pub mod Behind
+pub mod Back

@@ -1,0 +1,21 @@
+use borrow.Author.Needs.{needs}
+use mathlib.Core.Path.{refl}
+use native.Mathlib.Omega.{arith}
+use Rattle.text.specs.Parts.{broken}
+use Rattle.text.proofs.Result.{written-fits, written-small}
+use Rattle.text.proofs.damaged.write_fixed.Statement.{statement}
+use Rattle.text.proofs.damaged.write_fixed.Tie as tie
+
+returns : tie.Need-returns
+returns c =
+    let t = c .before .before .before .before in
+    let a = t .before .before .before .args in
+    written-fits (a .out .now) _ (broken (a .text .now)) _ refl (t .if1 .taken) (c .before .before .copy .ensures)
+
+returns-2 : tie.Need-returns-2
+returns-2 c =
+    let a = c .before .before .before .args in
+    written-small (a .out .now) (broken (a .text .now)) _ refl (omega arith) (c .if1 .left)
+
+pub write-fixed-spec : {M : Type 1} → statement M
+write-fixed-spec = tie.close (tie.spec (λ c κs. search needs) (λ c. search needs) returns returns-2)

@@ -1,0 +1,17 @@
+// Texts in four encodings, written as UTF-8 into a lent buffer.
+mod answer;
+mod character;
+mod damaged;
+mod decode;
+mod encode;
+mod encoding;
+mod passes;
+mod stop;
+mod utf16;
+mod utf8;
+mod write;
+
+pub use answer::TextWrite;
+pub use encoding::Encoding;
+pub use stop::text_end;
+pub use write::write_text;
