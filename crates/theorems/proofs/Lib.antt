@@ -8,3 +8,5 @@ pub mod ListReadWritten
 pub mod Tested
 pub mod BlocksStand
 pub mod AcceptedChains
+pub mod NoSecondReply
+pub mod NoSecondReplyToC

@@ -1,0 +1,165 @@
+-- No public call has a second reply: each theorem is about the very clause of the call's contract.
+use mathlib.Core.Path.{_≡_, refl, sym, ap, _∙_}
+use Prim.Native.Nat.{ℕ}
+use Rattle.definitions.specs.Reply.{Outcome}
+use Rattle.definitions.specs.Unicode.{TextWritten}
+use Rattle.theorems.specs.Sole.{Settled}
+use Rattle.blocks.proofs.Back.{written-one, header-one, type-one, list-one}
+use Rattle.text.proofs.Back.{text-one}
+use Rattle.refusals.proofs.Refusal.number.Kinds as refusal-number-kinds
+use Rattle.refusals.proofs.Refusal.number.Reads as refusal-number
+use Rattle.refusals.proofs.Refusal.told.Kinds as refusal-told-kinds
+use Rattle.refusals.proofs.Refusal.told.Reads as refusal-told
+use Rattle.doubles.proofs.double_of.Kinds as double-unsigned-kinds
+use Rattle.doubles.proofs.double_of.Reads as double-unsigned
+use Rattle.doubles.proofs.double_of_sign.Kinds as double-by-sign-kinds
+use Rattle.doubles.proofs.double_of_sign.Reads as double-by-sign
+use Rattle.doubles.proofs.double_of_signed.Kinds as double-signed-kinds
+use Rattle.doubles.proofs.double_of_signed.Reads as double-signed
+use Rattle.doubles.proofs.widen.Kinds as double-widened-kinds
+use Rattle.doubles.proofs.widen.Reads as double-widened
+use Rattle.doubles.proofs.value_of.Kinds as double-value-kinds
+use Rattle.doubles.proofs.value_of.Reads as double-value
+use Rattle.blocks.proofs.header.BlockHeader.from_bytes.Kinds as header-read-kinds
+use Rattle.blocks.proofs.header.BlockHeader.from_bytes.Reads as header-read
+use Rattle.blocks.proofs.header.BlockHeader.to_bytes.Kinds as header-write-kinds
+use Rattle.blocks.proofs.header.BlockHeader.to_bytes.Reads as header-write
+use Rattle.blocks.proofs.data_type.DataType.from_u8.Kinds as type-read-kinds
+use Rattle.blocks.proofs.data_type.DataType.from_u8.Reads as type-read
+use Rattle.blocks.proofs.data_type.DataType.to_u8.Kinds as type-code-kinds
+use Rattle.blocks.proofs.data_type.DataType.to_u8.Reads as type-code
+use Rattle.blocks.proofs.data_type.DataType.default_bits.Kinds as type-bits-kinds
+use Rattle.blocks.proofs.data_type.DataType.default_bits.Reads as type-bits
+use Rattle.blocks.proofs.data_list.DataListBlock.from_bytes.Kinds as list-read-kinds
+use Rattle.blocks.proofs.data_list.DataListBlock.from_bytes.Reads as list-read
+use Rattle.blocks.proofs.data_list.DataListBlock.write_equal.Kinds as list-equal-kinds
+use Rattle.blocks.proofs.data_list.DataListBlock.write_equal.Reads as list-equal
+use Rattle.blocks.proofs.data_list.DataListBlock.write_variable.Kinds as list-variable-kinds
+use Rattle.blocks.proofs.data_list.DataListBlock.write_variable.Reads as list-variable
+use Rattle.text.proofs.text_end.Kinds as text-end-kinds
+use Rattle.text.proofs.text_end.Reads as text-end
+use Rattle.text.proofs.write_text.Kinds as text-write-kinds
+use Rattle.text.proofs.write_text.Reads as text-write
+
+pub refusal-number-settled : Settled 0 refusal-number-kinds.ps refusal-number-kinds.r refusal-number.Asked refusal-number.ensures refusal-number.Learnt
+refusal-number-settled = record {
+  free = λ κs a. tt;
+  says = λ κs a y e w. refl;
+  sole = λ κs a y z b c p q. (p ∙ sym q, refl);
+}
+
+pub refusal-told-settled : Settled 0 refusal-told-kinds.ps refusal-told-kinds.r refusal-told.Asked refusal-told.ensures refusal-told.Learnt
+refusal-told-settled = record {
+  free = λ κs a. tt;
+  says = λ κs a y e w. refl;
+  sole = λ κs a y z b c p q. (p ∙ sym q, refl);
+}
+
+pub double-unsigned-settled : Settled 0 double-unsigned-kinds.ps double-unsigned-kinds.r double-unsigned.Asked double-unsigned.ensures double-unsigned.Learnt
+double-unsigned-settled = record {
+  free = λ κs a. tt;
+  says = λ κs a y e w. refl;
+  sole = λ κs a y z b c p q. (p ∙ sym q, refl);
+}
+
+pub double-by-sign-settled : Settled 0 double-by-sign-kinds.ps double-by-sign-kinds.r double-by-sign.Asked double-by-sign.ensures double-by-sign.Learnt
+double-by-sign-settled = record {
+  free = λ κs a. tt;
+  says = λ κs a y e w. refl;
+  sole = λ κs a y z b c p q. (p ∙ sym q, refl);
+}
+
+pub double-signed-settled : Settled 0 double-signed-kinds.ps double-signed-kinds.r double-signed.Asked double-signed.ensures double-signed.Learnt
+double-signed-settled = record {
+  free = λ κs a. tt;
+  says = λ κs a y e w. refl;
+  sole = λ κs a y z b c p q. (p ∙ sym q, refl);
+}
+
+pub double-widened-settled : Settled 0 double-widened-kinds.ps double-widened-kinds.r double-widened.Asked double-widened.ensures double-widened.Learnt
+double-widened-settled = record {
+  free = λ κs a. tt;
+  says = λ κs a y e w. refl;
+  sole = λ κs a y z b c p q. (p ∙ sym q, refl);
+}
+
+pub double-value-settled : Settled 0 double-value-kinds.ps double-value-kinds.r double-value.Asked double-value.ensures double-value.Learnt
+double-value-settled = record {
+  free = λ κs a. tt;
+  says = λ κs a y e w. refl;
+  sole = λ κs a y z b c p q. (p ∙ sym q, refl);
+}
+
+pub header-read-settled : Settled 1 header-read-kinds.ps header-read-kinds.r header-read.Asked header-read.ensures header-read.Learnt
+header-read-settled = record {
+  free = λ κs a. tt;
+  says = λ κs a y e w. refl;
+  sole = λ κs a y z b c p q. (header-one y z (p ∙ sym q), refl);
+}
+
+pub header-write-settled : Settled 1 header-write-kinds.ps header-write-kinds.r header-write.Asked header-write.ensures header-write.Learnt
+header-write-settled = record {
+  free = λ κs a. tt;
+  says = λ κs a y e w. refl;
+  sole = λ κs a y z b c p q.
+      (written-one y z (ap (λ (o : Outcome ℕ). o .reply) (p ∙ sym q)), ap (λ (o : Outcome ℕ). (tt, (o .buffer, tt))) (p ∙ sym q));
+}
+
+pub type-read-settled : Settled 0 type-read-kinds.ps type-read-kinds.r type-read.Asked type-read.ensures type-read.Learnt
+type-read-settled = record {
+  free = λ κs a. tt;
+  says = λ κs a y e w. refl;
+  sole = λ κs a y z b c p q. (type-one y z (p ∙ sym q), refl);
+}
+
+pub type-code-settled : Settled 0 type-code-kinds.ps type-code-kinds.r type-code.Asked type-code.ensures type-code.Learnt
+type-code-settled = record {
+  free = λ κs a. tt;
+  says = λ κs a y e w. refl;
+  sole = λ κs a y z b c p q. (p ∙ sym q, refl);
+}
+
+pub type-bits-settled : Settled 0 type-bits-kinds.ps type-bits-kinds.r type-bits.Asked type-bits.ensures type-bits.Learnt
+type-bits-settled = record {
+  free = λ κs a. tt;
+  says = λ κs a y e w. refl;
+  sole = λ κs a y z b c p q. (p ∙ sym q, refl);
+}
+
+pub list-read-settled : Settled 1 list-read-kinds.ps list-read-kinds.r list-read.Asked list-read.ensures list-read.Learnt
+list-read-settled = record {
+  free = λ κs a. tt;
+  says = λ κs a y e w. refl;
+  sole = λ κs a y z b c p q. (list-one y z (p ∙ sym q), refl);
+}
+
+pub list-equal-settled : Settled 2 list-equal-kinds.ps list-equal-kinds.r list-equal.Asked list-equal.ensures list-equal.Learnt
+list-equal-settled = record {
+  free = λ κs a. tt;
+  says = λ κs a y e w. refl;
+  sole = λ κs a y z b c p q.
+      (written-one y z (ap (λ (o : Outcome ℕ). o .reply) (p ∙ sym q)), ap (λ (o : Outcome ℕ). (o .buffer, c .1)) (p ∙ sym q));
+}
+
+pub list-variable-settled : Settled 3 list-variable-kinds.ps list-variable-kinds.r list-variable.Asked list-variable.ensures list-variable.Learnt
+list-variable-settled = record {
+  free = λ κs a. tt;
+  says = λ κs a y e w. refl;
+  sole = λ κs a y z b c p q.
+      (written-one y z (ap (λ (o : Outcome ℕ). o .reply) (p ∙ sym q)), ap (λ (o : Outcome ℕ). (o .buffer, c .1)) (p ∙ sym q));
+}
+
+pub text-end-settled : Settled 1 text-end-kinds.ps text-end-kinds.r text-end.Asked text-end.ensures text-end.Learnt
+text-end-settled = record {
+  free = λ κs a. tt;
+  says = λ κs a y e w. refl;
+  sole = λ κs a y z b c p q. (p ∙ sym q, refl);
+}
+
+pub text-write-settled : Settled 2 text-write-kinds.ps text-write-kinds.r text-write.Asked text-write.ensures text-write.Learnt
+text-write-settled = record {
+  free = λ κs a. tt;
+  says = λ κs a y e w. refl;
+  sole = λ κs a y z b c p q.
+      (text-one y z (ap (λ (o : Outcome TextWritten). o .reply) (p ∙ sym q)), ap (λ (o : Outcome TextWritten). (tt, (tt, (o .buffer, tt)))) (p ∙ sym q));
+}

@@ -1,0 +1,112 @@
+-- No call for C has a second reply: each theorem is about the very clause of the call's contract.
+use mathlib.Core.Path.{_≡_, refl, sym, ap, _∙_}
+use Rattle.theorems.specs.Sole.{Settled}
+use Rattle.mf4.specs.Replies.{Left}
+use Rattle.mf4.specs.declared.written.Mf4Written.{Mf4Written}
+use Rattle.mf4.specs.declared.texts.Mf4Text.{Mf4Text}
+use Rattle.mf4.proofs.mf4_read_header.Kinds as mf4-read-header-kinds
+use Rattle.mf4.proofs.mf4_read_header.Reads as mf4-read-header
+use Rattle.mf4.proofs.mf4_write_header.Kinds as mf4-write-header-kinds
+use Rattle.mf4.proofs.mf4_write_header.Reads as mf4-write-header
+use Rattle.mf4.proofs.mf4_type_code.Kinds as mf4-type-code-kinds
+use Rattle.mf4.proofs.mf4_type_code.Reads as mf4-type-code
+use Rattle.mf4.proofs.mf4_default_bits.Kinds as mf4-default-bits-kinds
+use Rattle.mf4.proofs.mf4_default_bits.Reads as mf4-default-bits
+use Rattle.mf4.proofs.mf4_read_list.Kinds as mf4-read-list-kinds
+use Rattle.mf4.proofs.mf4_read_list.Reads as mf4-read-list
+use Rattle.mf4.proofs.mf4_write_list_equal.Kinds as mf4-write-list-equal-kinds
+use Rattle.mf4.proofs.mf4_write_list_equal.Reads as mf4-write-list-equal
+use Rattle.mf4.proofs.mf4_write_list_variable.Kinds as mf4-write-list-variable-kinds
+use Rattle.mf4.proofs.mf4_write_list_variable.Reads as mf4-write-list-variable
+use Rattle.mf4.proofs.mf4_text_latin1.Kinds as mf4-text-latin1-kinds
+use Rattle.mf4.proofs.mf4_text_latin1.Reads as mf4-text-latin1
+use Rattle.mf4.proofs.mf4_text_utf8.Kinds as mf4-text-utf8-kinds
+use Rattle.mf4.proofs.mf4_text_utf8.Reads as mf4-text-utf8
+use Rattle.mf4.proofs.mf4_text_utf16_le.Kinds as mf4-text-utf16-le-kinds
+use Rattle.mf4.proofs.mf4_text_utf16_le.Reads as mf4-text-utf16-le
+use Rattle.mf4.proofs.mf4_text_utf16_be.Kinds as mf4-text-utf16-be-kinds
+use Rattle.mf4.proofs.mf4_text_utf16_be.Reads as mf4-text-utf16-be
+
+pub mf4-read-header-settled : Settled 1 mf4-read-header-kinds.ps mf4-read-header-kinds.r mf4-read-header.Asked mf4-read-header.ensures mf4-read-header.Learnt
+mf4-read-header-settled = record {
+  free = λ κs a. tt;
+  says = λ κs a y e w. refl;
+  sole = λ κs a y z b c p q. (p ∙ sym q, refl);
+}
+
+pub mf4-write-header-settled : Settled 1 mf4-write-header-kinds.ps mf4-write-header-kinds.r mf4-write-header.Asked mf4-write-header.ensures mf4-write-header.Learnt
+mf4-write-header-settled = record {
+  free = λ κs a. tt;
+  says = λ κs a y e w. refl;
+  sole = λ κs a y z b c p q.
+      (ap (λ (l : Left Mf4Written). l .result) (p ∙ sym q), ap (λ (l : Left Mf4Written). (tt, (l .buffer, tt))) (p ∙ sym q));
+}
+
+pub mf4-type-code-settled : Settled 0 mf4-type-code-kinds.ps mf4-type-code-kinds.r mf4-type-code.Asked mf4-type-code.ensures mf4-type-code.Learnt
+mf4-type-code-settled = record {
+  free = λ κs a. tt;
+  says = λ κs a y e w. refl;
+  sole = λ κs a y z b c p q. (p ∙ sym q, refl);
+}
+
+pub mf4-default-bits-settled : Settled 0 mf4-default-bits-kinds.ps mf4-default-bits-kinds.r mf4-default-bits.Asked mf4-default-bits.ensures mf4-default-bits.Learnt
+mf4-default-bits-settled = record {
+  free = λ κs a. tt;
+  says = λ κs a y e w. refl;
+  sole = λ κs a y z b c p q. (p ∙ sym q, refl);
+}
+
+pub mf4-read-list-settled : Settled 1 mf4-read-list-kinds.ps mf4-read-list-kinds.r mf4-read-list.Asked mf4-read-list.ensures mf4-read-list.Learnt
+mf4-read-list-settled = record {
+  free = λ κs a. tt;
+  says = λ κs a y e w. refl;
+  sole = λ κs a y z b c p q. (p ∙ sym q, refl);
+}
+
+pub mf4-write-list-equal-settled : Settled 2 mf4-write-list-equal-kinds.ps mf4-write-list-equal-kinds.r mf4-write-list-equal.Asked mf4-write-list-equal.ensures mf4-write-list-equal.Learnt
+mf4-write-list-equal-settled = record {
+  free = λ κs a. tt;
+  says = λ κs a y e w. refl;
+  sole = λ κs a y z b c p q.
+      (ap (λ (l : Left Mf4Written). l .result) (p ∙ sym q), ap (λ (l : Left Mf4Written). (l .buffer, c .1)) (p ∙ sym q));
+}
+
+pub mf4-write-list-variable-settled : Settled 3 mf4-write-list-variable-kinds.ps mf4-write-list-variable-kinds.r mf4-write-list-variable.Asked mf4-write-list-variable.ensures mf4-write-list-variable.Learnt
+mf4-write-list-variable-settled = record {
+  free = λ κs a. tt;
+  says = λ κs a y e w. refl;
+  sole = λ κs a y z b c p q.
+      (ap (λ (l : Left Mf4Written). l .result) (p ∙ sym q), ap (λ (l : Left Mf4Written). (l .buffer, c .1)) (p ∙ sym q));
+}
+
+pub mf4-text-latin1-settled : Settled 2 mf4-text-latin1-kinds.ps mf4-text-latin1-kinds.r mf4-text-latin1.Asked mf4-text-latin1.ensures mf4-text-latin1.Learnt
+mf4-text-latin1-settled = record {
+  free = λ κs a. tt;
+  says = λ κs a y e w. refl;
+  sole = λ κs a y z b c p q.
+      (ap (λ (l : Left Mf4Text). l .result) (p ∙ sym q), ap (λ (l : Left Mf4Text). (tt, (l .buffer, tt))) (p ∙ sym q));
+}
+
+pub mf4-text-utf8-settled : Settled 2 mf4-text-utf8-kinds.ps mf4-text-utf8-kinds.r mf4-text-utf8.Asked mf4-text-utf8.ensures mf4-text-utf8.Learnt
+mf4-text-utf8-settled = record {
+  free = λ κs a. tt;
+  says = λ κs a y e w. refl;
+  sole = λ κs a y z b c p q.
+      (ap (λ (l : Left Mf4Text). l .result) (p ∙ sym q), ap (λ (l : Left Mf4Text). (tt, (l .buffer, tt))) (p ∙ sym q));
+}
+
+pub mf4-text-utf16-le-settled : Settled 2 mf4-text-utf16-le-kinds.ps mf4-text-utf16-le-kinds.r mf4-text-utf16-le.Asked mf4-text-utf16-le.ensures mf4-text-utf16-le.Learnt
+mf4-text-utf16-le-settled = record {
+  free = λ κs a. tt;
+  says = λ κs a y e w. refl;
+  sole = λ κs a y z b c p q.
+      (ap (λ (l : Left Mf4Text). l .result) (p ∙ sym q), ap (λ (l : Left Mf4Text). (tt, (l .buffer, tt))) (p ∙ sym q));
+}
+
+pub mf4-text-utf16-be-settled : Settled 2 mf4-text-utf16-be-kinds.ps mf4-text-utf16-be-kinds.r mf4-text-utf16-be.Asked mf4-text-utf16-be.ensures mf4-text-utf16-be.Learnt
+mf4-text-utf16-be-settled = record {
+  free = λ κs a. tt;
+  says = λ κs a y e w. refl;
+  sole = λ κs a y z b c p q.
+      (ap (λ (l : Left Mf4Text). l .result) (p ∙ sym q), ap (λ (l : Left Mf4Text). (tt, (l .buffer, tt))) (p ∙ sym q));
+}
