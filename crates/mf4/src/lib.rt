@@ -1,10 +1,15 @@
 // The calls for C, one thin function each; include/mf4.h says what they take, answer and refuse.
+mod fetches;
 mod header;
 mod list;
 mod texts;
 mod types;
+mod values;
 mod written;
 
+pub use fetches::Mf4Fetched;
+pub use fetches::mf4_read_record;
+pub use fetches::mf4_record_value;
 pub use header::Mf4BlockHeader;
 pub use header::Mf4Header;
 pub use header::mf4_read_header;
@@ -20,4 +25,12 @@ pub use texts::mf4_text_utf16_be;
 pub use texts::mf4_text_utf16_le;
 pub use types::mf4_default_bits;
 pub use types::mf4_type_code;
+pub use values::Mf4Channel;
+pub use values::Mf4Decoded;
+pub use values::Mf4ValidValue;
+pub use values::Mf4Value;
+pub use values::mf4_check_validity;
+pub use values::mf4_decode_double;
+pub use values::mf4_decode_valid_value;
+pub use values::mf4_decode_value;
 pub use written::Mf4Written;

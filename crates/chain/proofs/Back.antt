@@ -1,0 +1,86 @@
+-- The meanings are one-to-one: from its meaning each answer comes back.
+use mathlib.Core.Path.{_≡_, refl, sym, ap, _∙_}
+use mathlib.Core.List.{List}
+use Prim.Native.Nat.{ℕ}
+use Rattle.definitions.specs.Reply.{Reply, Outcome, answer, refusal}
+use Rattle.definitions.specs.Chain.{Block}
+use Rattle.refusals.proofs.Back.{refusalOf, back}
+use Rattle.chain.specs.Meaning.{blockReply, chainReply, recordReply, fetchedBy}
+use Rattle.chain.specs.Walk.{Found, aBlock, aList, theEnd, stepReply}
+use Rattle.chain.specs.declared.block.DataBlock.{DataBlock}
+use Rattle.chain.specs.declared.block.BlockRead.{BlockRead}
+use Rattle.chain.specs.declared.block.BlockRead.the-variants.{Block as ABlock, Refused as NoBlock}
+use Rattle.chain.specs.declared.acceptance.ChainRead.{ChainRead}
+use Rattle.chain.specs.declared.acceptance.ChainRead.the-variants.{Whole, Refused as NoChain}
+use Rattle.chain.specs.declared.record.RecordRead.{RecordRead}
+use Rattle.chain.specs.declared.record.RecordRead.the-variants.{Record, Refused as NoRecord}
+use Rattle.chain.specs.declared.step.Step.{Step}
+use Rattle.chain.specs.declared.step.Step.the-variants.{Data, Moved, End, Refused as NoStep}
+
+-- what comes back from its meaning is told apart by it
+one : {A B : Type 0} (mean : A → B) (again : B → A) → ((a : A) → again (mean a) ≡ a) → (a b : A) → mean a ≡ mean b → a ≡ b
+one mean again inverse a b e = sym (inverse a) ∙ ap again e ∙ inverse b
+
+-- ---- a data block
+
+abbrev pub blockMeaning : Block → DataBlock
+blockMeaning b = record { address = record { 0 = b .address }; size = b .size }
+
+abbrev pub blockAgain : Reply Block → BlockRead
+blockAgain (answer b) = ABlock (blockMeaning b)
+blockAgain (refusal n t) = NoBlock (refusalOf n t)
+
+pub block-back : (r : BlockRead) → blockAgain (blockReply r) ≡ r
+block-back (ABlock b) = refl
+block-back (NoBlock r) = ap NoBlock (back r)
+
+pub block-one : (a b : BlockRead) → blockReply a ≡ blockReply b → a ≡ b
+block-one = one blockReply blockAgain block-back
+
+-- ---- a step
+
+abbrev pub stepAgain : Reply Found → Step
+stepAgain (answer (aBlock b p)) = Data (blockMeaning b) p
+stepAgain (answer (aList p)) = Moved p
+stepAgain (answer (theEnd n)) = End (record { 0 = n })
+stepAgain (refusal n t) = NoStep (refusalOf n t)
+
+pub step-back : (r : Step) → stepAgain (stepReply r) ≡ r
+step-back (Data b p) = refl
+step-back (Moved p) = refl
+step-back (End q) = refl
+step-back (NoStep r) = ap NoStep (back r)
+
+pub step-one : (a b : Step) → stepReply a ≡ stepReply b → a ≡ b
+step-one = one stepReply stepAgain step-back
+
+-- ---- the chain
+
+abbrev pub chainAgain : Reply ℕ → ChainRead
+chainAgain (answer n) = Whole (record { 0 = n })
+chainAgain (refusal n t) = NoChain (refusalOf n t)
+
+pub chain-back : (r : ChainRead) → chainAgain (chainReply r) ≡ r
+chain-back (Whole q) = refl
+chain-back (NoChain r) = ap NoChain (back r)
+
+pub chain-one : (a b : ChainRead) → chainReply a ≡ chainReply b → a ≡ b
+chain-one = one chainReply chainAgain chain-back
+
+-- ---- a record
+
+abbrev pub recordAgain : Reply (Unit {0}) → RecordRead
+recordAgain (answer u) = Record
+recordAgain (refusal n t) = NoRecord (refusalOf n t)
+
+pub record-back : (r : RecordRead) → recordAgain (recordReply r) ≡ r
+record-back Record = refl
+record-back (NoRecord r) = ap NoRecord (back r)
+
+pub record-one : (a b : RecordRead) → recordReply a ≡ recordReply b → a ≡ b
+record-one = one recordReply recordAgain record-back
+
+-- a reply with the buffer that it leaves
+pub fetched-one : (a b : RecordRead) (x y : List ℕ) → fetchedBy a x ≡ fetchedBy b y → (a ≡ b) × (x ≡ y)
+fetched-one a b x y e =
+    (record-one a b (ap (λ (o : Outcome (Unit {0})). o .reply) e), ap (λ (o : Outcome (Unit {0})). o .buffer) e)

@@ -1,0 +1,92 @@
+-- What is known of the blocks of an accepted chain.
+use mathlib.Core.Path.{_≡_, refl, subst}
+use mathlib.Core.Bool.{Bool, true, false}
+use mathlib.Core.List.{List, [], _∷_, _++_, append-assoc, append-nil}
+use Prim.Native.Nat.{ℕ, zero, suc, _+_, _-_, _≤_, _<_}
+use native.Mathlib.Omega.{arith}
+use lib.ListN.{length, drop, length-append}
+use lib.Dec.{eqb}
+use Rattle.definitions.specs.Reply.{Reply, answer, if_then_else_}
+use Rattle.definitions.specs.DataList.{DataList}
+use Rattle.definitions.specs.Chain.{Block, dataOf, joined, total, fragmentOf, fragments, listAt, lists, chainOf}
+use Rattle.blocks.proofs.Headers.{apart}
+use Rattle.words.proofs.Spans.{length-span}
+use Rattle.chain.proofs.Answers.{followed, answered}
+use Rattle.chain.proofs.Lists.{list-stands}
+use Rattle.chain.proofs.Fragments.{Taken, fragment-stands}
+
+-- each block lies in the file, with its header
+unfoldable pub Inside : List ℕ → List Block → Type 0
+Inside f [] = Unit {0}
+Inside f (b ∷ bs) = (b .address + 24 + b .size ≤ length f) × Inside f bs
+
+pub record Stand (f : List ℕ) (bs : List Block) : Type 0 where
+  pub inside : Inside f bs
+  pub few : length bs ≤ 4096
+  pub bounded : total bs ≤ 9223372036854775807
+
+-- ---- one block more
+
+module _ (f : List ℕ) (b : Block) where
+  pub joined-more : (bs : List Block) → joined f (bs ++ (b ∷ [])) ≡ joined f bs ++ dataOf f b
+  unfolding joined
+  joined-more [] = append-nil (dataOf f b)
+  joined-more (c ∷ cs) = rw (joined-more cs, append-assoc)
+
+  pub total-more : (bs : List Block) → total (bs ++ (b ∷ [])) ≡ total bs + b .size
+  unfolding total
+  total-more [] = omega arith
+  total-more (c ∷ cs) = omega (arith, total-more cs)
+
+  inside-more : (bs : List Block) → Inside f bs → b .address + 24 + b .size ≤ length f → Inside f (bs ++ (b ∷ []))
+  unfolding Inside
+  inside-more [] h r = (r, tt)
+  inside-more (c ∷ cs) h r = (h .0, inside-more cs (h .1) r)
+
+  pub stand-more : (bs : List Block) → Stand f bs → length bs < 4096 → Taken f (total bs) b → Stand f (bs ++ (b ∷ []))
+  stand-more bs h l t = record {
+    inside = inside-more bs (h .inside) (t .inside);
+    few = omega (arith, length-append bs (b ∷ []));
+    bounded = omega (arith, total-more bs, t .bounded);
+  }
+
+-- the joined data is as long as the blocks say
+pub joined-length : (f : List ℕ) (bs : List Block) → Inside f bs → length (joined f bs) ≡ total bs
+unfolding joined total Inside
+joined-length f [] h = refl
+joined-length f (b ∷ bs) h =
+    omega (arith, length-append (dataOf f b) (joined f bs), length-span f (b .address + 24) (b .size) (h .0), joined-length f bs (h .1))
+
+-- ---- all of them
+
+module _ (id f : List ℕ) where
+  fragments-stand : (s : List ℕ) (d : DataList) (n i : ℕ) (before bs : List Block) → Stand f before → length before + n ≤ 4096
+      → fragments id f s d i n before ≡ answer bs → Stand f bs
+  unfolding fragments
+  fragments-stand s d zero i before bs h l e = subst (Stand f) (answered e) h
+  fragments-stand s d (suc n) i before bs h l e =
+      let read = followed (fragmentOf id f s d i (total before)) (λ b. fragments id f s d (i + 1) n (before ++ (b ∷ []))) bs e in
+      let b = read .0 in
+      let t = fragment-stands id f s d i (total before) b (read .1) in
+      fragments-stand s d n (i + 1) (before ++ (b ∷ [])) bs
+      (stand-more f b before h (omega arith) t) (omega (arith, length-append before (b ∷ []))) (read .2)
+
+  next-stand : (t : Bool) (r : Reply (List Block)) (cs bs : List Block) → Stand f cs → (r ≡ answer bs → Stand f bs) → (if t then answer cs else r) ≡ answer bs → Stand f bs
+  next-stand true r cs bs h g e = subst (Stand f) (answered e) h
+  next-stand false r cs bs h g e = g e
+
+  lists-stand : (k a : ℕ) (before bs : List Block) → Stand f before → lists id f k a before ≡ answer bs → Stand f bs
+  unfolding lists
+  lists-stand zero a before bs h e = apart bs 8 0 e
+  lists-stand (suc k) a before bs h e =
+      let listed = followed (listAt f (length before) a) _ bs e in
+      let d = listed .0 in
+      let read = followed (fragments id f (drop a f) d 0 (d .links) before) _ bs (listed .2) in
+      let few = list-stands f (length before) a d (listed .1) .1 .few in
+      let cs = fragments-stand (drop a f) d (d .links) 0 before (read .0) h few (read .1) in
+      next-stand (eqb (d .next) 0) (lists id f k (d .next) (read .0)) (read .0) bs cs (lists-stand k (d .next) (read .0) bs cs) (read .2)
+
+  -- the blocks of an accepted chain lie in the file, are not too many, and hold no more data than a chain may
+  pub chain-stands : (start : ℕ) (bs : List Block) → chainOf id f start ≡ answer bs → Stand f bs
+  unfolding chainOf Inside total
+  chain-stands start bs e = lists-stand 256 start [] bs (record { inside = tt; few = omega arith; bounded = omega arith }) e

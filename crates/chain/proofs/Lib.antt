@@ -1,0 +1,12 @@
+-- The laws of a chain. What later readers cite: rest-step and step-tells of Steps, chain-stands and joined-length of
+-- Chains, what a loop keeps in Walks, and the windows of Laying.
+pub mod Answers
+pub mod Blocks
+pub mod Lists
+pub mod Fragments
+pub mod Steps
+pub mod Chains
+pub mod Walks
+pub mod Laying
+pub mod Records
+pub mod Back

@@ -1,0 +1,48 @@
+use borrow.Author.Needs.{needs}
+use Rattle.blocks.specs.Meaning.{listMeant}
+use Rattle.chain.proofs.Fragments.{room-one, room-each, declared-inner, declared-last, declared-each}
+use Rattle.chain.proofs.fragment.truly_declared.Statement.{statement}
+use Rattle.chain.proofs.fragment.truly_declared.Tie as tie
+
+read-u64-le-requires : tie.Need-read-u64-le-requires
+read-u64-le-requires c κs =
+    let b = c .before .before .before in
+    let a = b .args in
+    room-one (a .bytes .now) (listMeant (a .list)) (a .index) (a .position .0) (a .size) (c .if1 .taken) (b .pre)
+
+returns : tie.Need-returns
+returns c =
+    let read = c .before .before in
+    let a = read .before .before .before .before .args in
+    declared-inner (a .bytes .now) (listMeant (a .list)) (a .index) (a .position .0) (a .size) (read .before .if1 .taken) _ (read .read-u64-le .ensures) (c .if2 .taken)
+
+returns-2 : tie.Need-returns-2
+returns-2 c =
+    let read = c .before .before in
+    let a = read .before .before .before .before .args in
+    declared-last (a .bytes .now) (listMeant (a .list)) (a .index) (a .position .0) (a .size) (read .before .if1 .taken) _ (read .read-u64-le .ensures) (c .if2 .left)
+
+read-u64-le-requires-2 : tie.Need-read-u64-le-requires-2
+read-u64-le-requires-2 c κs =
+    let b = c .before .before .before in
+    let a = b .args in
+    room-each (a .bytes .now) (listMeant (a .list)) (a .index) (a .position .0) (a .size) (c .if1 .left) (b .pre)
+
+returns-3 : tie.Need-returns-3
+returns-3 c =
+    let read = c .before in
+    let a = read .before .before .before .before .args in
+    declared-each (a .bytes .now) (listMeant (a .list)) (a .index) (a .position .0) (a .size) (read .before .if1 .left) _ (read .read-u64-le2 .ensures)
+
+pub truly-declared-spec : {M : Type 1} → statement M
+truly-declared-spec =
+    tie.close
+    (tie.spec
+    read-u64-le-requires
+    (λ c. search needs)
+    returns
+    returns-2
+    (λ c. search needs)
+    (λ c. search needs)
+    read-u64-le-requires-2
+    returns-3)

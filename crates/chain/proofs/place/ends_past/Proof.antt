@@ -1,0 +1,13 @@
+use borrow.Author.Needs.{needs}
+use Rattle.chain.proofs.Blocks.{past-short, past-by}
+use Rattle.chain.proofs.place.ends_past.Statement.{statement}
+use Rattle.chain.proofs.place.ends_past.Tie as tie
+
+returns : tie.Need-returns
+returns c = past-short _ _ _ (c .if1 .taken)
+
+returns-2 : tie.Need-returns-2
+returns-2 c = search (past-by, needs)
+
+pub ends-past-spec : {M : Type 1} → statement M
+ends-past-spec = tie.close (tie.spec returns returns-2)

@@ -1,0 +1,57 @@
+-- What each struct and each case of an answer means in the definitions.
+use Prim.Native.Nat.{ℕ}
+use mathlib.Core.List.{List}
+use Rattle.definitions.specs.Reply.{Reply, Outcome, answer, andThen}
+use Rattle.definitions.specs.Chain.{Block, total, chainOf}
+use Rattle.refusals.specs.Meaning.{refused}
+use Rattle.refusals.specs.declared.Refusal.{Refusal}
+use Rattle.refusals.specs.declared.Refusal.the-variants.{BadDataBlock, NoSuchRecord}
+use Rattle.chain.specs.declared.block.DataBlock.{DataBlock}
+use Rattle.chain.specs.declared.block.BlockRead.{BlockRead}
+use Rattle.chain.specs.declared.block.BlockRead.the-variants.{Block as ABlock, Refused as NoBlock}
+use Rattle.chain.specs.declared.acceptance.ChainRead.{ChainRead}
+use Rattle.chain.specs.declared.acceptance.ChainRead.the-variants.{Whole, Refused as NoChain}
+use Rattle.chain.specs.declared.record.RecordRead.{RecordRead}
+use Rattle.chain.specs.declared.record.RecordRead.the-variants.{Record, Refused as NoRecord}
+
+-- ---- a data block
+
+abbrev pub blockMeant : DataBlock → Block
+blockMeant b = record { address = b .address .0; size = b .size }
+
+abbrev pub blockReply : BlockRead → Reply Block
+blockReply (ABlock b) = answer (blockMeant b)
+blockReply (NoBlock r) = refused r
+
+-- what is handed on where there is no block
+abbrev pub blockRefusal : BlockRead → Refusal
+blockRefusal (ABlock b) = BadDataBlock
+blockRefusal (NoBlock r) = r
+
+-- ---- the chain
+
+-- the length of the joined data of a chain that is accepted
+unfoldable pub totalOf : List ℕ → List ℕ → ℕ → Reply ℕ
+totalOf id f start = andThen (chainOf id f start) (λ bs. answer (total bs))
+
+abbrev pub chainReply : ChainRead → Reply ℕ
+chainReply (Whole q) = answer (q .0)
+chainReply (NoChain r) = refused r
+
+abbrev pub chainRefusal : ChainRead → Refusal
+chainRefusal (Whole q) = NoSuchRecord
+chainRefusal (NoChain r) = r
+
+-- ---- a record
+
+abbrev pub recordReply : RecordRead → Reply (Unit {0})
+recordReply Record = answer tt
+recordReply (NoRecord r) = refused r
+
+-- the reply and the buffer that a call leaves
+abbrev pub fetchedBy : RecordRead → List ℕ → Outcome (Unit {0})
+fetchedBy r out = record { reply = recordReply r; buffer = out }
+
+abbrev pub recordRefusal : RecordRead → Refusal
+recordRefusal Record = NoSuchRecord
+recordRefusal (NoRecord r) = r

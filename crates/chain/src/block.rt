@@ -1,0 +1,79 @@
+// A data block: its data follows its header.
+ghost use mathlib.Core.Path.{_≡_};
+ghost use Prim.Native.Nat.{_+_, _≤_};
+ghost use lib.ListN.{length};
+ghost use Rattle.definitions.specs.Chain.{blockAt, dataOf};
+ghost use Rattle.chain.specs.Meaning.{blockMeant, blockReply, blockRefusal};
+use crate::place::FileAddress;
+use crate::place::bytes_from;
+use crate::place::ends_past;
+use crate::place::has_header;
+use blocks::BlockHeader;
+use blocks::HeaderRead;
+use refusals::Refusal;
+use words::id_at;
+
+pub struct DataBlock {
+    pub address: FileAddress,
+    // the bytes of data behind the 24 of the header
+    pub size: u64,
+}
+
+pub enum BlockRead {
+    Block(DataBlock),
+    Refused(Refusal),
+}
+
+impl DataBlock {
+    pub const ID: [u8; 4] = *b"##DT";
+}
+
+// The data block with that id at an address
+pub fn data_block_at(file: &[u8], address: FileAddress, id: &[u8; 4]) -> BlockRead
+    ensures { λ r. ⌜ blockReply r ≡ blockAt (now (id .entry)) (now (file .entry)) (address .0) ⌝ }
+{
+    if !has_header(file, address) {
+        return BlockRead::Refused(Refusal::NoBlockThere);
+    }
+    let read = BlockHeader::from_bytes(bytes_from(file, address));
+    let HeaderRead::Header(header) = read else {
+        return BlockRead::Refused(read.refusal());
+    };
+    if !id_at(file, address.0 as usize, id) {
+        return BlockRead::Refused(Refusal::BadDataBlock);
+    }
+    if header.links_nr != 0 {
+        return BlockRead::Refused(Refusal::BadDataBlock);
+    }
+    if header.block_len < 24 {
+        return BlockRead::Refused(Refusal::BadDataBlock);
+    }
+    if ends_past(address.0, header.block_len, file.len() as u64) {
+        return BlockRead::Refused(Refusal::BadDataBlock);
+    }
+    BlockRead::Block(DataBlock {
+        address,
+        size: header.block_len - 24,
+    })
+}
+
+// The data of a block that lies in the file
+pub fn data_of(file: &[u8], block: DataBlock) -> &[u8]
+    requires { ⌜ block .address .0 + 24 + block .size ≤ length (now file) ⌝ }
+    ensures { λ r. ⌜ now r ≡ dataOf (now (file .entry)) (blockMeant block) ⌝ }
+{
+    let at = block.address.0 as usize + 24;
+    &file[at..at + block.size as usize]
+}
+
+impl BlockRead {
+    // what is handed on where the block was refused
+    pub fn refusal(self) -> Refusal
+        ensures { λ r. ⌜ r ≡ blockRefusal self ⌝ }
+    {
+        match self {
+            BlockRead::Refused(r) => r,
+            _ => Refusal::BadDataBlock,
+        }
+    }
+}

@@ -1,0 +1,84 @@
+// A window on the joined data of a chain that is accepted.
+ghost use mathlib.Core.Path.{_≡_};
+ghost use mathlib.Core.List.{List};
+ghost use Prim.Native.Nat.{_-_, _≤_, min};
+ghost use lib.ListN.{length};
+ghost use Rattle.definitions.specs.Reply.{answer};
+ghost use Rattle.definitions.specs.Chain.{Block, chainOf};
+ghost use Rattle.chain.specs.Window.{over, laid, joinedOf};
+use crate::block::data_of;
+use crate::place::DataPosition;
+use crate::place::FileAddress;
+use crate::place::Place;
+use crate::step::Step;
+use crate::step::advance;
+
+// a less b, and 0 where that is less
+fn less(a: u64, b: u64) -> u64
+    ensures { λ r. ⌜ r ≡ a - b ⌝ }
+{
+    if a < b { 0 } else { a - b }
+}
+
+fn least(a: usize, b: usize) -> usize
+    ensures { λ r. ⌜ r ≡ min a b ⌝ }
+{
+    if a < b { a } else { b }
+}
+
+// The bytes over `out` from `at` on, as far as out goes
+fn copy_over(bytes: &[u8], out: &mut [u8], at: usize)
+    requires { ⌜ at ≤ length (now out) ⌝ }
+    ensures { λ _. ⌜ now (out .exit) ≡ over (now (out .entry)) at (now (bytes .entry)) ⌝ }
+{
+    let n = least(out.len() - at, bytes.len());
+    let mut i = 0;
+    while i < n {
+        out[at + i] = bytes[i];
+        i += 1;
+    }
+}
+
+// What of a fragment's data, which stands at `position`, falls into the window from `from` on
+fn lay(data: &[u8], position: DataPosition, from: DataPosition, out: &mut [u8])
+    ensures { λ _. ⌜ now (out .exit) ≡ laid (now (out .entry)) (from .0) (position .0) (now («data» .entry)) ⌝ }
+{
+    let gap = less(position.0, from.0);
+    let skip = less(from.0, position.0);
+    if (data.len() as u64) < skip {
+        return;
+    }
+    if (out.len() as u64) < gap {
+        return;
+    }
+    let start = skip as usize;
+    copy_over(&data[start..], out, gap as usize);
+}
+
+// The bytes of the joined data from `from` on, as far as `out` goes. Of each fragment only what falls into the window is read.
+pub fn window(file: &[u8], start: FileAddress, id: &[u8; 4], from: DataPosition, out: &mut [u8])
+    requires { ⌜ ((blocks : List Block) × (chainOf (now id) (now file) (start .0) ≡ answer blocks)) ⌝ }
+    ensures { λ _. ⌜ now (out .exit) ≡ laid (now (out .entry)) (from .0) 0 (joinedOf (now (id .entry)) (now (file .entry)) (start .0)) ⌝ }
+{
+    let mut place = Place::start(start);
+    loop {
+        let step = advance(file, place, id);
+        match step {
+            Step::Refused(_) => {
+                return;
+            }
+            Step::End(_) => {
+                return;
+            }
+            Step::Moved(next) => {
+                place = next;
+            }
+            Step::Data(block, next) => {
+                let data = data_of(file, block);
+                let position = place.position;
+                lay(data, position, from, out);
+                place = next;
+            }
+        }
+    }
+}

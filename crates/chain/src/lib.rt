@@ -1,0 +1,23 @@
+// From a chain of data lists to a record of the joined data.
+mod acceptance;
+mod block;
+mod fragment;
+mod joined;
+mod list;
+mod place;
+mod record;
+mod step;
+
+pub use acceptance::ChainRead;
+pub use acceptance::accept;
+pub use block::BlockRead;
+pub use block::DataBlock;
+pub use block::data_of;
+pub use joined::window;
+pub use place::DataPosition;
+pub use place::FileAddress;
+pub use place::Place;
+pub use record::RecordRead;
+pub use record::read_record;
+pub use step::Step;
+pub use step::advance;

@@ -1,0 +1,81 @@
+// A record of the joined data, fetched into a lent buffer.
+ghost use mathlib.Core.Path.{_≡_};
+ghost use Prim.Native.Nat.{_+_, _*_, _<_};
+ghost use lib.Dec.{ltb};
+ghost use Rattle.definitions.specs.Chain.{badSize, fetched};
+ghost use Rattle.chain.specs.Meaning.{fetchedBy, recordRefusal};
+use crate::acceptance::ChainRead;
+use crate::acceptance::accept;
+use crate::block::DataBlock;
+use crate::joined::window;
+use crate::place::DataPosition;
+use crate::place::FileAddress;
+use refusals::Refusal;
+
+pub enum RecordRead {
+    // it stands in the front of the buffer
+    Record,
+    Refused(Refusal),
+}
+
+// Whether records of that size are none, or too long for the buffer's room
+fn bad_size(size: u64, room: u64) -> bool
+    ensures { λ r. ⌜ r ≡ badSize size room ⌝ }
+{
+    if size == 0 {
+        return true;
+    }
+    if 16384 < size {
+        return true;
+    }
+    room < size
+}
+
+// Whether a record ends behind the data. One division, since the product could wrap.
+fn ends_behind(total: u64, number: u64, size: u64) -> bool
+    requires { ⌜ 0 < size ⌝ }
+    ensures { λ r. ⌜ r ≡ ltb total (number * size + size) ⌝ }
+{
+    total / size <= number
+}
+
+// Record `number` of the joined data. The chain is accepted first, so that a refusal leaves the buffer alone.
+pub fn read_record(
+    file: &[u8],
+    start: FileAddress,
+    number: u64,
+    record_size: u64,
+    buffer: &mut [u8],
+) -> RecordRead
+    ensures { λ r. ⌜ fetchedBy r (now (buffer .exit)) ≡ fetched (now (file .entry)) (start .0) number «record_size» (now (buffer .entry)) ⌝ }
+{
+    if bad_size(record_size, buffer.len() as u64) {
+        return RecordRead::Refused(Refusal::BadRecordSize);
+    }
+    if 1099511627776 < file.len() {
+        return RecordRead::Refused(Refusal::FileTooLong);
+    }
+    let chain = accept(file, start, &DataBlock::ID);
+    let ChainRead::Whole(total) = chain else {
+        return RecordRead::Refused(chain.refusal());
+    };
+    if ends_behind(total.0, number, record_size) {
+        return RecordRead::Refused(Refusal::NoSuchRecord);
+    }
+    let from = DataPosition(number * record_size);
+    let size = record_size as usize;
+    window(file, start, &DataBlock::ID, from, &mut buffer[..size]);
+    RecordRead::Record
+}
+
+impl RecordRead {
+    // what is handed on where the record was refused
+    pub fn refusal(self) -> Refusal
+        ensures { λ r. ⌜ r ≡ recordRefusal self ⌝ }
+    {
+        match self {
+            RecordRead::Refused(r) => r,
+            _ => Refusal::NoSuchRecord,
+        }
+    }
+}

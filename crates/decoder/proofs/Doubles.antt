@@ -1,0 +1,77 @@
+-- A value as a double, by the field that was found.
+use mathlib.Core.Path.{_≡_, refl, sym, ap, _∙_, subst}
+use mathlib.Core.Bool.{Bool, true, false, not}
+use mathlib.Core.List.{List}
+use Prim.Native.Nat.{ℕ}
+use lib.Dec.{T}
+use lib.IntN.{ℤ}
+use lib.Ieee.{binary64, isNan, ofInt}
+use lib.Ieee.Bits.{ofBits-toBits}
+use lib.Ieee.Fits.{ofInt-fits}
+use borrow.Author.Tests.{eq-eqb, ne-eqb}
+use Rattle.definitions.specs.Reply.{Reply, answer}
+use Rattle.definitions.specs.Ieee754.{nanPattern, widened}
+use Rattle.definitions.specs.DataType.{Kind, kindOf}
+use Rattle.definitions.specs.Channel.{Channel, Value, variableLength, startOf, spanOf, decoded, numberIn, valueOf, doubleIn, floatBits, recordDouble}
+use Rattle.doubles.proofs.Nan.{integer-never-nan}
+use Rattle.refusals.specs.declared.Refusal.{Refusal}
+use Rattle.decoder.specs.Form.{orderMeant, formOf, numberKind, numberDouble, formValue}
+use Rattle.decoder.specs.Found.{doubleAt, Told, Found}
+use Rattle.decoder.specs.declared.form.Number as numbers
+use Rattle.decoder.specs.declared.form.Content.{Content}
+use Rattle.decoder.specs.declared.form.Form.{Form}
+use Rattle.decoder.specs.declared.form.Form.the-variants.{Number, Other}
+use Rattle.decoder.specs.declared.field.FieldFound.{FieldFound}
+use Rattle.decoder.specs.declared.field.FieldFound.the-variants.{Field, Refused}
+use Rattle.decoder.proofs.Forms.{value-form, number-double, content-double}
+use Rattle.decoder.proofs.Fields.{either-way}
+use Rattle.decoder.proofs.Values.{refused-as, looked-for}
+
+-- an integer's double is a number
+pub no-nan : (z : ℤ) → T (not (isNan (ofInt binary64 z)))
+no-nan z =
+    let e : isNan (ofInt binary64 z) ≡ false = ap isNan (sym (ofBits-toBits binary64 (ofInt binary64 z) (ofInt-fits binary64 z))) ∙ integer-never-nan z in
+    subst (λ (b : Bool). T (not b)) (sym e) tt
+
+pub wide-float : (count x : ℕ) → count ≡ 64 → x ≡ floatBits count x
+wide-float count x e = rw (eq-eqb count 64 e)
+
+pub narrow-float : (count x : ℕ) {r : ℕ} → (count ≡ 64 → ⊥) → r ≡ widened x → r ≡ floatBits count x
+narrow-float count x other e = rw (ne-eqb count 64 other) e
+
+module _ {k : Kind} {reply : Reply Value} {s : List ℕ} {c : Channel} {found : FieldFound} (h : Found k reply s c found) where
+  pub double-refused : {r : Refusal} → found ≡ Refused r → nanPattern ≡ doubleIn reply
+  double-refused e = sym (ap doubleIn (refused-as h e))
+
+  pub double-found : {at n x r : ℕ} {number : numbers.Number} {big : Bool} → found ≡ Field at n → formOf (c .dataType) ≡ Number number big
+      → x ≡ numberIn (orderMeant big) s at c → r ≡ numberDouble number (c .bitCount) x → r ≡ doubleIn reply
+  double-found {at} {n} {x} {r} {number} {big} e ef ex er =
+      er ∙ ap (numberDouble number (c .bitCount)) ex ∙ sym (number-double number (c .bitCount) (numberIn (orderMeant big) s at c))
+      ∙ ap (λ (f : Form). doubleIn (answer (formValue f s at n c))) (sym ef) ∙ ap (λ (v : Value). doubleIn (answer v)) (value-form (c .dataType) s at n c)
+      ∙ sym (ap doubleIn (subst (Told k reply s c) e (h .told) .value))
+
+module _ (s : List ℕ) (idSize : ℕ) (c : Channel) where
+  pub double-payload : variableLength c ≡ true → nanPattern ≡ recordDouble s idSize c
+  unfolding recordDouble
+  double-payload p = rw p
+
+  pub double-fixed : variableLength c ≡ false → doubleIn (valueOf s idSize c) ≡ recordDouble s idSize c
+  unfolding recordDouble
+  double-fixed p = rw p
+
+  content-nan : (at n : ℕ) {content : Content} → formOf (c .dataType) ≡ Other content → nanPattern ≡ doubleIn (answer (decoded (c .dataType) s at n c))
+  content-nan at n {content} e =
+      sym (content-double content s at n) ∙ ap (λ (f : Form). doubleIn (answer (formValue f s at n c))) (sym e)
+      ∙ ap (λ (v : Value). doubleIn (answer v)) (value-form (c .dataType) s at n c)
+
+  pub double-other : {content : Content} → variableLength c ≡ false → formOf (c .dataType) ≡ Other content → nanPattern ≡ recordDouble s idSize c
+  unfolding valueOf
+  double-other p e =
+      either-way (kindOf (c .dataType)) (startOf idSize c) (spanOf s c) s c (λ (r : Reply Value). nanPattern ≡ doubleIn r) refl
+      (content-nan (startOf idSize c) (spanOf s c) e)
+      ∙ double-fixed p
+
+  pub double-number : {number : numbers.Number} {big : Bool} {r : ℕ} → variableLength c ≡ false → formOf (c .dataType) ≡ Number number big
+      → r ≡ doubleAt (numberKind number) s idSize c → r ≡ recordDouble s idSize c
+  double-number {number} {big} p e er =
+      er ∙ ap doubleIn (looked-for s idSize c {form = Number number big} {payload = false} (sym e) (sym p) refl refl) ∙ double-fixed p

@@ -1,0 +1,13 @@
+-- The laws over plain variables. Locality, Nearest and OneBit are for the crates above.
+pub mod Meanings
+pub mod Tests
+pub mod Forms
+pub mod Fields
+pub mod SmallSigned
+pub mod Values
+pub mod Doubles
+pub mod Invalidation
+pub mod Types
+pub mod Locality
+pub mod Nearest
+pub mod OneBit

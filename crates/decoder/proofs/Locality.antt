@@ -1,0 +1,102 @@
+-- The value and the double of a number are determined by the bits of its field.
+use mathlib.Core.Path.{_≡_, refl, sym, ap, ap₂, _∙_}
+use mathlib.Core.Bool.{Bool, true, false, not, _&&_, _||_, true≢false}
+use mathlib.Core.List.{List}
+use Prim.Native.Nat.{ℕ, _+_, _≤_, _<_}
+use native.Mathlib.Omega.{arith}
+use lib.ListN.{length}
+use lib.Dec.{ltb, eqb}
+use borrow.Author.Tests.{ltb-false}
+use Rattle.definitions.specs.Reply.{answer, if_then_else_}
+use Rattle.definitions.specs.Bytes.{Order, little, bytesFor}
+use Rattle.definitions.specs.DataType.{DataType, unsignedInteger, signedInteger, float, complex, string, byteArray, mimeSample, mimeStream, canOpenDate, canOpenTime, unknown, Kind, integer, floating, whole, undecoded, kindOf}
+use Rattle.definitions.specs.Channel.{Channel, Value, unsigned, signed, variableLength, bitSpan, spanIn, doubleValue, floatBits, numberIn, decoded, isInteger, isFloating, isNumber, noValue, valueBy, valueOf, doubleIn, recordDouble}
+use Rattle.definitions.specs.Bytes.{twosComplement}
+use Rattle.words.proofs.Numbers.{Bytes}
+use Rattle.words.proofs.Locality as words
+use Rattle.decoder.proofs.Types.{number-types}
+use Rattle.decoder.proofs.Doubles.{double-fixed}
+
+-- the byte order of a number
+abbrev pub orderOf : DataType → Order
+orderOf (unsignedInteger o) = o
+orderOf (signedInteger o) = o
+orderOf (float o) = o
+orderOf (complex o) = o
+orderOf (string e) = little
+orderOf byteArray = little
+orderOf mimeSample = little
+orderOf mimeStream = little
+orderOf canOpenDate = little
+orderOf canOpenTime = little
+orderOf unknown = little
+
+-- a number is its field
+by-field : (type : DataType) (s t : List ℕ) (at n : ℕ) (c : Channel) → isNumber (kindOf type) ≡ true
+    → numberIn (orderOf type) s at c ≡ numberIn (orderOf type) t at c → decoded type s at n c ≡ decoded type t at n c
+unfolding decoded
+by-field type s t at n c h =
+    number-types (λ d. numberIn (orderOf d) s at c ≡ numberIn (orderOf d) t at c → decoded d s at n c ≡ decoded d t at n c)
+    (λ o e. ap unsigned e) (λ o e. ap (λ (x : ℕ). signed (twosComplement (c .bitCount) x)) e)
+    (λ o e. ap (λ (x : ℕ). doubleValue (floatBits (c .bitCount) x)) e) type h
+
+number-span : (k : Kind) (payload : Bool) (n : ℕ) (c : Channel) → isNumber k ≡ true → spanIn payload k n c ≡ bitSpan c
+number-span integer payload n c h = refl
+number-span floating payload n c h = refl
+number-span whole payload n c h = absurd (true≢false (sym h))
+number-span undecoded payload n c h = absurd (true≢false (sym h))
+
+module _ (k : Kind) (at n : ℕ) (c : Channel) where
+  -- a value by the length of the slice and what its bytes stand for
+  by-parts : (s t : List ℕ) → length s ≡ length t → decoded (c .dataType) s at n c ≡ decoded (c .dataType) t at n c → valueBy k at n s c ≡ valueBy k at n t c
+  unfolding valueBy
+  by-parts s t el ev =
+      ap₂
+      (λ (l : ℕ) (v : Value). if isNumber k && eqb (c .bitCount) 0 then noValue
+      else if isNumber k && ltb 7 (c .bitOffset) then noValue
+      else if isInteger k && ltb 64 (c .bitCount) then noValue
+      else if ltb l (at + n) then noValue
+      else if isFloating k && not (eqb (c .bitCount) 32 || eqb (c .bitCount) 64) then noValue
+      else answer v) el ev
+
+  -- a field that ends outside has none
+  outside : (s : List ℕ) → ltb (length s) (at + n) ≡ true → valueBy k at n s c ≡ noValue
+  unfolding valueBy
+  outside s e = rw e (go (isNumber k && eqb (c .bitCount) 0) (isNumber k && ltb 7 (c .bitOffset)) (isInteger k && ltb 64 (c .bitCount)))
+    where
+      go : (a b d : Bool) → (if a then noValue {A = Value} else if b then noValue else if d then noValue else noValue) ≡ noValue
+      go true b d = refl
+      go false true d = refl
+      go false false true = refl
+      go false false false = refl
+
+module _ (s t : List ℕ) (idSize : ℕ) (c : Channel) (fixed : variableLength c ≡ false) (number : isNumber (kindOf (c .dataType)) ≡ true) where
+  abbrev at : ℕ
+  at = idSize + c .byteOffset
+
+  value-is : (u : List ℕ) → valueOf u idSize c ≡ valueBy (kindOf (c .dataType)) at (bitSpan c) u c
+  unfolding valueOf
+  value-is u = rw (fixed, number-span (kindOf (c .dataType)) false (length u) c number)
+
+  pub locality : Bytes s → Bytes t → length s ≡ length t
+      → ((k : ℕ) → c .bitOffset ≤ k → k < c .bitOffset + c .bitCount
+      → words.recordBit (orderOf (c .dataType)) s at (bytesFor (c .bitOffset) (c .bitCount)) k
+      ≡ words.recordBit (orderOf (c .dataType)) t at (bytesFor (c .bitOffset) (c .bitCount)) k)
+      → valueOf s idSize c ≡ valueOf t idSize c
+  locality bs bt el same = value-is s ∙ go (ltb (length s) (at + bitSpan c)) refl ∙ sym (value-is t)
+    where
+      go : (b : Bool) → ltb (length s) (at + bitSpan c) ≡ b
+          → valueBy (kindOf (c .dataType)) at (bitSpan c) s c ≡ valueBy (kindOf (c .dataType)) at (bitSpan c) t c
+      go true e = outside (kindOf (c .dataType)) at (bitSpan c) c s e ∙ sym (outside (kindOf (c .dataType)) at (bitSpan c) c t (sym (ap (λ (l : ℕ). ltb l (at + bitSpan c)) el) ∙ e))
+      go false e =
+          let h : at + bitSpan c ≤ length s = ltb-false (length s) (at + bitSpan c) e in
+          by-parts (kindOf (c .dataType)) at (bitSpan c) c s t el
+          (by-field (c .dataType) s t at (bitSpan c) c number
+          (words.locality (orderOf (c .dataType)) s t at (c .bitOffset) (c .bitCount) bs bt (omega arith) (omega arith) same))
+
+  pub double-locality : Bytes s → Bytes t → length s ≡ length t
+      → ((k : ℕ) → c .bitOffset ≤ k → k < c .bitOffset + c .bitCount
+      → words.recordBit (orderOf (c .dataType)) s at (bytesFor (c .bitOffset) (c .bitCount)) k
+      ≡ words.recordBit (orderOf (c .dataType)) t at (bytesFor (c .bitOffset) (c .bitCount)) k)
+      → recordDouble s idSize c ≡ recordDouble t idSize c
+  double-locality bs bt el same = sym (double-fixed s idSize c fixed) ∙ ap doubleIn (locality bs bt el same) ∙ double-fixed t idSize c fixed

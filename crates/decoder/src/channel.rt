@@ -1,0 +1,28 @@
+// What is known of a channel.
+ghost use mathlib.Core.Path.{_≡_};
+ghost use Rattle.definitions.specs.Channel.{variableLength};
+ghost use Rattle.decoder.specs.Meaning.{channelMeant};
+use blocks::DataType;
+
+pub struct Channel {
+    pub data_type: DataType,
+    pub channel_type: u8,
+    pub bit_offset: u8,
+    pub byte_offset: u32,
+    pub bit_count: u32,
+    pub flags: u32,
+    pub pos_invalidation_bit: u32,
+    pub data: u64,
+}
+
+impl Channel {
+    // The slice given is then the payload, and no record.
+    pub fn is_variable_length(self) -> bool
+        ensures { λ r. ⌜ r ≡ variableLength (channelMeant self) ⌝ }
+    {
+        if self.channel_type != 1 {
+            return false;
+        }
+        self.data != 0
+    }
+}

@@ -1,0 +1,71 @@
+// Records through a chain of data lists, and values in them.
+ghost use mathlib.Core.Path.{_≡_};
+ghost use Rattle.definitions.specs.Chain.{fetched, valueFetched};
+ghost use Rattle.chain.specs.Meaning.{recordReply};
+ghost use Rattle.mf4.specs.Replies.{left};
+ghost use Rattle.mf4.specs.Values.{channelGiven, fetchedC, fetchLeft, valueLeft};
+use chain::FileAddress;
+use chain::RecordRead;
+use chain::read_record;
+use crate::values::Mf4Channel;
+use crate::values::Mf4ValidValue;
+use crate::values::channel_of;
+use crate::values::valid_value_reply;
+use records::read_value;
+
+#[repr(C)]
+pub struct Mf4Fetched {
+    pub reply: u32,
+    pub told: u64,
+}
+
+fn fetched_reply(read: RecordRead) -> Mf4Fetched
+    ensures { λ r. ⌜ r ≡ fetchedC (recordReply read) ⌝ }
+{
+    match read {
+        RecordRead::Record => Mf4Fetched { reply: 0, told: 0 },
+        RecordRead::Refused(why) => Mf4Fetched {
+            reply: why.number(),
+            told: why.told(),
+        },
+    }
+}
+
+#[no_mangle]
+pub extern "C" fn mf4_read_record(
+    file: &[u8],
+    start: u64,
+    number: u64,
+    record_size: u64,
+    buffer: &mut [u8],
+) -> Mf4Fetched
+    ensures { λ r. ⌜ left r (now (buffer .exit)) ≡ fetchLeft (fetched (now (file .entry)) start number «record_size» (now (buffer .entry))) ⌝ }
+{
+    fetched_reply(read_record(file, FileAddress(start), number, record_size, buffer))
+}
+
+#[no_mangle]
+pub extern "C" fn mf4_record_value(
+    file: &[u8],
+    start: u64,
+    number: u64,
+    record_size: u64,
+    record_id_size: u64,
+    data_bytes: u32,
+    channel: Mf4Channel,
+    buffer: &mut [u8],
+) -> Mf4ValidValue
+    ensures { λ r. ⌜ left r (now (buffer .exit)) ≡ valueLeft (valueFetched (now (file .entry)) start number «record_size» «record_id_size» «data_bytes» (channelGiven channel) (now (buffer .entry))) ⌝ }
+{
+    let described = channel_of(channel);
+    valid_value_reply(read_value(
+        file,
+        FileAddress(start),
+        number,
+        record_size,
+        record_id_size as usize,
+        data_bytes,
+        described,
+        buffer,
+    ))
+}

@@ -1,0 +1,54 @@
+-- From a record that was fetched, or refused, to its field.
+use mathlib.Core.Path.{_≡_, refl, sym, ap, _∙_}
+use mathlib.Core.Bool.{Bool, true, false, _||_}
+use mathlib.Core.List.{List}
+use Prim.Native.Nat.{ℕ, _+_, _*_, _≤_}
+use native.Mathlib.Omega.{arith}
+use lib.ListN.{length, take}
+use lib.Dec.{ltb, eqb}
+use borrow.Author.Tests.{ltb-false}
+use Rattle.definitions.specs.Reply.{Reply, Outcome, answer, refusal, if_then_else_}
+use Rattle.definitions.specs.Channel.{Channel, ValidValue, validValueOf}
+use Rattle.definitions.specs.Chain.{badSize, fetched, fieldOf, valueFetched}
+use Rattle.refusals.specs.Meaning.{refused}
+use Rattle.refusals.specs.declared.Refusal.{Refusal}
+use Rattle.chain.specs.Meaning.{fetchedBy, recordRefusal}
+use Rattle.chain.specs.declared.record.RecordRead.{RecordRead}
+use Rattle.chain.specs.declared.record.RecordRead.the-variants.{Record, Refused}
+
+last-of : (p q : Bool) → p || q ≡ false → q ≡ false
+last-of true q h = let z : _≡_ {A = ℕ} 0 1 = cc in let no : ⊥ = omega arith in absurd no
+last-of false q h = h
+
+-- a record that was fetched fits into the buffer
+module _ (f : List ℕ) (start k size : ℕ) (out : List ℕ) where
+  by-size : (b : Bool) (o : Outcome (Unit {0})) → badSize size (length out) ≡ b
+      → (if b then record { reply = refusal 15 0; buffer = out } else o) .reply ≡ answer tt → size ≤ length out
+  by-size true o e h = let z : _≡_ {A = ℕ} 0 1 = cc in let no : ⊥ = omega arith in absurd no
+  by-size false o e h = ltb-false (length out) size (last-of (eqb size 0 || ltb 16384 size) (ltb (length out) size) e)
+
+  room : fetched f start k size out .reply ≡ answer tt → size ≤ length out
+  unfolding fetched
+  room h = by-size (badSize size (length out)) _ refl h
+
+  pub fits : {r : RecordRead} {left : List ℕ} → fetchedBy r left ≡ fetched f start k size out → r ≡ Record → size ≤ length out
+  fits {left = left} e is = room (ap (λ (o : Outcome (Unit {0})). o .reply) (sym e ∙ ap (λ (x : RecordRead). fetchedBy x left) is))
+
+  module _ (idSize dataBytes : ℕ) (c : Channel) {r : RecordRead} {left : List ℕ} (e : fetchedBy r left ≡ fetched f start k size out) where
+    -- a refusal of the record is the reply, and the buffer is as the fetch left it
+    pub not-fetched : {x q : Refusal} → r ≡ Refused x → q ≡ recordRefusal r
+        → record { reply = refused q; buffer = left } ≡ valueFetched f start k size idSize dataBytes c out
+    unfolding valueFetched
+    not-fetched is eq =
+        ap (λ (p : Refusal). record { reply = refused p; buffer = left }) (eq ∙ ap recordRefusal is)
+        ∙ ap (λ (x : RecordRead). fieldOf size idSize dataBytes c (fetchedBy x left)) (sym is)
+        ∙ ap (fieldOf size idSize dataBytes c) e
+
+    -- the field is read from the record alone
+    pub fetched-then : {v : Reply ValidValue} → r ≡ Record → v ≡ validValueOf (take size left) idSize dataBytes c
+        → record { reply = v; buffer = left } ≡ valueFetched f start k size idSize dataBytes c out
+    unfolding valueFetched
+    fetched-then is ev =
+        ap (λ (p : Reply ValidValue). record { reply = p; buffer = left }) ev
+        ∙ ap (λ (x : RecordRead). fieldOf size idSize dataBytes c (fetchedBy x left)) (sym is)
+        ∙ ap (fieldOf size idSize dataBytes c) e
