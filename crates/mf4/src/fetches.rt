@@ -4,13 +4,13 @@ ghost use Rattle.definitions.specs.Chain.{fetched, valueFetched};
 ghost use Rattle.chain.specs.Meaning.{recordReply};
 ghost use Rattle.mf4.specs.Replies.{left};
 ghost use Rattle.mf4.specs.Values.{channelGiven, fetchedC, fetchLeft, valueLeft};
-use chain::FileAddress;
-use chain::RecordRead;
-use chain::read_record;
 use crate::values::Mf4Channel;
 use crate::values::Mf4ValidValue;
 use crate::values::channel_of;
 use crate::values::valid_value_reply;
+use chain::FileAddress;
+use chain::RecordRead;
+use chain::read_record;
 use records::read_value;
 
 #[repr(C)]

@@ -5,8 +5,8 @@ ghost use Rattle.decoder.specs.Meaning.{channelMeant, valueMeant, valueReply, v
 ghost use Rattle.refusals.specs.Meaning.{refused};
 ghost use Rattle.mf4.specs.Replies.{flagC};
 ghost use Rattle.mf4.specs.Values.{channelGiven, noValueC, numberC, placeC, decodedC, valueC, validValueC};
-use blocks::DataType;
 use crate::texts::flag;
+use blocks::DataType;
 use decoder::Channel;
 use decoder::DecodedValue;
 use decoder::ValidValueRead;
@@ -164,7 +164,11 @@ pub fn valid_value_reply(read: ValidValueRead) -> Mf4ValidValue
 }
 
 #[no_mangle]
-pub extern "C" fn mf4_decode_value(record: &[u8], record_id_size: u64, channel: Mf4Channel) -> Mf4Value
+pub extern "C" fn mf4_decode_value(
+    record: &[u8],
+    record_id_size: u64,
+    channel: Mf4Channel,
+) -> Mf4Value
     ensures { λ r. ⌜ r ≡ valueC (valueOf (now («record» .entry)) «record_id_size» (channelGiven channel)) ⌝ }
 {
     value_reply(decode_channel_value(record, record_id_size as usize, channel_of(channel)))
@@ -179,7 +183,12 @@ pub extern "C" fn mf4_check_validity(
 ) -> u8
     ensures { λ r. ⌜ r ≡ flagC (validOf (now («record» .entry)) «record_id_size» «data_bytes» (channelGiven channel)) ⌝ }
 {
-    flag(check_value_validity(record, record_id_size as usize, data_bytes, channel_of(channel)))
+    flag(check_value_validity(
+        record,
+        record_id_size as usize,
+        data_bytes,
+        channel_of(channel),
+    ))
 }
 
 #[no_mangle]

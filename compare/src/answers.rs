@@ -1,0 +1,111 @@
+//! What both sides answer, in one vocabulary: the library's terms.
+
+/// A numbered refusal, and what it tells beside its number (0 where it tells nothing).
+#[derive(Debug, Clone, Copy, PartialEq, Eq)]
+pub struct Refusal {
+    pub number: u32,
+    pub told: u64,
+}
+
+pub type Reply<T> = Result<T, Refusal>;
+
+pub const NO_VALUE: Refusal = Refusal { number: 1, told: 0 };
+pub const OTHER_ID: Refusal = Refusal { number: 3, told: 0 };
+pub const NO_LINKS: Refusal = Refusal { number: 4, told: 0 };
+pub const UNWRITABLE_LIST: Refusal = Refusal { number: 5, told: 0 };
+
+pub fn too_few_bytes(needed: u64) -> Refusal {
+    Refusal { number: 2, told: needed }
+}
+
+pub fn no_room(needed: u64) -> Refusal {
+    Refusal { number: 6, told: needed }
+}
+
+/// The one NaN for whatever is no number.
+pub const NAN_BITS: u64 = 0x7FF8_0000_0000_0000;
+
+#[derive(Debug, Clone, Copy, PartialEq, Eq)]
+pub struct Header {
+    pub id: [u8; 4],
+    pub reserved0: u32,
+    pub block_len: u64,
+    pub links_nr: u64,
+}
+
+#[derive(Debug, Clone, Copy, PartialEq, Eq)]
+pub struct List {
+    pub header: Header,
+    pub next: u64,
+    pub links_at: u64,
+    pub links: u64,
+    pub flags: u8,
+    pub reserved1: u32,
+    pub data_block_nr: u32,
+    pub rest_at: u64,
+    pub rest: u64,
+}
+
+#[derive(Debug, Clone, Copy, PartialEq, Eq)]
+pub struct Place {
+    pub at: u64,
+    pub length: u64,
+}
+
+#[derive(Debug, Clone, Copy, PartialEq, Eq)]
+pub enum Value {
+    Unsigned(u64),
+    Signed(i64),
+    Double(u64),
+    Text(Place),
+    Bytes(Place),
+    Sample(Place),
+    Stream(Place),
+    Unknown,
+}
+
+impl Value {
+    /// Kind number and two words, as the sample's lines have them.
+    pub fn words(&self) -> [u64; 3] {
+        match *self {
+            Value::Unsigned(value) => [1, value, 0],
+            Value::Signed(value) => [2, value as u64, 0],
+            Value::Double(bits) => [3, bits, 0],
+            Value::Text(place) => [4, place.at, place.length],
+            Value::Bytes(place) => [5, place.at, place.length],
+            Value::Sample(place) => [6, place.at, place.length],
+            Value::Stream(place) => [7, place.at, place.length],
+            Value::Unknown => [8, 0, 0],
+        }
+    }
+}
+
+/// A text as UTF-8, and whether a placeholder stands for bytes that are not well-formed.
+#[derive(Debug, Clone, PartialEq, Eq)]
+pub struct Text {
+    pub utf8: Vec<u8>,
+    pub damaged: bool,
+}
+
+/// The answer to a case of any kind.
+#[derive(Debug, Clone, PartialEq, Eq)]
+pub enum Answer {
+    Type { code: u8, default_bits: u32 },
+    Header(Reply<Header>),
+    Written(Reply<Vec<u8>>),
+    List(Reply<List>),
+    Value(Reply<Value>),
+    Validity(bool),
+    Both(Reply<(Value, bool)>),
+    Double(u64),
+    Text(Reply<Text>),
+}
+
+/// Bytes into a lent buffer: written where there is room.
+pub fn into_room(bytes: Vec<u8>, room: usize) -> Reply<Vec<u8>> {
+    if room < bytes.len() {
+        Err(no_room(bytes.len() as u64))
+    } else {
+        Ok(bytes)
+    }
+}

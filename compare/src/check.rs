@@ -1,0 +1,102 @@
+//! One input, asked of both sides.
+
+use crate::answers::{Answer, Place, Text, Value};
+use crate::cases::{Case, Encoding, Field};
+use crate::library::{self, Owed};
+use crate::original::{self, Stopped};
+use crate::outside::{self, Difference};
+
+pub enum Verdict {
+    Equal,
+    /// Outside the domain, and the library gives what is due there; the crate may or may not.
+    Listed {
+        difference: Difference,
+        crate_too: bool,
+    },
+    /// Neither equal nor listed: why.
+    Unlisted(String),
+}
+
+/// The answer due: the crate's inside the domain, and outside it what the listed difference says.
+pub fn due(case: &Case) -> Result<Answer, Stopped> {
+    match outside::due(case) {
+        Some((_, answer)) => Ok(answer),
+        None => original::answer(case),
+    }
+}
+
+pub fn judge(case: &Case) -> Verdict {
+    let theirs = original::answer(case);
+    let (due, difference) = match outside::due(case) {
+        Some((difference, answer)) => (Ok(answer), Some(difference)),
+        None => (theirs.clone(), None),
+    };
+    let ours = ask_library(case);
+    if let Some(why) = contradiction(case, &ours, &due) {
+        return Verdict::Unlisted(why);
+    }
+    match difference {
+        None => Verdict::Equal,
+        Some(difference) => Verdict::Listed { difference, crate_too: theirs == due },
+    }
+}
+
+fn contradiction(case: &Case, ours: &Owed<Answer>, due: &Result<Answer, Stopped>) -> Option<String> {
+    match (ours, due) {
+        (Err(why), _) => Some(format!("the library gives {why}")),
+        (Ok(ours), Err(stopped)) => Some(format!("the library gives {ours:x?}; the crate stops: {}", stopped.0)),
+        (Ok(ours), Ok(due)) if ours != due => Some(format!("the library gives {ours:x?}; due is {due:x?}")),
+        _ => wrong_text(case, ours.as_ref().ok()?),
+    }
+}
+
+fn ask_library(case: &Case) -> Owed<Answer> {
+    Ok(match case {
+        Case::Type { code } => {
+            Answer::Type { code: library::type_code(*code), default_bits: library::default_bits(*code) }
+        }
+        Case::HeaderRead { bytes } => Answer::Header(library::read_header(bytes)?),
+        Case::HeaderWrite { header, room } => Answer::Written(library::write_header(header, *room)?),
+        Case::ListRead { bytes } => Answer::List(library::read_list(bytes)?),
+        Case::ListWriteEqual { room, next, length, links } => {
+            Answer::Written(library::write_list_equal(*room, *next, links, *length)?)
+        }
+        Case::ListWriteVariable { room, next, links, offsets } => {
+            Answer::Written(library::write_list_variable(*room, *next, links, offsets)?)
+        }
+        Case::Value(field) => Answer::Value(library::decode_value(field)?),
+        Case::Validity(field) => Answer::Validity(library::check_validity(field)?),
+        Case::Both(field) => Answer::Both(library::decode_valid_value(field)?),
+        Case::Double(field) => Answer::Double(library::decode_double(field)),
+        Case::Text { encoding, bytes, room } => Answer::Text(library::text(*encoding, bytes, *room)?),
+    })
+}
+
+/// A text is told by its place, so the string must come out of the bytes there.
+fn wrong_text(case: &Case, answer: &Answer) -> Option<String> {
+    let (Case::Value(field), Answer::Value(Ok(Value::Text(place)))) = (case, answer) else {
+        return None;
+    };
+    let encoding = field.channel.encoding()?;
+    let theirs = original::text_of(&without_places(field)).ok()??.into_bytes();
+    match text_at(field, encoding, place, theirs.len()) {
+        Ok(Some(ours)) if ours.utf8 == theirs => None,
+        other => Some(format!("the text at {place:x?} is {other:x?}; the crate's is {theirs:x?}")),
+    }
+}
+
+/// A payload's text does not depend on places in a record, which may lie where the crate's sums stop it.
+fn without_places(field: &Field) -> Field {
+    let mut field = field.clone();
+    if field.channel.is_payload() {
+        field.id_size = 0;
+        field.channel.byte_offset = 0;
+    }
+    field
+}
+
+fn text_at(field: &Field, encoding: Encoding, place: &Place, room: usize) -> Owed<Option<Text>> {
+    let end = place.at.checked_add(place.length).ok_or("a place past 2^64")?;
+    let bytes = field.record.get(place.at as usize..end as usize).ok_or("a place outside the record")?;
+    Ok(library::text(encoding, bytes, room)?.ok())
+}

@@ -1,0 +1,203 @@
+//! What lies outside the domain where the crate and the library must agree, and the answer that is due there. Each
+//! difference has a row in docs/DIFFERENCES.md.
+
+use crate::answers::{into_room, Answer, Header, Reply, Value, NAN_BITS, NO_VALUE, UNWRITABLE_LIST};
+use crate::cases::{Case, Channel, Field};
+use crate::original;
+
+#[derive(Debug, Clone, Copy, PartialEq, Eq, PartialOrd, Ord)]
+pub enum Difference {
+    NineByteInteger,
+    WideInteger,
+    WrappingSum,
+    IdNotUtf8,
+    UnwritableList,
+}
+
+impl Difference {
+    pub fn name(self) -> &'static str {
+        match self {
+            Difference::NineByteInteger => "integer of 1 to 64 bits that spans 9 bytes",
+            Difference::WideInteger => "integer over 64 bits",
+            Difference::WrappingSum => "sum of sizes from 2^64 on",
+            Difference::IdNotUtf8 => "header id that is not UTF-8",
+            Difference::UnwritableList => "list refused with 5",
+        }
+    }
+}
+
+type Due<T> = Option<(Difference, T)>;
+
+/// The difference that an input falls under and the answer due to it; nothing inside the domain.
+pub fn due(case: &Case) -> Due<Answer> {
+    match case {
+        Case::Type { .. } | Case::ListRead { .. } | Case::Text { .. } => None,
+        Case::HeaderRead { bytes } => raw_header(bytes),
+        Case::HeaderWrite { header, room } => raw_header_bytes(header, *room),
+        Case::ListWriteEqual { links, .. } => unwritable(links.len(), links.len()),
+        Case::ListWriteVariable { links, offsets, .. } => unwritable(links.len(), offsets.len()),
+        Case::Value(field) => answering(value(field), Answer::Value),
+        Case::Validity(field) => answering(validity(field), Answer::Validity),
+        Case::Double(field) => answering(double(field), Answer::Double),
+        Case::Both(field) => answering(both(field), Answer::Both),
+    }
+}
+
+fn answering<T>(due: Due<T>, form: fn(T) -> Answer) -> Due<Answer> {
+    due.map(|(difference, answer)| (difference, form(answer)))
+}
+
+// ---- blocks
+
+fn raw_header(bytes: &[u8]) -> Due<Answer> {
+    let id: [u8; 4] = bytes.get(..4)?.try_into().ok()?;
+    if bytes.len() < 24 || std::str::from_utf8(&id).is_ok() {
+        return None;
+    }
+    let header = Header {
+        id,
+        reserved0: u32::from_le_bytes(bytes[4..8].try_into().ok()?),
+        block_len: u64::from_le_bytes(bytes[8..16].try_into().ok()?),
+        links_nr: u64::from_le_bytes(bytes[16..24].try_into().ok()?),
+    };
+    Some((Difference::IdNotUtf8, Answer::Header(Ok(header))))
+}
+
+fn raw_header_bytes(header: &Header, room: usize) -> Due<Answer> {
+    if std::str::from_utf8(&header.id).is_ok() {
+        return None;
+    }
+    let mut bytes = header.id.to_vec();
+    bytes.extend(header.reserved0.to_le_bytes());
+    bytes.extend(header.block_len.to_le_bytes());
+    bytes.extend(header.links_nr.to_le_bytes());
+    Some((Difference::IdNotUtf8, Answer::Written(into_room(bytes, room))))
+}
+
+const MOST_LINKS: usize = 4096;
+
+fn unwritable(links: usize, offsets: usize) -> Due<Answer> {
+    let refused = links != offsets || links > MOST_LINKS;
+    refused.then_some((Difference::UnwritableList, Answer::Written(Err(UNWRITABLE_LIST))))
+}
+
+// ---- values
+
+fn value(field: &Field) -> Due<Reply<Value>> {
+    if passes_64_bits(&start_terms(field)) && field.channel.is_payload() {
+        return Some((Difference::WrappingSum, payload_value(field)?));
+    }
+    if !field.channel.is_payload() && passes_64_bits(&end_terms(field, field.channel.span())) {
+        return Some((Difference::WrappingSum, Err(NO_VALUE)));
+    }
+    let difference = integer_difference(&field.channel)?;
+    Some((difference, integer(field, difference).map(|integer| integer.value()).ok_or(NO_VALUE)))
+}
+
+/// A payload's value has nothing to do with places in a record, so it is the one at place 0.
+fn payload_value(field: &Field) -> Option<Reply<Value>> {
+    let channel = Channel { byte_offset: 0, ..field.channel };
+    let at_zero = Field { id_size: 0, channel, ..field.clone() };
+    match value(&at_zero) {
+        Some((_, answer)) => Some(answer),
+        None => original::value(&at_zero).ok(),
+    }
+}
+
+fn double(field: &Field) -> Due<u64> {
+    let wraps = passes_64_bits(&start_terms(field))
+        || !field.channel.is_payload() && passes_64_bits(&end_terms(field, field.channel.bits_span()));
+    if wraps {
+        return Some((Difference::WrappingSum, NAN_BITS));
+    }
+    let difference = integer_difference(&field.channel)?;
+    if field.channel.is_payload() {
+        return Some((difference, NAN_BITS));
+    }
+    Some((difference, integer(field, difference).map_or(NAN_BITS, |integer| integer.double_bits())))
+}
+
+fn validity(field: &Field) -> Due<bool> {
+    let terms = [field.id_size, u64::from(field.data_bytes), u64::from(field.channel.pos_invalidation_bit / 8)];
+    let all_invalid = field.channel.flags & 1 != 0;
+    passes_64_bits(&terms).then_some((Difference::WrappingSum, !all_invalid))
+}
+
+fn both(field: &Field) -> Due<Reply<(Value, bool)>> {
+    let (value, validity) = (value(field), validity(field));
+    let (difference, _) = value.map(|(name, _)| (name, ())).or(validity.map(|(name, _)| (name, ())))?;
+    let value = match value {
+        Some((_, value)) => value,
+        None => original::value(field).ok()?,
+    };
+    let is_valid = match validity {
+        Some((_, is_valid)) => is_valid,
+        None => original::validity(field).ok()?,
+    };
+    Some((difference, value.map(|value| (value, is_valid))))
+}
+
+fn start_terms(field: &Field) -> [u64; 2] {
+    [field.id_size, u64::from(field.channel.byte_offset)]
+}
+
+fn end_terms(field: &Field, span: u64) -> [u64; 3] {
+    [field.id_size, u64::from(field.channel.byte_offset), span]
+}
+
+fn passes_64_bits(terms: &[u64]) -> bool {
+    terms.iter().map(|&term| u128::from(term)).sum::<u128>() > u128::from(u64::MAX)
+}
+
+// ---- integers past 64 bits
+
+fn integer_difference(channel: &Channel) -> Option<Difference> {
+    let has_value = channel.is_integer() && channel.bit_count > 0 && channel.bit_offset <= 7;
+    match (has_value, channel.bit_count, channel.bits_span()) {
+        (false, ..) => None,
+        (true, 65.., _) => Some(Difference::WideInteger),
+        (true, _, 9) => Some(Difference::NineByteInteger),
+        _ => None,
+    }
+}
+
+enum Integer {
+    Unsigned(u64),
+    Signed(i64),
+}
+
+impl Integer {
+    fn value(&self) -> Value {
+        match *self {
+            Integer::Unsigned(value) => Value::Unsigned(value),
+            Integer::Signed(value) => Value::Signed(value),
+        }
+    }
+
+    fn double_bits(&self) -> u64 {
+        match *self {
+            Integer::Unsigned(value) => value as f64,
+            Integer::Signed(value) => value as f64,
+        }
+        .to_bits()
+    }
+}
+
+/// The true field of nine bytes, where the record has them; a wider one has no 64-bit number.
+fn integer(field: &Field, difference: Difference) -> Option<Integer> {
+    if difference == Difference::WideInteger {
+        return None;
+    }
+    let channel = &field.channel;
+    let start = if channel.is_payload() { 0 } else { usize::try_from(start_terms(field).iter().sum::<u64>()).ok()? };
+    let span = field.record.get(start..)?.get(..channel.bits_span() as usize)?;
+    let join = |joined: u128, byte: &u8| joined << 8 | u128::from(*byte);
+    let joined = if channel.is_little_endian() { span.iter().rev().fold(0, join) } else { span.iter().fold(0, join) };
+    let above = 64 - channel.bit_count;
+    let at_the_top = ((joined >> channel.bit_offset) as u64) << above;
+    Some(if channel.is_signed() {
+        Integer::Signed(at_the_top as i64 >> above)
+    } else {
+        Integer::Unsigned(at_the_top >> above)
+    })
+}

@@ -1,0 +1,29 @@
+use mathlib.Core.Path.{ap, _∙_}
+use denote.Ref.{now}
+use Rattle.definitions.specs.Channel.{Channel}
+use Rattle.definitions.specs.Chain.{valueFetched}
+use Rattle.decoder.specs.Meaning.{validValueReply}
+use Rattle.mf4.specs.Values.{validValueC}
+use Rattle.mf4.proofs.Handed.{handed-left}
+use borrow.Author.Needs.{needs}
+use Rattle.mf4.proofs.fetches.mf4_record_value.Statement.{statement}
+use Rattle.mf4.proofs.fetches.mf4_record_value.Tie as tie
+
+returns : tie.Need-returns
+returns c =
+    let call = c .before .before .before in
+    let a = call .before .before .before .before .before .args in
+    handed-left validValueC validValueReply (call .read-value .result) (c .valid-value-reply .ensures)
+    (call .read-value .ensures
+    ∙ ap (λ (ch : Channel). valueFetched (now (a .file)) (a .start) (a .number) (a .record-size) (a .record-id-size) (a .data-bytes) ch (now (a .buffer)))
+    (call .before .before .channel-of .ensures))
+
+pub mf4-record-value-spec : {M : Type 1} → statement M
+mf4-record-value-spec =
+    tie.close
+    (tie.spec
+    (λ c κs. search needs)
+    (λ c κs. search needs)
+    (λ c κs. search needs)
+    (λ c. search needs)
+    returns)

@@ -1,0 +1,18 @@
+use mathlib.Core.Path.{ap, _∙_}
+use denote.Ref.{now}
+use Rattle.definitions.specs.Channel.{Channel, validOf}
+use Rattle.mf4.specs.Replies.{flagC}
+use borrow.Author.Needs.{needs}
+use Rattle.mf4.proofs.values.mf4_check_validity.Statement.{statement}
+use Rattle.mf4.proofs.values.mf4_check_validity.Tie as tie
+
+returns : tie.Need-returns
+returns c =
+    let call = c .before in
+    let a = call .before .before .before .args in
+    c .flag .ensures
+    ∙ ap flagC (call .check-value-validity .ensures ∙ ap (λ (ch : Channel). validOf (now (a .record)) (a .record-id-size) (a .data-bytes) ch) (call .before .channel-of .ensures))
+
+pub mf4-check-validity-spec : {M : Type 1} → statement M
+mf4-check-validity-spec =
+    tie.close (tie.spec (λ c κs. search needs) (λ c κs. search needs) (λ c κs. search needs) returns)

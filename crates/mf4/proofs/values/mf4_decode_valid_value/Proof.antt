@@ -1,0 +1,23 @@
+use mathlib.Core.Path.{ap, _∙_}
+use denote.Ref.{now}
+use Rattle.definitions.specs.Channel.{Channel, validValueOf}
+use Rattle.mf4.specs.Values.{validValueC}
+use borrow.Author.Needs.{needs}
+use Rattle.mf4.proofs.values.mf4_decode_valid_value.Statement.{statement}
+use Rattle.mf4.proofs.values.mf4_decode_valid_value.Tie as tie
+
+returns : tie.Need-returns
+returns c =
+    let call = c .before in
+    let a = call .before .before .before .args in
+    c .valid-value-reply .ensures
+    ∙ ap validValueC (call .decode-channel-value-with-validity .ensures ∙ ap (λ (ch : Channel). validValueOf (now (a .record)) (a .record-id-size) (a .data-bytes) ch) (call .before .channel-of .ensures))
+
+pub mf4-decode-valid-value-spec : {M : Type 1} → statement M
+mf4-decode-valid-value-spec =
+    tie.close
+    (tie.spec
+    (λ c κs. search needs)
+    (λ c κs. search needs)
+    (λ c κs. search needs)
+    returns)

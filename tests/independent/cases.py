@@ -1,0 +1,867 @@
+"""Cases for every call, the same ones for the same seed: first the boundaries in turn, then random ones without end.
+
+A case is (call, arguments), with the arguments as reference.py takes them.
+"""
+
+import itertools
+import random
+
+from protocol import LongFile
+from reference import Channel, Header
+
+U32 = 2**32 - 1
+U64 = 2**64 - 1
+
+TYPE_CODES = list(range(21)) + [255]
+BIT_OFFSETS = list(range(9)) + [255]
+BIT_COUNTS = list(range(71)) + [U32]
+ID_SIZES = list(range(10))
+HUGE_ID_SIZES = [2**32 - 1, 2**32, 2**63, 2**64 - 2**32, U64 - 9, U64 - 1, U64]
+NUMBER_TYPES = range(6)
+TEXT_CALLS = {"text_latin1": "latin-1", "text_utf8": "utf-8", "text_utf16_le": "utf-16-le", "text_utf16_be": "utf-16-be"}
+
+
+def edge_number(rng, most):
+    """A number of a field that holds up to `most`: often small or near the end."""
+    return rng.choice([0, 1, 2, rng.randint(0, 40), most // 2, most // 2 + 1, most - 1, most, rng.randint(0, most)])
+
+
+def some_bytes(rng, length):
+    """Random bytes, now and then all zeros or all ones."""
+    return rng.choice([bytes(length), b"\xff" * length] + 6 * [rng.randbytes(length)])
+
+
+def out_sizes(needed):
+    """Empty, one short, exact, larger."""
+    return sorted({0, max(0, needed - 1), needed, needed + 1, needed + 9})
+
+
+def out_buffer(rng, size):
+    return rng.choice([b"\xa5" * size, rng.randbytes(size)])
+
+
+# ---- headers and types -------------------------------------------------------------------------------------------------
+
+
+def random_header(rng):
+    return Header(edge_number(rng, U32), edge_number(rng, U32), edge_number(rng, U64), edge_number(rng, U64))
+
+
+def header_boundaries(rng):
+    for length in range(50):
+        yield "read_header", (some_bytes(rng, length),)
+        yield "write_header", (random_header(rng), out_buffer(rng, length))
+    for fill in (0x00, 0x23, 0x80, 0xFF):
+        yield "read_header", (bytes([fill]) * 24,)
+    yield "write_header", (Header(U32, U32, U64, U64), bytes(24))
+
+
+def random_header_case(rng):
+    length = rng.choice([0, 1, 22, 23, 24, 25, rng.randint(0, 60)])
+    if rng.random() < 0.5:
+        return "read_header", (some_bytes(rng, length),)
+    return "write_header", (random_header(rng), out_buffer(rng, length))
+
+
+def type_boundaries(_rng):
+    for code in range(256):
+        yield "type_code", (code,)
+        yield "default_bits", (code,)
+
+
+# ---- data lists --------------------------------------------------------------------------------------------------------
+
+
+def list_block(fields):
+    """The bytes of a list from its fields, however wrong they are."""
+    return (fields["id"] + fields["reserved0"].to_bytes(4, "little") + fields["block_len"].to_bytes(8, "little")
+            + fields["links_nr"].to_bytes(8, "little") + fields["next"].to_bytes(8, "little")
+            + b"".join(link.to_bytes(8, "little") for link in fields["links"])
+            + bytes([fields["flags"]]) + fields["reserved1"].to_bytes(3, "little")
+            + fields["count"].to_bytes(4, "little") + b"".join(number.to_bytes(8, "little") for number in fields["rest"]))
+
+
+def list_fields(next_list, links, flags, rest):
+    """A list in which everything agrees."""
+    return {"id": b"##DL", "reserved0": 0, "block_len": 40 + 8 * len(links) + 8 * len(rest), "links_nr": len(links) + 1,
+            "next": next_list, "links": links, "flags": flags, "reserved1": 0, "count": len(links), "rest": rest}
+
+
+def random_list_fields(rng, links_count):
+    flags = rng.choice([0, 0, 1, 1, 2, 3, 254, 255])
+    rest = [edge_number(rng, U64) for _ in range(1 if flags & 1 else links_count)]
+    fields = list_fields(edge_number(rng, U64), [edge_number(rng, U64) for _ in range(links_count)], flags, rest)
+    if rng.random() < 0.3:
+        fields.update(reserved0=edge_number(rng, U32), reserved1=edge_number(rng, 2**24 - 1),
+                      block_len=edge_number(rng, U64))
+    return fields
+
+
+def list_read_boundaries(rng):
+    for links_count, flags, surplus in itertools.product(range(4), (0, 1, 2, 3, 255), (-1, 0, 1, 2, U32)):
+        fields = random_list_fields(rng, links_count)
+        fields["flags"] = flags
+        fields["count"] = min(U32, max(0, links_count + surplus))
+        fields["rest"] = [edge_number(rng, U64) for _ in range(max(1, min(fields["count"], 6)))]
+        block = list_block(fields)
+        after_links = 32 + 8 * links_count
+        rest_at = after_links + 8
+        for boundary in {0, 24, 32, after_links, rest_at, rest_at + 8, rest_at + 8 * fields["count"]}:
+            for length in (boundary - 1, boundary, boundary + 1):
+                if 0 <= length <= len(block):
+                    yield "read_list", (block[:length],)
+        yield "read_list", (block + rng.randbytes(5),)
+
+
+def list_id_and_link_boundaries(rng):
+    for wrong in (b"##DT", b"##dl", b"DL##", bytes(4), b"\xff\xff\xff\xff", b"#\xc3DL", b" #DL", b"# DL", b"##EL", b"##DM"):
+        fields = random_list_fields(rng, 1)
+        fields["id"] = wrong
+        yield "read_list", (list_block(fields),)
+        yield "read_list", (list_block(fields)[:23],)  # too few bytes comes before another id
+        fields["links_nr"] = 0
+        yield "read_list", (list_block(fields),)  # another id comes before no links
+    # 8 bytes a link pass 2^64 from 2^61 - 4 links on, and would wrap to small sums.
+    around_wrapping = [2**61 + i for i in range(-8, 9)]
+    others = [0, 1, 2, 3, 4, 5, 6, 2**32 - 1, 2**32, 2**60, 2**62, 2**62 + 1, 2**63 - 1, 2**63, 2**63 + 1, U64 - 1, U64]
+    for links_nr in around_wrapping + others:
+        for length in (24, 31, 32, 40, 56):
+            fields = random_list_fields(rng, 2)
+            fields["links_nr"] = links_nr
+            yield "read_list", (list_block(fields)[:length],)
+
+
+def list_write_boundaries(rng):
+    for links_count in (0, 1, 2, 3, 5):
+        links = [edge_number(rng, U64) for _ in range(links_count)]
+        for size in out_sizes(48 + 8 * links_count):
+            yield "write_list_equal", (out_buffer(rng, size), edge_number(rng, U64), links, edge_number(rng, U64))
+        for offsets_count in {max(0, links_count - 1), links_count, links_count + 1}:
+            offsets = [edge_number(rng, U64) for _ in range(offsets_count)]
+            for size in out_sizes(40 + 16 * links_count):
+                yield "write_list_variable", (out_buffer(rng, size), edge_number(rng, U64), links, offsets)
+    for links_count in (4095, 4096, 4097):
+        links = [rng.getrandbits(64) for _ in range(links_count)]
+        for size in (0, 47 + 8 * links_count, 48 + 8 * links_count):
+            yield "write_list_equal", (bytes(size), rng.getrandbits(64), links, rng.getrandbits(64))
+        for size in (0, 39 + 16 * links_count, 41 + 16 * links_count):
+            yield "write_list_variable", (bytes(size), rng.getrandbits(64), links, links[::-1])
+    yield "write_list_variable", (bytes(70000), 0, list(range(4096)), list(range(4097)))
+    yield "write_list_variable", (bytes(70000), 0, list(range(4096)), list(range(4095)))
+
+
+def random_list_case(rng):
+    links_count = rng.choice([0, 1, 2, 3, 4, rng.randint(0, 20)])
+    fields = random_list_fields(rng, links_count)
+    choice = rng.random()
+    if choice < 0.5:
+        if rng.random() < 0.2:
+            fields[rng.choice(["links_nr", "next"])] = edge_number(rng, U64)
+        if rng.random() < 0.2:
+            fields["count"] = rng.choice([0, links_count + 1, edge_number(rng, U32)])
+        if rng.random() < 0.1:
+            fields["id"] = rng.choice([b"##DT", b"##CN", rng.randbytes(4)])
+        block = list_block(fields)
+        cut = rng.choice([len(block), len(block), rng.randint(0, len(block))])
+        return "read_list", ((block + rng.randbytes(rng.choice([0, 0, 3])))[:cut],)
+    if choice < 0.75:
+        size = rng.choice(out_sizes(48 + 8 * links_count))
+        return "write_list_equal", (out_buffer(rng, size), fields["next"], fields["links"], edge_number(rng, U64))
+    size = rng.choice(out_sizes(40 + 16 * links_count))
+    offsets = [edge_number(rng, U64) for _ in range(rng.choice([links_count] * 6 + [links_count + 1, 0]))]
+    return "write_list_variable", (out_buffer(rng, size), fields["next"], fields["links"], offsets)
+
+
+# ---- values ------------------------------------------------------------------------------------------------------------
+
+
+def span_size(channel):
+    """About how many bytes the field takes; only to choose where records end."""
+    if 6 <= channel.data_type <= 12:
+        return min(channel.bit_count, 4096) // 8
+    return max(1, (channel.bit_offset + min(channel.bit_count, 4096) + 7) // 8)
+
+
+def with_validity(rng, channel, record_size):
+    """The channel with flags and a position that often falls inside the record."""
+    position = rng.choice([rng.randint(0, 8 * record_size + 16), rng.randint(0, 70), edge_number(rng, U32)])
+    return channel._replace(flags=rng.choice([0, 1, 2, 2, 2, 3, 4, 6, U32 - 1, U32]), pos_invalidation_bit=position)
+
+
+def value_cases(rng, record, id_size, channel, calls=("decode_value", "decode_valid_value", "decode_double")):
+    for call in calls:
+        if call == "decode_valid_value":
+            marked = with_validity(rng, channel, len(record))
+            yield call, (record, id_size, rng.choice([0, 1, len(record), edge_number(rng, U32)]), marked)
+        else:
+            yield call, (record, id_size, channel)
+
+
+def as_payload(rng, channel):
+    """The channel as one of variable length: its id size and byte offset then play no part."""
+    return channel._replace(channel_type=1, data=rng.choice([1, 8, U64]), byte_offset=edge_number(rng, U32))
+
+
+def field_boundaries(rng):
+    """Every type, bit offset and bit count; the record ends with the field, or one byte before or behind its end."""
+    for data_type, bit_offset, bit_count in itertools.product(TYPE_CODES, BIT_OFFSETS, BIT_COUNTS):
+        id_size, byte_offset = rng.choice([(0, 0), (0, 1), (1, 0), (rng.choice(ID_SIZES), rng.randint(0, 3))])
+        channel = Channel(data_type, rng.choice([0, 2, 255]), bit_offset, byte_offset, bit_count)
+        end = id_size + byte_offset + span_size(channel)
+        whole = some_bytes(rng, end)
+        for case in value_cases(rng, whole, id_size, channel):
+            yield case
+        other = whole[:-1] if rng.random() < 0.6 else whole + rng.randbytes(1)
+        calls = [rng.choice(["decode_value", "decode_value", "decode_double", "decode_valid_value"])]
+        yield from value_cases(rng, other, id_size, channel, calls)
+        payload = rng.randbytes(max(0, span_size(channel) + rng.choice([-1, 0, 0, 1, 7])))
+        yield from value_cases(rng, payload, edge_number(rng, U64), as_payload(rng, channel), calls)
+
+
+def place_boundaries(rng):
+    """Fields at, one before and one past the record's end, with every id size and sums that pass 2^64."""
+    for data_type, id_size in itertools.product(TYPE_CODES, ID_SIZES + HUGE_ID_SIZES):
+        for bit_count, record_size in ((8, 12), (7, 12), (64, 16), (32, 0), (0, 9), (0, 0)):
+            channel = Channel(data_type, 0, 0, 0, bit_count)
+            at_end = record_size - id_size - span_size(channel)
+            for byte_offset in {at_end - 1, at_end, at_end + 1, at_end + 2, 2**64 - id_size, 2**64 - id_size + 1, U32}:
+                if 0 <= byte_offset <= U32:
+                    record = some_bytes(rng, record_size)
+                    calls = [rng.choice(["decode_value", "decode_valid_value", "decode_double"])]
+                    yield from value_cases(rng, record, id_size, channel._replace(byte_offset=byte_offset), calls)
+
+
+def payload_boundaries(rng):
+    """Channel types and data links that do and do not make a channel one of variable length."""
+    for data_type, channel_type, data in itertools.product(TYPE_CODES, (0, 1, 2, 255), (0, 1, 2**32, U64)):
+        for length in (0, 1, 2, 4, 8, 9):
+            channel = Channel(data_type, channel_type, rng.choice([0, 0, 4, 8]), rng.choice([0, 0, 1, U32]),
+                              rng.choice([0, 8, 16, 32, 32, 64, 65]), data=data)
+            calls = [rng.choice(["decode_value", "decode_valid_value", "decode_double"])]
+            yield from value_cases(rng, some_bytes(rng, length), rng.choice([0, 0, 1, U64]), channel, calls)
+
+
+def text_field_boundaries(rng):
+    """Stops early, late and nowhere, in records and payloads of odd and even sizes."""
+    for data_type, size, stop in itertools.product(range(6, 10), range(7), range(8)):
+        field = bytearray(rng.choice([b"AB", b"A\0", b"\0A", b"\xd8\0", b"\xff\xfe"]) * 4)[:size]
+        field[stop:stop + 2] = bytes(len(field[stop:stop + 2]))
+        for before, behind in ((0, 0), (1, 0), (0, 3), (3, 1)):
+            record = rng.randbytes(before) + bytes(field) + rng.randbytes(behind)
+            channel = Channel(data_type, 0, rng.choice([0, 3, 255]), before, 8 * size + rng.choice([0, 7]))
+            yield "decode_value", (record, 0, channel)
+            yield "decode_value", (bytes(field), 5, as_payload(rng, channel))
+
+
+def validity_boundaries(rng):
+    positions = (0, 1, 7, 8, 9, 15, 16, 24, U32)
+    for flags, position, id_size in itertools.product((0, 1, 2, 3, 4, U32 - 1), positions, (0, 1, 2)):
+        for data_bytes in (0, 1, 2):
+            record = some_bytes(rng, rng.randint(0, 6))
+            channel = Channel(rng.choice(TYPE_CODES), rng.choice([0, 1]), 0, 0, 8, flags, position, rng.choice([0, 9]))
+            yield "check_validity", (record, id_size, data_bytes, channel)
+    for id_size, data_bytes, record_size in itertools.product(HUGE_ID_SIZES, (0, 1, 2, 9, 10, U32), (0, 1, 4, 16)):
+        for position in (0, 8, 16, 64, 80, U32):  # sums at 2^64 and a little past it
+            record = b"\xff" * record_size
+            yield "check_validity", (record, id_size, data_bytes, Channel(flags=2, pos_invalidation_bit=position))
+    for size in range(1, 5):  # the byte at, one before and one past the record's end
+        for position in range(8 * size + 9):
+            record = rng.randbytes(size + 1)
+            yield "check_validity", (record, 1, 0, Channel(flags=2, pos_invalidation_bit=position))
+            yield "check_validity", (record, 0, size, Channel(flags=2, pos_invalidation_bit=position - position // 16 * 8))
+
+
+def bits_in_record(rng, field, bit_count, bit_offset, is_big):
+    """Bytes that hold a field at a bit offset, with random bits around it."""
+    size = (bit_offset + bit_count + 7) // 8
+    number = rng.getrandbits(8 * size)
+    number &= ~((2**bit_count - 1) << bit_offset)
+    number |= field << bit_offset
+    return number.to_bytes(size, "big" if is_big else "little")
+
+
+def hard_significands(rng):
+    """Significands of 53 bits: the ends, and random ones, even and odd."""
+    random_one = 2**52 | rng.getrandbits(52)
+    return [2**52, 2**52 + 1, 2**53 - 2, 2**53 - 1, random_one & ~1, random_one | 1]
+
+
+def tie_boundaries(rng):
+    """Integers halfway between two doubles, and one to each side, at every width that has them."""
+    for bit_count, data_type in itertools.product(range(54, 65), range(4)):
+        is_signed = data_type in (2, 3)
+        surplus = bit_count - 53 - is_signed
+        for significand, near in itertools.product(hard_significands(rng), (-1, 0, 1)):
+            if surplus > 0:
+                number = (significand << surplus) + 2**(surplus - 1) + near
+                for field in (number, -number % 2**bit_count) if is_signed else (number,):
+                    yield number_case(rng, data_type, bit_count, rng.randint(0, 7), field % 2**bit_count, "decode_double")
+
+
+def hard_integer(rng, bit_count):
+    """Integers near powers of two, near halfway between doubles, or just random, as a field's bits."""
+    top = rng.choice([rng.randint(0, bit_count), rng.randint(min(53, bit_count), bit_count)])
+    kind = rng.random()
+    if kind < 0.3:
+        number = 2**top + rng.randint(-3, 3)
+    elif kind < 0.8:
+        surplus = max(0, top - 53)
+        significand = rng.choice(hard_significands(rng))
+        number = (significand << surplus) + 2**surplus // 2 + rng.choice([-1, 0, 0, 0, 1])
+    else:
+        number = rng.getrandbits(bit_count)
+    return rng.choice([1, 1, -1]) * number % 2**bit_count
+
+
+HARD_SINGLES = [0, 1, 2, 3, 0x400000, 0x7FFFFE, 0x7FFFFF, 0x800000, 0x800001, 0x3F800000, 0x3F800001, 0x7F7FFFFF, 0x7F800000,
+                0x7F800001, 0x7FBFFFFF, 0x7FC00000, 0x7FC00001, 0x7FFFFFFF]
+HARD_DOUBLES = [0, 1, 2**52 - 1, 2**52, 0x3FF0000000000000, 0x7FEFFFFFFFFFFFFF, 0x7FF0000000000000, 0x7FF0000000000001,
+                0x7FF7FFFFFFFFFFFF, 0x7FF8000000000000, 0x7FF8000000000001, 0x7FFFFFFFFFFFFFFF]
+
+
+def hard_float(rng, bit_count):
+    sign = rng.getrandbits(1) << (bit_count - 1)
+    if rng.random() < 0.3:
+        return rng.getrandbits(bit_count)
+    if bit_count == 32:
+        return sign | rng.choice(HARD_SINGLES + [rng.getrandbits(rng.randint(1, 23))])
+    return sign | rng.choice(HARD_DOUBLES)
+
+
+def number_case(rng, data_type, bit_count, bit_offset, field, call=None):
+    record = bits_in_record(rng, field, bit_count, bit_offset, data_type in (1, 3, 5))
+    before, behind = rng.choice([(0, 0), (2, 0), (0, 2), (1, 3)])
+    channel = Channel(data_type, 0, bit_offset, before, bit_count)
+    call = call or rng.choice(["decode_value", "decode_double", "decode_double"])
+    return call, (rng.randbytes(before) + record + rng.randbytes(behind), 0, channel)
+
+
+def number_boundaries(rng):
+    for bit_offset, sign in itertools.product(range(8), (0, 1)):
+        for data_type in (4, 5):
+            for field in HARD_SINGLES:
+                yield number_case(rng, data_type, 32, bit_offset, sign << 31 | field)
+            for field in HARD_DOUBLES:
+                yield number_case(rng, data_type, 64, bit_offset, sign << 63 | field)
+    for data_type, bit_count, near in itertools.product(range(4), range(50, 65), (-2, -1, 0, 1, 2)):
+        for field in (2**(bit_count - 1) + near, 2**bit_count - 4 + near, 2**53 + near, 2**54 + near):
+            yield number_case(rng, data_type, bit_count, rng.randint(0, 7), field % 2**bit_count)
+    yield from tie_boundaries(rng)
+
+
+def random_number_case(rng):
+    data_type = rng.choice(list(NUMBER_TYPES))
+    if data_type in (4, 5):
+        bit_count = rng.choice([32, 64])
+        return number_case(rng, data_type, bit_count, rng.randint(0, 7), hard_float(rng, bit_count))
+    bit_count = rng.choice([rng.randint(1, 64), rng.randint(53, 64), 64])
+    return number_case(rng, data_type, bit_count, rng.randint(0, 7), hard_integer(rng, bit_count))
+
+
+def random_channel(rng, record_size, id_size):
+    data_type = rng.choice(TYPE_CODES[:13] * 3 + TYPE_CODES + [rng.randint(17, 255)])
+    bit_count = rng.choice([8, 16, 32, 64, rng.randint(0, 70), 8 * rng.randint(0, 12), 8 * record_size,
+                            edge_number(rng, U32)])
+    channel = Channel(data_type, rng.choice([0, 0, 0, 1, 2, 255]), rng.choice([0, 0, 0, 4, rng.randint(0, 9), 255]), 0,
+                      bit_count, data=rng.choice([0, 0, 0, 1, U64]))
+    last = max(0, record_size - span_size(channel) - min(id_size, 9))
+    byte_offset = rng.choice([0, last, last, rng.randint(0, last), rng.randint(0, last), last + 1, edge_number(rng, U32)])
+    return with_validity(rng, channel._replace(byte_offset=byte_offset), record_size)
+
+
+def random_value_case(rng):
+    if rng.random() < 0.4:
+        return random_number_case(rng)
+    record = some_bytes(rng, rng.choice([0, 1, 2, 8, 9, rng.randint(0, 24), rng.randint(0, 24)]))
+    id_size = rng.choice([0, 0, 0, 1, 2, 8, rng.choice(ID_SIZES), rng.choice(HUGE_ID_SIZES)])
+    channel = random_channel(rng, len(record), id_size)
+    data_bytes = rng.choice([0, 1, rng.randint(0, len(record) + 1), edge_number(rng, U32)])
+    call = rng.choice(["decode_value", "check_validity", "decode_valid_value", "decode_double"])
+    if call in ("decode_value", "decode_double"):
+        return call, (record, id_size, channel)
+    return call, (record, id_size, data_bytes, channel)
+
+
+# ---- texts -------------------------------------------------------------------------------------------------------------
+
+HARD_CHARACTERS = [0x01, 0x41, 0x7F, 0x80, 0x9F, 0xA0, 0xE9, 0xFF, 0x100, 0x7FF, 0x800, 0xFFF, 0x1000, 0xCFFF, 0xD000, 0xD7FF,
+                   0xE000, 0xFEFF, 0xFFFD, 0xFFFE, 0xFFFF, 0x10000, 0x1F600, 0x3FFFF, 0x40000, 0xFFFFF, 0x100000, 0x10FFFF]
+HARD_FIRST_BYTES = [0x41, 0x7F, 0x80, 0xBF, 0xC0, 0xC1, 0xC2, 0xDF, 0xE0, 0xE1, 0xEC, 0xED, 0xEE, 0xEF, 0xF0, 0xF1, 0xF3, 0xF4,
+                    0xF5, 0xF7, 0xF8, 0xFB, 0xFC, 0xFE, 0xFF]
+HARD_SECOND_BYTES = [0x00, 0x41, 0x7F, 0x80, 0x8F, 0x90, 0x9F, 0xA0, 0xBF, 0xC0, 0xC2, 0xFF]
+HARD_UNITS = [0x0000, 0x0001, 0x0041, 0x0100, 0x00D8, 0x007F, 0x0080, 0x07FF, 0x0800, 0xD7FF, 0xD800, 0xD83D, 0xDBFF, 0xDC00,
+              0xDE00, 0xDFFF, 0xE000, 0xFFFF]
+PLACEHOLDERS = ["<Invalid UTF8>", "<Invalid UTF16LE>", "<Invalid UTF16BE>"]
+
+
+def random_text(rng, encoding):
+    most = 0xFF if encoding == "latin-1" else 0x10FFFF
+    scalars = [rng.choice(HARD_CHARACTERS + [rng.randint(0x20, 0x7E)] * 12) for _ in range(rng.choice([0, 1, 2, 5, 12]))]
+    return "".join(chr(scalar) for scalar in scalars if scalar <= most).encode(encoding)
+
+
+def damaged_text(rng, text):
+    """The text with a byte changed, dropped, added, or a NUL put in."""
+    text = bytearray(text)
+    place = rng.randint(0, len(text))
+    kind = rng.randint(0, 5)
+    if kind == 0:
+        text[place:place + 1] = bytes([rng.choice(HARD_FIRST_BYTES + HARD_SECOND_BYTES)])
+    elif kind == 1:
+        del text[place:place + 1]
+    elif kind == 2:
+        del text[place:]
+    elif kind == 3:
+        text[place:place] = rng.choice([b"\0", b"\0\0", b"\0\0\0"])
+    elif kind == 4:
+        text[place:place] = rng.choice([b"\xed\xa0\x80", b"\xc0\x80", b"\xf4\x90\x80\x80", b"\xd8\0", b"\0\xdc", b"\xff"])
+    else:
+        text += rng.choice([b"\0 left behind", b"\0\0left behind", b"\0"])
+    return bytes(text)
+
+
+def about_written(text, call):
+    """About how many bytes the text takes as UTF-8; only to choose output buffers around it."""
+    encoding = TEXT_CALLS[call]
+    if "16" in encoding:
+        text = text[:len(text) // 2 * 2]
+    try:
+        return len(text.decode(encoding).split("\0")[0].encode())
+    except UnicodeDecodeError:
+        return 14 if encoding == "utf-8" else 17
+
+
+def text_boundaries(rng):
+    for call in ("text_latin1", "text_utf8"):
+        for byte in range(256):
+            text = bytes([byte])
+            yield call, (text, out_buffer(rng, about_written(text, call)))
+            yield call, (b"A" + text + b"B", out_buffer(rng, 20))
+    endings = (b"", b"\x80", b"\xbf\x80", b"A\x80", b"\xbfA")
+    for first, second, tails in itertools.product(HARD_FIRST_BYTES, HARD_SECOND_BYTES, endings):
+        before = rng.choice([b"", b"A", b"\xc3\xa9"])
+        yield "text_utf8", (before + bytes([first, second]) + tails, out_buffer(rng, 24))
+        yield "text_utf8", (before + bytes([first]), out_buffer(rng, 24))
+    for order, call in (("little", "text_utf16_le"), ("big", "text_utf16_be")):
+        for first, second, odd in itertools.product(HARD_UNITS, HARD_UNITS, (b"", b"B")):
+            text = first.to_bytes(2, order) + second.to_bytes(2, order) + odd
+            yield call, (text, out_buffer(rng, 24))
+            yield call, (text + text, out_buffer(rng, 17))
+        for unit in HARD_UNITS:
+            yield call, (unit.to_bytes(2, order), out_buffer(rng, 17))
+            yield call, (unit.to_bytes(2, order)[:1], out_buffer(rng, 17))
+    for call, encoding in TEXT_CALLS.items():
+        texts = [b"", b"\0", b"\0\0", b"A\0left", b"\0A\0B", "PX1".encode(encoding), b"\xff", b"\xd8\x00", b"\x00\xd8"]
+        texts += [placeholder.encode(encoding) for placeholder in PLACEHOLDERS]
+        texts += [chr(scalar).encode(encoding) for scalar in HARD_CHARACTERS if encoding != "latin-1" or scalar <= 0xFF]
+        for text in texts:
+            needed = about_written(text, call)
+            for size in out_sizes(needed) + [13, 14, 15, 16, 17, 18]:
+                yield call, (text, out_buffer(rng, size))
+
+
+def random_text_case(rng):
+    call = rng.choice(list(TEXT_CALLS))
+    kind = rng.random()
+    if kind < 0.1:
+        text = rng.randbytes(rng.randint(0, 12))
+    elif kind < 0.15:
+        text = "".join(rng.choice(PLACEHOLDERS)).encode(TEXT_CALLS[call])
+    elif kind < 0.2:
+        text = bytes(rng.choice(HARD_FIRST_BYTES + HARD_SECOND_BYTES) for _ in range(rng.randint(1, 6)))
+    else:
+        text = random_text(rng, TEXT_CALLS[call])
+    if rng.random() < 0.5:
+        text = damaged_text(rng, text)
+    size = rng.choice(out_sizes(about_written(text, call)) + [0, 14, 17, 40])
+    return call, (text, out_buffer(rng, size))
+
+
+# ---- files with chains -------------------------------------------------------------------------------------------------
+
+
+def data_block(fields):
+    return (fields["id"] + fields["reserved0"].to_bytes(4, "little") + fields["block_len"].to_bytes(8, "little")
+            + fields["links_nr"].to_bytes(8, "little") + fields["data"])
+
+
+def data_fields(data):
+    """A data block in which everything agrees."""
+    return {"id": b"##DT", "reserved0": 0, "block_len": 24 + len(data), "links_nr": 0, "data": data}
+
+
+class Chain:
+    """A file with a chain, first whole, and open to damage before its bytes are made.
+
+    blocks: the data of each data block. plan: for each list, the numbers of the blocks that it links, and its form.
+    """
+
+    def __init__(self, rng, blocks, plan, front=None, gap=3):
+        self.rng = rng
+        self.plan = plan
+        self.joined = b"".join(blocks[number] for numbers, _ in plan for number in numbers)
+        sizes = [24 + len(data) for data in blocks]
+        sizes += [40 + 8 * len(numbers) + (8 if is_equal else 8 * len(numbers)) for numbers, is_equal in plan]
+        self.places, self.end = self.lay_out(sizes, rng.choice([24, 64, 1]) if front is None else front, gap)
+        self.data_places, self.list_places = self.places[:len(blocks)], self.places[len(blocks):]
+        self.datas = [data_fields(data) for data in blocks]
+        self.lists = self.make_lists(blocks)
+        self.start = self.list_places[0]
+        self.tail = rng.choice([0, 0, 5, 24, 40])
+
+    def lay_out(self, sizes, front, gap):
+        """A place for each block, in any order, with gaps."""
+        places, end = [0] * len(sizes), front
+        for number in self.rng.sample(range(len(sizes)), len(sizes)):
+            places[number] = end + self.rng.choice([0, 0, self.rng.randint(0, gap)])
+            end = places[number] + sizes[number]
+        return places, end
+
+    def make_lists(self, blocks):
+        lists, before = [], 0
+        for index, (numbers, is_equal) in enumerate(self.plan):
+            next_list = self.list_places[index + 1] if index + 1 < len(self.plan) else 0
+            rest = []
+            for number in numbers:
+                rest.append(before)
+                before += len(blocks[number])
+            if is_equal:
+                rest = [self.declared_length([len(blocks[number]) for number in numbers])]
+            lists.append(list_fields(next_list, [self.data_places[number] for number in numbers], int(is_equal), rest))
+        return lists
+
+    def declared_length(self, lengths):
+        """The one length of a list: the last fragment may be shorter, so a single one may be much shorter."""
+        if not lengths:
+            return self.rng.choice([0, 1, U64])
+        return lengths[0] if len(lengths) > 1 else lengths[0] + self.rng.choice([0, 0, 1, 1000])
+
+    def file(self):
+        content = bytearray(self.rng.randbytes(self.end + self.tail))
+        for place, fields in zip(self.data_places, self.datas):
+            block = data_block(fields)
+            content[place:place + len(block)] = block
+        for place, fields in zip(self.list_places, self.lists):
+            block = list_block(fields)
+            content[place:place + len(block)] = block
+        return bytes(content)
+
+
+def random_chain(rng, most_lists=4, most_fragments=4, most_bytes=12):
+    """Lists of both forms; empty fragments, and blocks that are listed more than once."""
+    blocks, plan = [], []
+    for _ in range(rng.choice([1, 1, 2, 3, rng.randint(1, most_lists)])):
+        is_equal = rng.random() < 0.5
+        length = rng.choice([0, 1, 2, 4, rng.randint(0, most_bytes)])
+        numbers = []
+        for _ in range(rng.choice([0, 1, 2, 3, rng.randint(0, most_fragments)])):
+            fitting = [i for i, data in enumerate(blocks) if not is_equal or len(data) == length]
+            if fitting and rng.random() < 0.2:
+                numbers.append(rng.choice(fitting))
+            else:
+                numbers.append(len(blocks))
+                blocks.append(rng.randbytes(length if is_equal else rng.choice([0, 1, 2, 3, rng.randint(0, most_bytes)])))
+        if is_equal and len(numbers) > 1 and rng.random() < 0.4:
+            numbers[-1] = len(blocks)
+            blocks.append(rng.randbytes(rng.randint(0, length)))
+        plan.append((numbers, is_equal))
+    return Chain(rng, blocks, plan)
+
+
+def edge_addresses(rng, chain):
+    length = chain.end + chain.tail
+    near_end = [length - 25, length - 24, length - 23, length - 1, length, length + 1]  # a chain's file has 41 bytes or more
+    inside = [rng.choice(chain.places), rng.choice(chain.list_places), rng.choice(chain.places) + 1, rng.randint(0, length)]
+    return [0, 1] + near_end + [2**63, U64 - 23, U64] + inside
+
+
+def edge_lengths(rng, chain, place):
+    """Block lengths around 0, 24 and what is left of the file."""
+    left = chain.end + chain.tail - place
+    wrapping = [2**63, 2**64 - place, min(U64, 2**64 - place + 30), U64]
+    return [0, 1, 23, 24, 25, left - 1, left, left + 1, rng.randint(0, left + 9)] + wrapping
+
+
+def damage_list(rng, chain):
+    index = rng.randrange(len(chain.lists))
+    fields, place = chain.lists[index], chain.list_places[index]
+    name = rng.choice(["id", "links_nr", "count", "block_len", "next", "flags", "reserved"] + 2 * ["links"] + 3 * ["rest"])
+    if name == "id":
+        fields["id"] = rng.choice([b"##DT", b"##dl", b"##HL", rng.randbytes(4)])
+    elif name == "links_nr":
+        near = len(fields["links"]) + 1
+        fields["links_nr"] = rng.choice([0, near - 1, near + 1, near + 2, 2**61 - 4, 2**61, 2**61 + near, 2**63, U64])
+    elif name == "count":
+        fields["count"] = rng.choice([0, max(0, fields["count"] - 1), min(U32, fields["count"] + 1), U32, 2**29])
+    elif name == "block_len":
+        right = len(list_block(fields))
+        fields["block_len"] = rng.choice([0, 24, right - 1, right - 8, right + 1, 2**63, U64, 2**32 + 8]
+                                         + edge_lengths(rng, chain, place))
+    elif name == "next":
+        fields["next"] = rng.choice([place] + edge_addresses(rng, chain))
+    elif name in ("links", "rest"):
+        if fields[name]:
+            at = rng.randrange(len(fields[name]))
+            right = fields[name][at]
+            near = [max(0, right - 1), right + 1, 0, U64, 2**63, right + 2**32]
+            fields[name][at] = min(U64, rng.choice(edge_addresses(rng, chain) if name == "links" else near))
+    elif name == "flags":
+        fields["flags"] ^= rng.choice([1, 1, 2, 4, 0xFE, 0xFF])
+    else:
+        fields.update(reserved0=rng.getrandbits(32), reserved1=rng.getrandbits(24))
+
+
+def damage_data(rng, chain):
+    if not chain.datas:
+        return
+    index = rng.randrange(len(chain.datas))
+    fields, place = chain.datas[index], chain.data_places[index]
+    name = rng.choice(["id", "links_nr", "block_len", "block_len", "block_len", "reserved0"])
+    if name == "id":
+        fields["id"] = rng.choice([b"##DL", b"##DZ", b"##dt", b"##SD", rng.randbytes(4)])
+    elif name == "links_nr":
+        fields["links_nr"] = rng.choice([1, 2**32, U64])
+    elif name == "block_len":
+        near = len(data_block(fields))
+        fields["block_len"] = rng.choice([near - 1, near + 1, near + 2**32] + edge_lengths(rng, chain, place))
+    else:
+        fields["reserved0"] = rng.getrandbits(32)
+
+
+def damaged_file(rng, file):
+    """Cut, lengthened, or with a byte or a bit changed."""
+    kind = rng.randint(0, 4)
+    if kind == 0:
+        return file[:rng.randint(0, len(file))]
+    if kind == 1:
+        return file + rng.randbytes(rng.randint(1, 30))
+    if kind == 2:
+        return file[:max(0, len(file) - rng.randint(1, 26))]
+    content = bytearray(file)
+    place = rng.randrange(len(content))
+    content[place] = rng.getrandbits(8) if kind == 3 else content[place] ^ (1 << rng.randint(0, 7))
+    return bytes(content)
+
+
+def record_numbers(rng, joined_size, record_size):
+    """First, last, one past, far past, and numbers whose place would wrap into the data."""
+    size = max(1, record_size)
+    last = max(0, joined_size // size - 1)
+    inside = [0, last] + [rng.randint(0, last) for _ in range(3)]
+    beyond = [last + 1, last + 2, 2**64 // size % 2**64, min(U64, 2**64 // size + 1), 2**63 // size, 2**63, U64]
+    return 4 * inside + beyond
+
+
+def record_buffer(rng, size):
+    room = rng.choice([size] * 30 + [size + 1, size + 7, max(0, size - 1), 0])
+    return out_buffer(rng, min(room, 16390))
+
+
+def chain_query(rng, file, start, joined_size, record_size=None, number=None):
+    """Asks a file for a record, or for a channel's value in it."""
+    if record_size is None:
+        fitting = rng.randint(1, min(12, joined_size)) if joined_size else 1
+        record_size = rng.choice([1, 2, 3, 16, rng.randint(1, 12)] + 5 * [fitting])
+    if number is None:
+        number = rng.choice(record_numbers(rng, joined_size, record_size))
+    buffer = record_buffer(rng, min(record_size, 20000))
+    if rng.random() < 0.5:
+        return "read_record", (file, start, number, record_size, buffer)
+    id_size = rng.choice([0, 0, 0, 1, 2, rng.choice(ID_SIZES), U64])
+    channel = random_channel(rng, min(record_size, 40), id_size)
+    data_bytes = rng.choice([0, 1, min(record_size, U32), edge_number(rng, U32)])
+    return "record_value", (file, start, number, record_size, id_size, data_bytes, channel, buffer)
+
+
+def random_chain_case(rng):
+    chain = random_chain(rng)
+    for _ in range(rng.choice([0, 0, 0, 1, 1, 1, 2])):
+        rng.choice([damage_list, damage_data])(rng, chain)
+    file = chain.file()
+    if rng.random() < 0.15:
+        file = damaged_file(rng, file)
+    start = chain.start if rng.random() < 0.93 else rng.choice(edge_addresses(rng, chain))
+    record_size = rng.choice([None] * 60 + [0, 16384, 16385, 2**32 + 1, U64])
+    return chain_query(rng, file, start, len(chain.joined), record_size)
+
+
+def every_record(rng, chain, sizes):
+    """Each record of a chain, and one past the last."""
+    file = chain.file()
+    for size in sizes:
+        for number in range(len(chain.joined) // size + 2):
+            yield "read_record", (file, chain.start, number, size, out_buffer(rng, size + number % 2))
+
+
+def cut_boundaries(rng):
+    """The same joined data cut in several ways, each record asked for; also the file cut at each length."""
+    data = bytes(range(1, 13))
+    cuts = [[12], [3, 0, 9], [1] * 12, [0, 12, 0], [6, 6], [4, 4, 4], [5, 5, 2], [0, 0, 12], [11, 1]]
+    for lengths in cuts:
+        ends = list(itertools.accumulate(lengths))
+        blocks = [data[end - length:end] for end, length in zip(ends, lengths)]
+        numbers = list(range(len(blocks)))
+        split = rng.randint(0, len(numbers))
+        plans = [[(numbers, False)], [(numbers[:split], False), (numbers[split:], False)],
+                 [([number], True) for number in numbers], [([], True), (numbers, False), ([], False)]]
+        if len(set(lengths[:-1])) <= 1 and lengths[-1] <= lengths[0]:
+            plans.append([(numbers, True)])
+        for plan in plans:
+            yield from every_record(rng, Chain(rng, blocks, plan), (1, 2, 5, 12, 13))
+    for plan in ([([0, 1], True)], [([0], False), ([1, 2], False)]):
+        chain = Chain(rng, [data[:6], data[6:], b""], plan)
+        file = chain.file()
+        for length in range(len(file)):
+            yield "read_record", (file[:length], chain.start, 1, 4, out_buffer(rng, 4))
+
+
+def query_boundaries(rng):
+    """Starts, record sizes, numbers and buffers around their ends, on one sound file."""
+    chain = Chain(rng, [b"\1\2\3", b"", b"\4\5\6"], [([0, 1, 2], False)], front=64)
+    file = chain.file()
+    for start in sorted({address for address in edge_addresses(rng, chain)} | {len(file) - 24, len(file) - 23}):
+        yield "read_record", (file, start, 0, 2, bytes(2))
+    for size in (0, 1, 2, 3, 5, 6, 7, 16, 16383, 16384, 16385, 2**32, 2**32 + 2, 2**63, U64):
+        for number in (0, 1, 2, 3, 5, 6, 2**63, 2**64 // max(1, size) % 2**64, U64 - 1, U64):
+            for room in {0, max(0, size - 1), size, size + 1}:
+                yield "read_record", (file, chain.start, number, size, b"\x5a" * min(room, 16390))
+    for length in (0, 1, 23, 24, 25, 40):
+        for start in (0, 1, length - 24, length - 23, length):
+            if start >= 0:
+                yield "read_record", (rng.randbytes(length), start, 0, 1, bytes(1))
+    yield from last_bytes_boundaries(rng)
+
+
+def last_bytes_boundaries(rng):
+    """An empty data block, or the header of a list, in the file's last 24 bytes, and with a byte less."""
+    first, last = data_block(data_fields(b"\1\2")), data_block(data_fields(b""))
+    start = 64 + len(first)
+    for flags, rest in ((0, [0, 2]), (1, [2])):
+        last_place = start + 56 + 8 * len(rest)
+        fields = list_fields(0, [64, last_place], flags, rest)
+        file = bytes(64) + first + list_block(fields) + last
+        for length in range(len(file) - 26, len(file) + 1):
+            yield "read_record", (file[:length], start, 0, 2, bytes(2))
+            yield "read_record", ((file + bytes(3))[:length + 2], start, 1, 2, bytes(2))
+    for links_nr, cut in itertools.product((0, 1, 2, 2**61, U64), (0, 1)):
+        header = list_block(list_fields(0, [], 0, []))[:16] + links_nr.to_bytes(8, "little")
+        file = rng.randbytes(30) + header
+        yield "read_record", (file[:len(file) - cut], 30, 0, 1, bytes(1))
+
+
+def long_file_boundaries(rng):
+    """Longer than 2^40 bytes, or just 2^40 with a start that leads nowhere: answered without a look at the file."""
+    for length in (2**40, 2**40 + 1, 2**40 + 2, 2**41, 2**62):
+        for start in (0, 2**40 - 23, 2**40 - 22, U64):
+            if length == 2**40 or start == 0:
+                for size, room in ((1, 1), (0, 1), (16384, 16384), (16385, 16385), (2, 1)):
+                    yield "read_record", (LongFile(length), start, 0, size, out_buffer(rng, room))
+                channel = Channel(0, 0, 0, 0, 8)
+                yield "record_value", (LongFile(length), start, 0, 1, 0, 0, channel, out_buffer(rng, 1))
+
+
+def loop_boundaries(rng):
+    """Lists that link back: only a limit ends them, and 17 fragments pass 4,096 with the 241st reading of the list."""
+    for fragments, is_equal, data in itertools.product((0, 1, 2, 15, 16, 17, 18), (True, False), (b"", b"\7")):
+        chain = Chain(rng, [data], [([0] * fragments, is_equal)])
+        chain.lists[0]["next"] = chain.start
+        yield "read_record", (chain.file(), chain.start, 0, 1, bytes(1))
+    for fragments in (1, 31, 32, 33, 40):
+        chain = Chain(rng, [b"\7", b"\x08"], [([0] * fragments, True), ([1], True)])
+        chain.lists[1]["next"] = chain.start
+        yield "read_record", (chain.file(), chain.start, 0, 1, bytes(1))
+    chain = Chain(rng, [b"\7\x08"], [([0], True), ([], True), ([0], True)])
+    chain.lists[2]["next"] = chain.list_places[1]
+    yield "read_record", (chain.file(), chain.start, 0, 1, bytes(1))
+
+
+def order_boundaries(rng):
+    """Two faults at once: the one that comes first in the order is told."""
+    for _ in range(400):
+        chain = Chain(rng, [b"\1\2\3\4", b"\5\6\7\x08", b"\x09"], [([0, 1], rng.random() < 0.5), ([2, 0], False)])
+        for _ in range(2):
+            rng.choice([damage_list, damage_list, damage_data])(rng, chain)
+        yield chain_query(rng, chain.file(), chain.start, len(chain.joined), rng.choice([1, 2, 3]), rng.choice([0, 1, 5]))
+
+
+def limit_boundaries(rng):
+    """256 and 257 lists, 4,096 and 4,097 fragments, with a fault beyond the limit too."""
+    for lists, per_list in ((256, 1), (257, 1), (256, 0), (257, 0), (255, 1), (256, 16), (257, 16)):
+        blocks = [bytes([1, 2]), b"", bytes([3])]
+        plan = [([rng.randrange(3) for _ in range(per_list)], False) for _ in range(lists)]
+        chain = Chain(rng, blocks, plan, gap=0)
+        file = chain.file()
+        for number in (0, max(0, len(chain.joined) - 1), len(chain.joined)):
+            yield "read_record", (file, chain.start, number, 1, bytes(1))
+        if lists == 256:
+            for bad_next in (1, 7, U64, chain.end + 100):  # the 257th list is refused before its address is looked at
+                chain.lists[255]["next"] = bad_next
+                yield "read_record", (chain.file(), chain.start, 0, 1, bytes(1))
+            chain.lists[255].update(next=0, links_nr=0)
+            yield "read_record", (chain.file(), chain.start, 0, 1, bytes(1))
+    for counts in ((4096,), (4097,), (4095, 1), (4095, 2), (4096, 0), (4096, 1), (1, 4096), (2000, 2000, 96),
+                   (2000, 2000, 97)):
+        for is_equal in (True, False):
+            blocks = [b"\1\2\3"]
+            chain = Chain(rng, blocks, [([0] * count, is_equal) for count in counts], gap=0)
+            file = chain.file()
+            last = len(chain.joined) // 2 - 1
+            for number in (last, last + 1):
+                yield "read_record", (file, chain.start, number, 2, bytes(2))
+        if sum(counts) > 4096:  # too many fragments comes before a fragment's faults, but behind those of earlier lists
+            chain.lists[-1]["links"][0] = 0
+            yield "read_record", (chain.file(), chain.start, 0, 2, bytes(2))
+            chain.lists[0]["links"][0] = 0
+            yield "read_record", (chain.file(), chain.start, 0, 2, bytes(2))
+            if len(counts) == 1:  # a list that disagrees with itself comes before too many fragments
+                chain.lists[0]["block_len"] -= 1
+                yield "read_record", (chain.file(), chain.start, 0, 2, bytes(2))
+                chain.lists[0].update(block_len=U64, count=4095)
+                yield "read_record", (chain.file(), chain.start, 0, 2, bytes(2))
+
+
+def large_record_boundaries(rng):
+    for lengths in ((16384,), (16384, 16384), (10000, 10000, 10000), (16383,), (1, 16384), (16385,)):
+        chain = Chain(rng, [rng.randbytes(length) for length in lengths], [(list(range(len(lengths))), False)])
+        file = chain.file()
+        for number, size, room in ((0, 16384, 16384), (1, 16384, 16384), (0, 16384, 16383), (0, 16385, 16385),
+                                   (0, 16383, 16390)):
+            yield "read_record", (file, chain.start, number, size, bytes(room))
+        channel = Channel(0, 0, 4, 16384 - 9, 64, 2, 131071)
+        yield "record_value", (file, chain.start, 0, 16384, 0, 0, channel, bytes(16384))
+        yield "record_value", (file, chain.start, 0, 16384, 1, 0, channel, bytes(16384))
+
+
+def record_value_boundaries(rng):
+    """A record that is fetched and its field refused; ids, validity bits and fields at the record's ends."""
+    chain = Chain(rng, [b"\1\x34", b"\x12\0\2\2", b"\x34\x12\xff", b"\xff\xff"], [([0, 1], False), ([2, 3], False)])
+    file = chain.file()
+    for data_type, byte_offset, bit_count in itertools.product(TYPE_CODES, (0, 1, 2, 3, 4, 5, 6), (0, 7, 8, 16, 32, 65)):
+        channel = Channel(data_type, 0, 0, byte_offset, bit_count, rng.choice([0, 1, 2, 2, 3]), rng.randint(0, 40))
+        number, room = rng.choice([(0, 5), (1, 5), (1, 9), (2, 5), (0, 4)])
+        id_size, data_bytes = rng.choice([0, 1]), rng.choice([2, 3])
+        yield "record_value", (file, chain.start, number, 5, id_size, data_bytes, channel, b"\xee" * room)
+        if byte_offset == 0:
+            yield "record_value", (file, chain.start, number, 5, 1, 2, as_payload(rng, channel), b"\xee" * room)
+
+
+# ---- all of them -------------------------------------------------------------------------------------------------------
+
+BOUNDARIES = (header_boundaries, type_boundaries, list_read_boundaries, list_id_and_link_boundaries, list_write_boundaries,
+              field_boundaries, place_boundaries, payload_boundaries, text_field_boundaries, validity_boundaries,
+              number_boundaries, text_boundaries, cut_boundaries, query_boundaries, long_file_boundaries, loop_boundaries,
+              order_boundaries, limit_boundaries, large_record_boundaries, record_value_boundaries)
+
+RANDOM_CASES = ([random_header_case] + [random_list_case] * 2 + [random_value_case] * 6 + [random_text_case] * 4
+                + [random_chain_case] * 5)
+
+
+def boundary_cases(seed):
+    for boundaries in BOUNDARIES:
+        yield from boundaries(random.Random(f"{seed} {boundaries.__name__}"))
+
+
+def random_cases(seed):
+    rng = random.Random(f"{seed} random")
+    while True:
+        yield rng.choice(RANDOM_CASES)(rng)

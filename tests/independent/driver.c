@@ -1,0 +1,602 @@
+/*
+ * Answers cases with the library: one case per line of standard input, one result per line of standard output.
+ * The words of a case and of a result are described in protocol.py. A line that cannot be read gives "malformed".
+ *
+ * Each input stands in memory of just its size, so that a memory checker sees a read past it, and is compared with a copy
+ * after the call. Each output buffer has guards on both sides. A change where none is allowed is added to the result.
+ *
+ *     cc -std=c99 -O1 -I include -o driver driver.c libmf4.a
+ */
+#include <inttypes.h>
+#include <stdio.h>
+#include <stdlib.h>
+#include <string.h>
+
+#include "mf4.h"
+
+enum { GUARD = 32, GUARD_BYTE = 0xC3, MOST_SLICES = 4 };
+
+/* ---- memory ----------------------------------------------------------------------------------------------------- */
+
+typedef struct slice {
+    uint8_t *bytes;   /* what the call is given                                        */
+    size_t length;    /* the count that the call is given                              */
+    size_t held;      /* the bytes that are there; less than length only for a long file */
+    uint8_t *copy;    /* an input's bytes before the call                              */
+    uint8_t *memory;  /* what is to be freed                                           */
+    int is_output;
+} slice;
+
+static slice slices[MOST_SLICES];
+static size_t slices_used;
+
+static void *allocated(size_t size)
+{
+    void *memory = malloc(size > 0 ? size : 1);
+    if (memory == NULL) {
+        fputs("driver: out of memory\n", stderr);
+        exit(2);
+    }
+    return memory;
+}
+
+static void forget_slices(void)
+{
+    size_t i;
+    for (i = 0; i < slices_used; i++) {
+        free(slices[i].copy);
+        free(slices[i].memory);
+    }
+    slices_used = 0;
+}
+
+/* An input moves into memory of just its size; an output buffer between two guards. NULL stays NULL. */
+static slice *new_slice(const uint8_t *content, size_t length, int is_output, int is_null)
+{
+    slice *made;
+    if (slices_used == MOST_SLICES) {
+        fputs("driver: too many slices in a case\n", stderr);
+        exit(2);
+    }
+    made = &slices[slices_used++];
+    made->length = length;
+    made->held = length;
+    made->is_output = is_output;
+    made->copy = NULL;
+    if (is_output) {
+        made->memory = allocated(length + 2 * GUARD);
+        memset(made->memory, GUARD_BYTE, length + 2 * GUARD);
+        made->bytes = made->memory + GUARD;
+    } else {
+        made->memory = allocated(length);
+        made->bytes = made->memory;
+        made->copy = allocated(length);
+        if (length > 0)
+            memcpy(made->copy, content, length);
+    }
+    if (length > 0)
+        memcpy(made->bytes, content, length);
+    if (is_null)
+        made->bytes = NULL;
+    return made;
+}
+
+static int guards_are_whole(const slice *output)
+{
+    size_t i;
+    for (i = 0; i < GUARD; i++)
+        if (output->memory[i] != GUARD_BYTE || output->memory[GUARD + output->held + i] != GUARD_BYTE)
+            return 0;
+    return 1;
+}
+
+static void print_wrong_changes(void)
+{
+    size_t i;
+    for (i = 0; i < slices_used; i++) {
+        if (slices[i].is_output && !guards_are_whole(&slices[i]))
+            fputs(" WROTE-OUTSIDE-THE-BUFFER", stdout);
+        if (!slices[i].is_output && memcmp(slices[i].memory, slices[i].copy, slices[i].held) != 0)
+            fputs(" CHANGED-AN-INPUT", stdout);
+    }
+}
+
+/* ---- words of a case -------------------------------------------------------------------------------------------- */
+
+static char *rest_of_line;
+static int is_malformed;
+
+static const char *next_word(void)
+{
+    char *word = rest_of_line;
+    while (*word == ' ')
+        word++;
+    rest_of_line = word;
+    while (*rest_of_line != ' ' && *rest_of_line != '\0')
+        rest_of_line++;
+    if (*rest_of_line == ' ')
+        *rest_of_line++ = '\0';
+    if (*word == '\0')
+        is_malformed = 1;
+    return word;
+}
+
+static uint64_t decimal(const char *digits, const char **end)
+{
+    uint64_t number = 0;
+    if (*digits < '0' || *digits > '9')
+        is_malformed = 1;
+    for (; *digits >= '0' && *digits <= '9'; digits++)
+        number = number * 10 + (uint64_t)(*digits - '0');
+    *end = digits;
+    return number;
+}
+
+static uint64_t next_number(uint64_t most)
+{
+    const char *end;
+    uint64_t number = decimal(next_word(), &end);
+    if (*end != '\0' || number > most)
+        is_malformed = 1;
+    return number;
+}
+
+static uint64_t next_u64(void) { return next_number(UINT64_MAX); }
+static uint32_t next_u32(void) { return (uint32_t)next_number(UINT32_MAX); }
+static uint8_t next_u8(void) { return (uint8_t)next_number(UINT8_MAX); }
+
+static int hex_digit(char digit)
+{
+    if (digit >= '0' && digit <= '9')
+        return digit - '0';
+    if (digit >= 'a' && digit <= 'f')
+        return digit - 'a' + 10;
+    return -1;
+}
+
+/* Growing memory in which a slice is put together before it moves to its own place. */
+static uint8_t *scratch;
+static size_t scratch_size;
+
+static void make_room(size_t size)
+{
+    if (size <= scratch_size)
+        return;
+    scratch_size = 2 * size;
+    scratch = realloc(scratch, scratch_size);
+    if (scratch == NULL) {
+        fputs("driver: out of memory\n", stderr);
+        exit(2);
+    }
+}
+
+/* One piece, HEX or HEX*COUNT, behind `length` bytes that are there already. Gives the new length. */
+static size_t add_piece(const char **word, size_t length)
+{
+    size_t from = length;
+    while (hex_digit((*word)[0]) >= 0 && hex_digit((*word)[1]) >= 0) {
+        make_room(length + 1);
+        scratch[length++] = (uint8_t)(16 * hex_digit((*word)[0]) + hex_digit((*word)[1]));
+        *word += 2;
+    }
+    if (**word == '*') {
+        size_t size = length - from;
+        uint64_t count = decimal(*word + 1, word);
+        length = from;
+        for (; count > 0; count--, length += size) {
+            make_room(length + size);
+            if (length > from)
+                memcpy(scratch + length, scratch + from, size);
+        }
+    }
+    return length;
+}
+
+static slice *next_slice(int is_output)
+{
+    const char *word = next_word();
+    size_t length = 0;
+    if (strcmp(word, "-") == 0)
+        return new_slice(NULL, 0, is_output, 1);
+    if (*word == 'z') {
+        slice *made = new_slice(NULL, 0, is_output, 0);
+        made->length = (size_t)decimal(word + 1, &word);
+        return made;
+    }
+    if (*word == 'x')
+        word++;
+    else
+        is_malformed = 1;
+    length = add_piece(&word, length);
+    while (*word == '+') {
+        word++;
+        length = add_piece(&word, length);
+    }
+    if (*word != '\0')
+        is_malformed = 1;
+    return new_slice(scratch, length, is_output, 0);
+}
+
+static slice *next_input(void) { return next_slice(0); }
+static slice *next_output(void) { return next_slice(1); }
+
+/* The slice's length stays in bytes; count_of_numbers tells how many numbers it holds. */
+static slice *next_numbers(void)
+{
+    const char *word = next_word();
+    size_t length = 0;
+    if (strcmp(word, "-") == 0)
+        return new_slice(NULL, 0, 0, 1);
+    if (*word == 'u')
+        word++;
+    else
+        is_malformed = 1;
+    while (*word >= '0' && *word <= '9') {
+        uint64_t number = decimal(word, &word);
+        make_room(length + sizeof number);
+        memcpy(scratch + length, &number, sizeof number);
+        length += sizeof number;
+        if (*word == ',')
+            word++;
+    }
+    if (*word != '\0')
+        is_malformed = 1;
+    return new_slice(scratch, length, 0, 0);
+}
+
+static const uint64_t *numbers_of(const slice *numbers) { return (const uint64_t *)(const void *)numbers->bytes; }
+static size_t count_of_numbers(const slice *numbers) { return numbers->length / sizeof(uint64_t); }
+
+static mf4_block_header next_header(void)
+{
+    mf4_block_header header;
+    header.id = next_u32();
+    header.reserved0 = next_u32();
+    header.block_len = next_u64();
+    header.links_nr = next_u64();
+    return header;
+}
+
+static mf4_channel next_channel(void)
+{
+    mf4_channel channel;
+    channel.data_type = next_u8();
+    channel.channel_type = next_u8();
+    channel.bit_offset = next_u8();
+    channel.byte_offset = next_u32();
+    channel.bit_count = next_u32();
+    channel.flags = next_u32();
+    channel.pos_invalidation_bit = next_u32();
+    channel.data = next_u64();
+    return channel;
+}
+
+/* ---- words of a result ------------------------------------------------------------------------------------------ */
+
+static const char *separator;
+
+static void print_number(const char *name, uint64_t number)
+{
+    printf("%s%s=%" PRIu64, separator, name, number);
+    separator = " ";
+}
+
+static void print_bits(const char *name, uint64_t bits)
+{
+    printf("%s%s=0x%016" PRIx64, separator, name, bits);
+    separator = " ";
+}
+
+static void print_reply(uint32_t reply, uint64_t told)
+{
+    print_number("reply", reply);
+    print_number("told", told);
+}
+
+static void print_header(mf4_block_header header)
+{
+    print_number("id", header.id);
+    print_number("reserved0", header.reserved0);
+    print_number("block_len", header.block_len);
+    print_number("links_nr", header.links_nr);
+}
+
+static void print_decoded(mf4_decoded value)
+{
+    print_number("kind", value.kind);
+    print_number("unsigned_value", value.unsigned_value);
+    printf(" signed_value=%" PRId64, value.signed_value);
+    print_bits("double_bits", value.double_bits);
+    print_number("at", value.at);
+    print_number("length", value.length);
+}
+
+static void print_out(const slice *out)
+{
+    static const char digits[] = "0123456789abcdef";
+    size_t i;
+    fputs(" out=x", stdout);
+    for (i = 0; i < out->held; i++) {
+        putchar(digits[out->bytes[i] >> 4]);
+        putchar(digits[out->bytes[i] & 15]);
+    }
+}
+
+static void print_written(mf4_written written, const slice *out)
+{
+    print_reply(written.reply, written.told);
+    print_number("count", written.count);
+    print_out(out);
+}
+
+static void print_valid_value(mf4_valid_value answer)
+{
+    print_reply(answer.reply, answer.told);
+    print_decoded(answer.value);
+    print_number("is_valid", answer.is_valid);
+}
+
+/* ---- the calls -------------------------------------------------------------------------------------------------- */
+
+static void read_header(void)
+{
+    slice *bytes = next_input();
+    mf4_header answer;
+    if (is_malformed)
+        return;
+    answer = mf4_read_header(bytes->bytes, bytes->length);
+    print_reply(answer.reply, answer.told);
+    print_header(answer.header);
+}
+
+static void write_header(void)
+{
+    mf4_block_header header = next_header();
+    slice *out = next_output();
+    if (is_malformed)
+        return;
+    print_written(mf4_write_header(header, out->bytes, out->length), out);
+}
+
+static void type_code(void)
+{
+    uint8_t code = next_u8();
+    if (is_malformed)
+        return;
+    print_number("answer", mf4_type_code(code));
+}
+
+static void default_bits(void)
+{
+    uint8_t code = next_u8();
+    if (is_malformed)
+        return;
+    print_number("answer", mf4_default_bits(code));
+}
+
+static void read_list(void)
+{
+    slice *bytes = next_input();
+    mf4_list answer;
+    if (is_malformed)
+        return;
+    answer = mf4_read_list(bytes->bytes, bytes->length);
+    print_reply(answer.reply, answer.told);
+    print_header(answer.header);
+    print_number("next", answer.next);
+    print_number("links_at", answer.links_at);
+    print_number("links", answer.links);
+    print_number("flags", answer.flags);
+    print_number("reserved1", answer.reserved1);
+    print_number("data_block_nr", answer.data_block_nr);
+    print_number("rest_at", answer.rest_at);
+    print_number("rest", answer.rest);
+}
+
+static void write_list_equal(void)
+{
+    slice *out = next_output();
+    uint64_t next = next_u64();
+    slice *links = next_numbers();
+    uint64_t length = next_u64();
+    if (is_malformed)
+        return;
+    print_written(mf4_write_list_equal(out->bytes, out->length, next, numbers_of(links), count_of_numbers(links), length),
+                  out);
+}
+
+static void write_list_variable(void)
+{
+    slice *out = next_output();
+    uint64_t next = next_u64();
+    slice *links = next_numbers();
+    slice *offsets = next_numbers();
+    if (is_malformed)
+        return;
+    print_written(mf4_write_list_variable(out->bytes, out->length, next, numbers_of(links), count_of_numbers(links),
+                                          numbers_of(offsets), count_of_numbers(offsets)),
+                  out);
+}
+
+static void decode_value(void)
+{
+    slice *record = next_input();
+    uint64_t record_id_size = next_u64();
+    mf4_channel channel = next_channel();
+    mf4_value answer;
+    if (is_malformed)
+        return;
+    answer = mf4_decode_value(record->bytes, record->length, record_id_size, channel);
+    print_reply(answer.reply, answer.told);
+    print_decoded(answer.value);
+}
+
+static void check_validity(void)
+{
+    slice *record = next_input();
+    uint64_t record_id_size = next_u64();
+    uint32_t data_bytes = next_u32();
+    mf4_channel channel = next_channel();
+    if (is_malformed)
+        return;
+    print_number("answer", mf4_check_validity(record->bytes, record->length, record_id_size, data_bytes, channel));
+}
+
+static void decode_valid_value(void)
+{
+    slice *record = next_input();
+    uint64_t record_id_size = next_u64();
+    uint32_t data_bytes = next_u32();
+    mf4_channel channel = next_channel();
+    if (is_malformed)
+        return;
+    print_valid_value(mf4_decode_valid_value(record->bytes, record->length, record_id_size, data_bytes, channel));
+}
+
+static void decode_double(void)
+{
+    slice *record = next_input();
+    uint64_t record_id_size = next_u64();
+    mf4_channel channel = next_channel();
+    if (is_malformed)
+        return;
+    print_bits("answer", mf4_decode_double(record->bytes, record->length, record_id_size, channel));
+}
+
+static void text(mf4_text (*call)(const uint8_t *, size_t, uint8_t *, size_t))
+{
+    slice *bytes = next_input();
+    slice *out = next_output();
+    mf4_text answer;
+    if (is_malformed)
+        return;
+    answer = call(bytes->bytes, bytes->length, out->bytes, out->length);
+    print_reply(answer.reply, answer.told);
+    print_number("count", answer.count);
+    print_number("damaged", answer.damaged);
+    print_out(out);
+}
+
+static void text_latin1(void) { text(mf4_text_latin1); }
+static void text_utf8(void) { text(mf4_text_utf8); }
+static void text_utf16_le(void) { text(mf4_text_utf16_le); }
+static void text_utf16_be(void) { text(mf4_text_utf16_be); }
+
+static void read_record(void)
+{
+    slice *file = next_input();
+    uint64_t start = next_u64();
+    uint64_t number = next_u64();
+    uint64_t record_size = next_u64();
+    slice *buffer = next_output();
+    mf4_fetched answer;
+    if (is_malformed)
+        return;
+    answer = mf4_read_record(file->bytes, file->length, start, number, record_size, buffer->bytes, buffer->length);
+    print_reply(answer.reply, answer.told);
+    print_out(buffer);
+}
+
+static void record_value(void)
+{
+    slice *file = next_input();
+    uint64_t start = next_u64();
+    uint64_t number = next_u64();
+    uint64_t record_size = next_u64();
+    uint64_t record_id_size = next_u64();
+    uint32_t data_bytes = next_u32();
+    mf4_channel channel = next_channel();
+    slice *buffer = next_output();
+    if (is_malformed)
+        return;
+    print_valid_value(mf4_record_value(file->bytes, file->length, start, number, record_size, record_id_size, data_bytes,
+                                       channel, buffer->bytes, buffer->length));
+    print_out(buffer);
+}
+
+static const struct {
+    const char *name;
+    void (*answer)(void);
+} calls[] = {
+    {"read_header", read_header},
+    {"write_header", write_header},
+    {"type_code", type_code},
+    {"default_bits", default_bits},
+    {"read_list", read_list},
+    {"write_list_equal", write_list_equal},
+    {"write_list_variable", write_list_variable},
+    {"decode_value", decode_value},
+    {"check_validity", check_validity},
+    {"decode_valid_value", decode_valid_value},
+    {"decode_double", decode_double},
+    {"text_latin1", text_latin1},
+    {"text_utf8", text_utf8},
+    {"text_utf16_le", text_utf16_le},
+    {"text_utf16_be", text_utf16_be},
+    {"read_record", read_record},
+    {"record_value", record_value},
+};
+
+static void answer_case(char *line)
+{
+    const char *name;
+    size_t i;
+    rest_of_line = line;
+    is_malformed = 0;
+    separator = "";
+    name = next_word();
+    for (i = 0; i < sizeof calls / sizeof calls[0]; i++)
+        if (strcmp(name, calls[i].name) == 0)
+            break;
+    if (i < sizeof calls / sizeof calls[0])
+        calls[i].answer();
+    else
+        is_malformed = 1;
+    if (is_malformed)
+        fputs("malformed", stdout);
+    else
+        print_wrong_changes();
+    putchar('\n');
+    fflush(stdout); /* if a case ends the driver, the results in front of it are out */
+    forget_slices();
+}
+
+/* ---- lines ------------------------------------------------------------------------------------------------------ */
+
+static char *line;
+static size_t line_size;
+
+/* The next line without its end, of any length. 0 at the end of the input. */
+static int read_line(void)
+{
+    size_t length = 0;
+    int character;
+    while ((character = getchar()) != EOF && character != '\n') {
+        if (length + 2 > line_size) {
+            line_size = 2 * line_size + 4096;
+            line = realloc(line, line_size);
+            if (line == NULL) {
+                fputs("driver: out of memory\n", stderr);
+                exit(2);
+            }
+        }
+        line[length++] = (char)character;
+    }
+    if (character == EOF && length == 0)
+        return 0;
+    if (line == NULL) {
+        line_size = 4096;
+        line = allocated(line_size);
+    }
+    line[length] = '\0';
+    return 1;
+}
+
+int main(void)
+{
+    while (read_line())
+        answer_case(line);
+    free(line);
+    free(scratch);
+    return 0;
+}

@@ -1,0 +1,154 @@
+"""Cases and results as lines of words, so that a driver in another language can answer the same cases.
+
+A case is a call's name and its arguments in the order of reference.py. As words:
+
+    number      decimal
+    bytes       x and hex digits; "HEX*COUNT" repeats, "+" joins:  x0102  xa5*100  x01+00*30+02
+                an empty slice is "x", or "-" for a NULL pointer with the count 0
+    long file   z and a length: a file of that length, of which no byte may be looked at
+    numbers     u and decimals with commas between:  u1,2,3   (empty: "u", or "-" for NULL)
+    header      4 numbers, channel: 8 numbers, in the order of their C structs
+
+A result is the fields of the C struct as name=number words in the order of mf4.h, a plain answer as answer=number, and
+the output buffer afterwards as out=x and hex digits. Bits of doubles are 0x and 16 hex digits.
+"""
+
+import reference
+from reference import Channel, Header
+
+SHORTEST_REPEAT = 16
+
+
+class LongFile:
+    """A file that is too long to make. The rules refuse it before they look at a byte of it."""
+
+    def __init__(self, length):
+        self.length = length
+
+    def __len__(self):
+        return self.length
+
+    def __eq__(self, other):
+        return isinstance(other, LongFile) and self.length == other.length
+
+
+NUMBER, BYTES, NUMBERS, HEADER, CHANNEL = "number", "bytes", "numbers", "header", "channel"
+
+ON_RECORD = (BYTES, NUMBER, CHANNEL)
+ON_RECORD_WITH_VALIDITY = (BYTES, NUMBER, NUMBER, CHANNEL)
+ON_TEXT = (BYTES, BYTES)
+
+CALLS = {
+    "read_header": (reference.read_header, (BYTES,)),
+    "write_header": (reference.write_header, (HEADER, BYTES)),
+    "type_code": (reference.type_code, (NUMBER,)),
+    "default_bits": (reference.default_bits, (NUMBER,)),
+    "read_list": (reference.read_list, (BYTES,)),
+    "write_list_equal": (reference.write_list_equal, (BYTES, NUMBER, NUMBERS, NUMBER)),
+    "write_list_variable": (reference.write_list_variable, (BYTES, NUMBER, NUMBERS, NUMBERS)),
+    "decode_value": (reference.decode_value, ON_RECORD),
+    "check_validity": (reference.check_validity, ON_RECORD_WITH_VALIDITY),
+    "decode_valid_value": (reference.decode_valid_value, ON_RECORD_WITH_VALIDITY),
+    "decode_double": (reference.decode_double, ON_RECORD),
+    "text_latin1": (reference.text_latin1, ON_TEXT),
+    "text_utf8": (reference.text_utf8, ON_TEXT),
+    "text_utf16_le": (reference.text_utf16_le, ON_TEXT),
+    "text_utf16_be": (reference.text_utf16_be, ON_TEXT),
+    "read_record": (reference.read_record, (BYTES, NUMBER, NUMBER, NUMBER, BYTES)),
+    "record_value": (reference.record_value,
+                     (BYTES, NUMBER, NUMBER, NUMBER, NUMBER, NUMBER, CHANNEL, BYTES)),
+}
+
+# ---- cases -------------------------------------------------------------------------------------------------------------
+
+
+def bytes_word(content, null_if_empty):
+    if isinstance(content, LongFile):
+        return f"z{content.length}"
+    if not content:
+        return "-" if null_if_empty else "x"
+    if len(content) > SHORTEST_REPEAT and content == content[:1] * len(content):
+        return f"x{content[:1].hex()}*{len(content)}"
+    return "x" + content.hex()
+
+
+def bytes_of_word(word):
+    if word == "-":
+        return b""
+    if word.startswith("z"):
+        return LongFile(int(word[1:]))
+    pieces = []
+    for piece in word[1:].split("+"):
+        digits, _, count = piece.partition("*")
+        pieces.append(bytes.fromhex(digits) * int(count or "1"))
+    return b"".join(pieces)
+
+
+def numbers_word(numbers, null_if_empty):
+    if not numbers and null_if_empty:
+        return "-"
+    return "u" + ",".join(map(str, numbers))
+
+
+def numbers_of_word(word):
+    return [int(digits) for digits in word[1:].split(",") if digits]
+
+
+def case_line(call, arguments, null_if_empty=False):
+    words = [call]
+    for form, argument in zip(CALLS[call][1], arguments):
+        if form == BYTES:
+            words.append(bytes_word(argument, null_if_empty))
+        elif form == NUMBERS:
+            words.append(numbers_word(argument, null_if_empty))
+        elif form in (HEADER, CHANNEL):
+            words.extend(map(str, argument))
+        else:
+            words.append(str(argument))
+    return " ".join(words)
+
+
+def case_of_line(line):
+    call, *words = line.split()
+    arguments = []
+    for form in CALLS[call][1]:
+        if form == HEADER:
+            arguments.append(Header(*(int(words.pop(0)) for _ in range(4))))
+        elif form == CHANNEL:
+            arguments.append(Channel(*(int(words.pop(0)) for _ in range(8))))
+        elif form == BYTES:
+            arguments.append(bytes_of_word(words.pop(0)))
+        elif form == NUMBERS:
+            arguments.append(numbers_of_word(words.pop(0)))
+        else:
+            arguments.append(int(words.pop(0)))
+    if words:
+        raise ValueError("words left over")
+    return call, tuple(arguments)
+
+
+# ---- results -----------------------------------------------------------------------------------------------------------
+
+
+def field_words(struct):
+    words = []
+    for name, field in zip(struct._fields, struct):
+        if isinstance(field, tuple):
+            words.extend(field_words(field))
+        elif name == "double_bits":
+            words.append(f"double_bits=0x{field:016x}")
+        else:
+            words.append(f"{name}={field}")
+    return words
+
+
+def result_line(call, arguments):
+    result = CALLS[call][0](*arguments)
+    if call == "decode_double":
+        return f"answer=0x{result:016x}"
+    if isinstance(result, int):
+        return f"answer={result}"
+    if hasattr(result, "_fields"):
+        return " ".join(field_words(result))
+    struct, out = result
+    return " ".join(field_words(struct) + ["out=x" + out.hex()])

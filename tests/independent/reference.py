@@ -1,0 +1,616 @@
+"""Every call of mf4.h as a plain function over bytes and whole numbers, written from the rules of the scope document.
+
+It shares no code with the library or with the crate that the library ports. Python's whole numbers never wrap, so "summed
+without wrapping" is an ordinary sum here, and "at most 2^64-1" is a min().
+
+A call that can refuse returns a tuple with the fields of its C struct; reply is 0 for an answer. A call with an output
+buffer returns that tuple and the buffer as it stands afterwards.
+"""
+
+from typing import NamedTuple
+
+LARGEST = 2**64 - 1
+NAN = 0x7FF8000000000000
+
+HEADER_SIZE = 24
+LIST_ID = b"##DL"
+DATA_ID = b"##DT"
+MOST_FILE_BYTES = 2**40
+MOST_LISTS = 256
+MOST_FRAGMENTS = 4096
+MOST_JOINED_BYTES = 2**63 - 1
+MOST_RECORD_BYTES = 16384
+
+# ---- replies -----------------------------------------------------------------------------------------------------------
+
+ANSWER = 0
+NO_VALUE = 1
+TOO_FEW_BYTES = 2
+OTHER_ID = 3
+NO_LINKS = 4
+UNWRITABLE_LIST = 5
+NO_ROOM = 6
+FILE_TOO_LONG = 7
+TOO_MANY_LISTS = 8
+TOO_MANY_FRAGMENTS = 9
+LIST_DISAGREES = 10
+NO_BLOCK_THERE = 11
+BAD_DATA_BLOCK = 12
+UNTRUE_DECLARATION = 13
+DATA_TOO_LONG = 14
+BAD_RECORD_SIZE = 15
+NO_SUCH_RECORD = 16
+
+
+class Refusal(Exception):
+    def __init__(self, number, told=0):
+        super().__init__(number, told)
+        self.number = number
+        self.told = min(told, LARGEST)
+
+
+def refuse_if(condition, number, told=0):
+    if condition:
+        raise Refusal(number, told)
+
+
+# ---- the structs of mf4.h ----------------------------------------------------------------------------------------------
+
+
+class Header(NamedTuple):
+    id: int = 0
+    reserved0: int = 0
+    block_len: int = 0
+    links_nr: int = 0
+
+
+class HeaderReply(NamedTuple):
+    reply: int = ANSWER
+    told: int = 0
+    header: Header = Header()
+
+
+class Written(NamedTuple):
+    reply: int = ANSWER
+    told: int = 0
+    count: int = 0
+
+
+class ListReply(NamedTuple):
+    reply: int = ANSWER
+    told: int = 0
+    header: Header = Header()
+    next: int = 0
+    links_at: int = 0
+    links: int = 0
+    flags: int = 0
+    reserved1: int = 0
+    data_block_nr: int = 0
+    rest_at: int = 0
+    rest: int = 0
+
+
+class Channel(NamedTuple):
+    data_type: int = 0
+    channel_type: int = 0
+    bit_offset: int = 0
+    byte_offset: int = 0
+    bit_count: int = 0
+    flags: int = 0
+    pos_invalidation_bit: int = 0
+    data: int = 0
+
+
+class Decoded(NamedTuple):
+    kind: int = 0
+    unsigned_value: int = 0
+    signed_value: int = 0
+    double_bits: int = 0
+    at: int = 0
+    length: int = 0
+
+
+class Value(NamedTuple):
+    reply: int = ANSWER
+    told: int = 0
+    value: Decoded = Decoded()
+
+
+class ValidValue(NamedTuple):
+    reply: int = ANSWER
+    told: int = 0
+    value: Decoded = Decoded()
+    is_valid: int = 0
+
+
+class Text(NamedTuple):
+    reply: int = ANSWER
+    told: int = 0
+    count: int = 0
+    damaged: int = 0
+
+
+class Fetched(NamedTuple):
+    reply: int = ANSWER
+    told: int = 0
+
+
+# ---- bytes -------------------------------------------------------------------------------------------------------------
+
+
+def little(block, place, size):
+    return int.from_bytes(block[place:place + size], "little")
+
+
+def little_bytes(number, size):
+    return number.to_bytes(size, "little")
+
+
+def placed(content, out):
+    """The output buffer once the content stands at its start; refused with 6 if it does not fit."""
+    refuse_if(len(content) > len(out), NO_ROOM, len(content))
+    return content + out[len(content):]
+
+
+# ---- block headers -----------------------------------------------------------------------------------------------------
+
+
+def header_of(block):
+    refuse_if(len(block) < HEADER_SIZE, TOO_FEW_BYTES, HEADER_SIZE)
+    return Header(little(block, 0, 4), little(block, 4, 4), little(block, 8, 8), little(block, 16, 8))
+
+
+def header_bytes(header):
+    return (little_bytes(header.id, 4) + little_bytes(header.reserved0, 4)
+            + little_bytes(header.block_len, 8) + little_bytes(header.links_nr, 8))
+
+
+def read_header(block):
+    try:
+        return HeaderReply(header=header_of(block))
+    except Refusal as refusal:
+        return HeaderReply(refusal.number, refusal.told)
+
+
+def write_header(header, out):
+    try:
+        return Written(count=HEADER_SIZE), placed(header_bytes(header), out)
+    except Refusal as refusal:
+        return Written(refusal.number, refusal.told), out
+
+
+# ---- data types --------------------------------------------------------------------------------------------------------
+
+UNSIGNED_LE, UNSIGNED_BE, SIGNED_LE, SIGNED_BE, FLOAT_LE, FLOAT_BE = range(6)
+LATIN1, UTF8, UTF16_LE, UTF16_BE = range(6, 10)
+BYTE_ARRAY, MIME_SAMPLE, MIME_STREAM = range(10, 13)
+CANOPEN_DATE, CANOPEN_TIME = range(13, 15)
+COMPLEX_LE, COMPLEX_BE = range(15, 17)
+
+INTEGERS = (UNSIGNED_LE, UNSIGNED_BE, SIGNED_LE, SIGNED_BE)
+FLOATS = (FLOAT_LE, FLOAT_BE)
+NUMBERS = INTEGERS + FLOATS
+BIG_ENDIAN_NUMBERS = (UNSIGNED_BE, SIGNED_BE, FLOAT_BE)
+TEXTS = (LATIN1, UTF8, UTF16_LE, UTF16_BE)
+PLAIN_BYTES = (BYTE_ARRAY, MIME_SAMPLE, MIME_STREAM)
+
+
+def type_code(code):
+    return code if code <= COMPLEX_BE else 0
+
+
+def default_bits(code):
+    if code in NUMBERS:
+        return 32
+    if code in (CANOPEN_DATE, CANOPEN_TIME, COMPLEX_LE, COMPLEX_BE):
+        return 64
+    return 8
+
+
+# ---- data lists --------------------------------------------------------------------------------------------------------
+
+
+def list_of(block):
+    header = header_of(block)
+    refuse_if(little_bytes(header.id, 4) != LIST_ID, OTHER_ID)
+    refuse_if(header.links_nr == 0, NO_LINKS)
+    after_links = HEADER_SIZE + 8 * header.links_nr
+    rest_at = after_links + 8
+    refuse_if(len(block) < rest_at, TOO_FEW_BYTES, rest_at)
+    flags = block[after_links]
+    data_block_nr = little(block, after_links + 4, 4)
+    rest = 1 if flags & 1 else data_block_nr
+    refuse_if(len(block) < rest_at + 8 * rest, TOO_FEW_BYTES, rest_at + 8 * rest)
+    return ListReply(
+        header=header,
+        next=little(block, HEADER_SIZE, 8),
+        links_at=HEADER_SIZE + 8,
+        links=header.links_nr - 1,  # the first link of the block is the next list
+        flags=flags,
+        reserved1=little(block, after_links + 1, 3),
+        data_block_nr=data_block_nr,
+        rest_at=rest_at,
+        rest=rest)
+
+
+def read_list(block):
+    try:
+        return list_of(block)
+    except Refusal as refusal:
+        return ListReply(refusal.number, refusal.told)
+
+
+def list_bytes(next_list, links, flags, rest):
+    size = HEADER_SIZE + 8 + 8 * len(links) + 8 + 8 * len(rest)
+    header = Header(int.from_bytes(LIST_ID, "little"), 0, size, 1 + len(links))
+    flags_and_count = bytes([flags, 0, 0, 0]) + little_bytes(len(links), 4)
+    return (header_bytes(header) + little_bytes(next_list, 8) + b"".join(little_bytes(link, 8) for link in links)
+            + flags_and_count + b"".join(little_bytes(number, 8) for number in rest))
+
+
+def write_list(out, unwritable, next_list, links, flags, rest):
+    try:
+        refuse_if(unwritable, UNWRITABLE_LIST)
+        content = list_bytes(next_list, links, flags, rest)
+        return Written(count=len(content)), placed(content, out)
+    except Refusal as refusal:
+        return Written(refusal.number, refusal.told), out
+
+
+def write_list_equal(out, next_list, links, length):
+    return write_list(out, len(links) > MOST_FRAGMENTS, next_list, links, 1, [length])
+
+
+def write_list_variable(out, next_list, links, offsets):
+    unwritable = len(links) > MOST_FRAGMENTS or len(links) != len(offsets)
+    return write_list(out, unwritable, next_list, links, 0, offsets)
+
+
+# ---- doubles -----------------------------------------------------------------------------------------------------------
+
+
+def nearest_double(number):
+    """The bits of the double nearest to a whole number, ties to the even significand."""
+    if number == 0:
+        return 0
+    sign, size = (1 if number < 0 else 0), abs(number)
+    exponent = size.bit_length() - 1  # 2^exponent <= size < 2^(exponent + 1)
+    surplus = exponent - 52
+    if surplus <= 0:
+        significand = size << -surplus
+    else:
+        significand, rest = divmod(size, 2**surplus)
+        half = 2**(surplus - 1)
+        if rest > half or (rest == half and significand % 2 == 1):
+            significand += 1
+        if significand == 2**53:
+            significand, exponent = 2**52, exponent + 1
+    return sign << 63 | (exponent + 1023) << 52 | (significand - 2**52)
+
+
+def widened(single):
+    """The bits of the double that is equal to a 32-bit float; every NaN becomes the one NaN."""
+    sign, exponent, fraction = single >> 31, single >> 23 & 0xFF, single & 0x7FFFFF
+    if exponent == 0xFF:
+        return NAN if fraction else sign << 63 | 0x7FF << 52
+    if exponent:
+        return sign << 63 | (exponent - 127 + 1023) << 52 | fraction << 29
+    if fraction == 0:
+        return sign << 63
+    top = fraction.bit_length() - 1  # the value is fraction * 2^-149, and a double has room to make it normal
+    return sign << 63 | (top - 149 + 1023) << 52 | ((fraction << (52 - top)) - 2**52)
+
+
+# ---- a value from a record ---------------------------------------------------------------------------------------------
+
+UNSIGNED_KIND, SIGNED_KIND, DOUBLE_KIND, TEXT_KIND, BYTES_KIND, SAMPLE_KIND, STREAM_KIND, UNKNOWN_KIND = range(1, 9)
+KIND_OF_PLAIN_BYTES = {BYTE_ARRAY: BYTES_KIND, MIME_SAMPLE: SAMPLE_KIND, MIME_STREAM: STREAM_KIND}
+
+
+def is_variable_length(channel):
+    return channel.channel_type == 1 and channel.data != 0
+
+
+def span_of(channel):
+    if channel.data_type in TEXTS + PLAIN_BYTES:
+        return channel.bit_count // 8  # the bit offset plays no part
+    return max(1, (channel.bit_offset + channel.bit_count + 7) // 8)
+
+
+def place_and_span(record, id_size, channel):
+    """Where the bytes of the field stand in the record or payload, and how many they are."""
+    if not is_variable_length(channel):
+        place, span = id_size + channel.byte_offset, span_of(channel)
+    elif channel.data_type in NUMBERS:
+        place, span = 0, span_of(channel)
+    else:
+        place, span = 0, len(record)
+    refuse_if(place + span > len(record), NO_VALUE)
+    return place, span
+
+
+def check_number_shape(channel):
+    refuse_if(channel.bit_count == 0 or channel.bit_offset > 7, NO_VALUE)
+    if channel.data_type in FLOATS:
+        refuse_if(channel.bit_count not in (32, 64), NO_VALUE)
+    else:
+        refuse_if(channel.bit_count > 64, NO_VALUE)
+
+
+def number_of(span_bytes, channel):
+    order = "big" if channel.data_type in BIG_ENDIAN_NUMBERS else "little"
+    field = int.from_bytes(span_bytes, order) // 2**channel.bit_offset % 2**channel.bit_count
+    if channel.data_type in (UNSIGNED_LE, UNSIGNED_BE):
+        return Decoded(UNSIGNED_KIND, unsigned_value=field)
+    if channel.data_type in (SIGNED_LE, SIGNED_BE):
+        is_negative = field >= 2**(channel.bit_count - 1)
+        return Decoded(SIGNED_KIND, signed_value=field - 2**channel.bit_count if is_negative else field)
+    return Decoded(DOUBLE_KIND, double_bits=widened(field) if channel.bit_count == 32 else field)
+
+
+def length_up_to_stop(field, encoding):
+    """How many bytes of a text's field stand before its stop."""
+    if encoding in (LATIN1, UTF8):
+        return field.index(0) if 0 in field else len(field)
+    units = [field[i:i + 2] for i in range(0, len(field) - 1, 2)]  # an odd last byte is dropped
+    return 2 * (units.index(b"\0\0") if b"\0\0" in units else len(units))
+
+
+def value_of(record, id_size, channel):
+    if channel.data_type in NUMBERS:
+        check_number_shape(channel)
+    place, span = place_and_span(record, id_size, channel)
+    field = record[place:place + span]
+    if channel.data_type in NUMBERS:
+        return number_of(field, channel)
+    if channel.data_type in TEXTS:
+        return Decoded(TEXT_KIND, at=place, length=length_up_to_stop(field, channel.data_type))
+    if channel.data_type in PLAIN_BYTES:
+        return Decoded(KIND_OF_PLAIN_BYTES[channel.data_type], at=place, length=span)
+    return Decoded(UNKNOWN_KIND)
+
+
+def decode_value(record, id_size, channel):
+    try:
+        return Value(value=value_of(record, id_size, channel))
+    except Refusal as refusal:
+        return Value(refusal.number, refusal.told)
+
+
+def check_validity(record, id_size, data_bytes, channel):
+    if channel.flags & 1:
+        return 0
+    if not channel.flags & 2:
+        return 1
+    place = id_size + data_bytes + channel.pos_invalidation_bit // 8
+    if place >= len(record):
+        return 1
+    return 0 if record[place] >> channel.pos_invalidation_bit % 8 & 1 else 1
+
+
+def decode_valid_value(record, id_size, data_bytes, channel):
+    try:
+        value = value_of(record, id_size, channel)
+        return ValidValue(value=value, is_valid=check_validity(record, id_size, data_bytes, channel))
+    except Refusal as refusal:
+        return ValidValue(refusal.number, refusal.told)
+
+
+def decode_double(record, id_size, channel):
+    if is_variable_length(channel):
+        return NAN  # even where the payload holds a number
+    value = decode_value(record, id_size, channel).value
+    if value.kind == UNSIGNED_KIND:
+        return nearest_double(value.unsigned_value)
+    if value.kind == SIGNED_KIND:
+        return nearest_double(value.signed_value)
+    if value.kind == DOUBLE_KIND:
+        return value.double_bits
+    return NAN
+
+
+# ---- texts -------------------------------------------------------------------------------------------------------------
+
+TAIL = (0x80, 0xBF)
+
+# The Unicode Standard, table 3-7, "Well-Formed UTF-8 Byte Sequences": the first byte, then the bytes behind it.
+WELL_FORMED_UTF8 = (
+    ((0x00, 0x7F), ()),
+    ((0xC2, 0xDF), (TAIL,)),
+    ((0xE0, 0xE0), ((0xA0, 0xBF), TAIL)),
+    ((0xE1, 0xEC), (TAIL, TAIL)),
+    ((0xED, 0xED), ((0x80, 0x9F), TAIL)),
+    ((0xEE, 0xEF), (TAIL, TAIL)),
+    ((0xF0, 0xF0), ((0x90, 0xBF), TAIL, TAIL)),
+    ((0xF1, 0xF3), (TAIL, TAIL, TAIL)),
+    ((0xF4, 0xF4), ((0x80, 0x8F), TAIL, TAIL)),
+)
+
+# What the first byte gives to the scalar value, by the number of bytes behind it (table 3-6).
+FIRST_BYTE_MASK = (0x7F, 0x1F, 0x0F, 0x07)
+
+
+class Damaged(Exception):
+    pass
+
+
+def tails_after(first):
+    for (low, high), tails in WELL_FORMED_UTF8:
+        if low <= first <= high:
+            return tails
+    raise Damaged
+
+
+def scalars_of_latin1(text):
+    return list(text)
+
+
+def scalars_of_utf8(text):
+    scalars, place = [], 0
+    while place < len(text):
+        tails = tails_after(text[place])
+        behind = text[place + 1:place + 1 + len(tails)]
+        if len(behind) < len(tails) or not all(low <= byte <= high for byte, (low, high) in zip(behind, tails)):
+            raise Damaged
+        scalar = text[place] & FIRST_BYTE_MASK[len(tails)]
+        for byte in behind:
+            scalar = scalar * 64 + (byte & 0x3F)
+        scalars.append(scalar)
+        place += 1 + len(tails)
+    return scalars
+
+
+def scalars_of_utf16(units):
+    """Table 3-5: a unit outside D800..DFFF is itself; a high surrogate needs a low one behind it."""
+    scalars, place = [], 0
+    while place < len(units):
+        unit = units[place]
+        if not 0xD800 <= unit <= 0xDFFF:
+            scalars.append(unit)
+            place += 1
+        elif unit <= 0xDBFF and place + 1 < len(units) and 0xDC00 <= units[place + 1] <= 0xDFFF:
+            scalars.append(0x10000 + (unit - 0xD800) * 0x400 + (units[place + 1] - 0xDC00))
+            place += 2
+        else:
+            raise Damaged
+    return scalars
+
+
+def units_of(text, order):
+    return [int.from_bytes(text[i:i + 2], order) for i in range(0, len(text), 2)]
+
+
+def utf8_of_scalar(scalar):
+    """Table 3-6, "UTF-8 Bit Distribution"."""
+    if scalar < 0x80:
+        return bytes([scalar])
+    if scalar < 0x800:
+        return bytes([0xC0 | scalar >> 6, 0x80 | scalar & 0x3F])
+    if scalar < 0x10000:
+        return bytes([0xE0 | scalar >> 12, 0x80 | scalar >> 6 & 0x3F, 0x80 | scalar & 0x3F])
+    return bytes([0xF0 | scalar >> 18, 0x80 | scalar >> 12 & 0x3F, 0x80 | scalar >> 6 & 0x3F, 0x80 | scalar & 0x3F])
+
+
+# For each encoding: the scalar values of a text that ends at its stop, and what is written for damaged text.
+ENCODINGS = {
+    LATIN1: (scalars_of_latin1, None),
+    UTF8: (scalars_of_utf8, b"<Invalid UTF8>"),
+    UTF16_LE: (lambda text: scalars_of_utf16(units_of(text, "little")), b"<Invalid UTF16LE>"),
+    UTF16_BE: (lambda text: scalars_of_utf16(units_of(text, "big")), b"<Invalid UTF16BE>"),
+}
+
+
+def text_as_utf8(text, encoding, out):
+    scalars_of, placeholder = ENCODINGS[encoding]
+    up_to_stop = text[:length_up_to_stop(text, encoding)]
+    try:
+        content, damaged = b"".join(utf8_of_scalar(scalar) for scalar in scalars_of(up_to_stop)), 0
+    except Damaged:
+        content, damaged = placeholder, 1
+    try:
+        return Text(count=len(content), damaged=damaged), placed(content, out)
+    except Refusal as refusal:
+        return Text(refusal.number, refusal.told), out
+
+
+def text_latin1(text, out):
+    return text_as_utf8(text, LATIN1, out)
+
+
+def text_utf8(text, out):
+    return text_as_utf8(text, UTF8, out)
+
+
+def text_utf16_le(text, out):
+    return text_as_utf8(text, UTF16_LE, out)
+
+
+def text_utf16_be(text, out):
+    return text_as_utf8(text, UTF16_BE, out)
+
+
+# ---- from chain to record ----------------------------------------------------------------------------------------------
+
+
+def is_no_block_address(file, address):
+    return address == 0 or address + HEADER_SIZE > len(file)
+
+
+def numbers_at(block, place, count):
+    return [little(block, place + 8 * i, 8) for i in range(count)]
+
+
+def chain_list_at(file, address):
+    """A list of the chain and its bytes. Its slice runs from its address to the end of the file."""
+    refuse_if(is_no_block_address(file, address), NO_BLOCK_THERE)
+    block = file[address:]
+    read = list_of(block)
+    fields_take = read.rest_at + 8 * read.rest
+    refuse_if(read.data_block_nr != read.links or read.header.block_len < fields_take, LIST_DISAGREES)
+    return read, block
+
+
+def fragment_at(file, address):
+    """A fragment's data: its block after the first 24 bytes."""
+    refuse_if(is_no_block_address(file, address), NO_BLOCK_THERE)
+    header = header_of(file[address:address + HEADER_SIZE])
+    end = address + header.block_len
+    is_sound = (little_bytes(header.id, 4) == DATA_ID and header.links_nr == 0
+                and header.block_len >= HEADER_SIZE and end <= len(file))
+    refuse_if(not is_sound, BAD_DATA_BLOCK)
+    return file[address + HEADER_SIZE:end]
+
+
+def is_declared_truly(read, declared, index, data_before, data):
+    """What a list says of its fragment number `index`, against the fragment."""
+    if not read.flags & 1:
+        return declared[index] == data_before
+    is_last = index == read.links - 1
+    return len(data) == declared[0] or (is_last and len(data) < declared[0])
+
+
+def joined_data(file, start):
+    """The data of the chain's fragments, joined in chain order.
+
+    Only a next link of 0 ends the chain: a list that links back to itself is read again, until a limit is passed.
+    """
+    joined = bytearray()
+    lists, fragments, address = 0, 0, start
+    while True:
+        refuse_if(lists == MOST_LISTS, TOO_MANY_LISTS)
+        read, block = chain_list_at(file, address)
+        lists += 1
+        fragments += read.links
+        refuse_if(fragments > MOST_FRAGMENTS, TOO_MANY_FRAGMENTS)
+        declared = numbers_at(block, read.rest_at, read.rest)
+        for index, link in enumerate(numbers_at(block, read.links_at, read.links)):
+            data = fragment_at(file, link)
+            refuse_if(len(joined) + len(data) > MOST_JOINED_BYTES, DATA_TOO_LONG)
+            refuse_if(not is_declared_truly(read, declared, index, len(joined), data), UNTRUE_DECLARATION)
+            joined += data
+        if read.next == 0:
+            return bytes(joined)
+        address = read.next
+
+
+def record_of(file, start, number, record_size, buffer_size):
+    refuse_if(record_size == 0 or record_size > MOST_RECORD_BYTES or buffer_size < record_size, BAD_RECORD_SIZE)
+    refuse_if(len(file) > MOST_FILE_BYTES, FILE_TOO_LONG)
+    joined = joined_data(file, start)
+    refuse_if((number + 1) * record_size > len(joined), NO_SUCH_RECORD)
+    return joined[number * record_size:(number + 1) * record_size]
+
+
+def read_record(file, start, number, record_size, buffer):
+    try:
+        return Fetched(), placed(record_of(file, start, number, record_size, len(buffer)), buffer)
+    except Refusal as refusal:
+        return Fetched(refusal.number, refusal.told), buffer
+
+
+def record_value(file, start, number, record_size, id_size, data_bytes, channel, buffer):
+    fetched, after = read_record(file, start, number, record_size, buffer)
+    if fetched.reply != ANSWER:
+        return ValidValue(fetched.reply, fetched.told), after
+    # The field is read from the record's bytes alone, and the record stays even if its field is refused.
+    return decode_valid_value(after[:record_size], id_size, data_bytes, channel), after

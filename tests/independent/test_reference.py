@@ -1,0 +1,402 @@
+"""Tests of reference.py: the document's examples, Python's own float() and codecs, and vectors from outside."""
+
+import codecs
+import random
+import struct
+import sys
+from fractions import Fraction
+
+import cases
+import protocol
+import reference as r
+from reference import Channel, Decoded, Header
+
+failures = 0
+
+
+def check(name, found, wanted):
+    global failures
+    if found != wanted:
+        failures += 1
+        print(f"FAILED {name}: found {found!r}, wanted {wanted!r}")
+
+
+def section(name, test):
+    before = failures
+    test()
+    if failures == before:
+        print(f"ok {name}")
+
+
+def hexed(digits):
+    return bytes.fromhex(digits)
+
+
+def field(data_type, bit_count, bit_offset=0, byte_offset=0, **others):
+    return Channel(data_type, 0, bit_offset, byte_offset, bit_count, **others)
+
+
+def unsigned(record, channel):
+    return value(record, channel).unsigned_value
+
+
+def signed(record, channel):
+    return value(record, channel).signed_value
+
+
+def value(record, channel):
+    answer = r.decode_value(record, 0, channel)
+    check(f"{channel} is answered", (answer.reply, answer.told), (0, 0))
+    return answer.value
+
+
+def double_of(bits):
+    return struct.unpack("<d", struct.pack("<Q", bits))[0]
+
+
+def bits_of(double):
+    return struct.unpack("<Q", struct.pack("<d", double))[0]
+
+
+NOTHING = r.Value(1, 0, Decoded())
+
+# ---- the document's examples -------------------------------------------------------------------------------------------
+
+
+def example_integers():
+    record = hexed("34 12")
+    check("unsigned LE", value(record, field(r.UNSIGNED_LE, 16)), Decoded(r.UNSIGNED_KIND, unsigned_value=4660))
+    check("unsigned BE", value(record, field(r.UNSIGNED_BE, 16)), Decoded(r.UNSIGNED_KIND, unsigned_value=13330))
+    check("8 bits from bit 4 LE", unsigned(record, field(r.UNSIGNED_LE, 8, 4)), 35)
+    check("8 bits from bit 4 BE", unsigned(record, field(r.UNSIGNED_BE, 8, 4)), 65)
+    for digits, wanted in (("F0", -1), ("80", -8), ("70", 7)):
+        for data_type in (r.SIGNED_LE, r.SIGNED_BE):
+            check(f"signed 4 bits of {digits}", signed(hexed(digits), field(data_type, 4, 4)), wanted)
+    check("signed 1 bit", signed(hexed("01"), field(r.SIGNED_LE, 1)), -1)
+    nine = bytes(8) + b"\x0f"
+    check("64 bits in 9 bytes", value(nine, field(r.SIGNED_LE, 64, 4)),
+          Decoded(r.SIGNED_KIND, signed_value=-1152921504606846976))
+    check("64 bits in 8 bytes", r.decode_value(nine[:8], 0, field(r.SIGNED_LE, 64, 4)), NOTHING)
+
+
+def example_floats():
+    check("1.0", value(hexed("00 00 80 3F"), field(r.FLOAT_LE, 32)), Decoded(r.DOUBLE_KIND, double_bits=bits_of(1.0)))
+    check("smallest single", value(hexed("01 00 00 00"), field(r.FLOAT_LE, 32)),
+          Decoded(r.DOUBLE_KIND, double_bits=0x36A0000000000000))
+    check("float of 16 bits", r.decode_value(hexed("00 00 80 3F"), 0, field(r.FLOAT_LE, 16)), NOTHING)
+
+
+def example_doubles():
+    for number, wanted in ((9007199254740993, 9007199254740992), (9007199254740995, 9007199254740996)):
+        bits = r.decode_double(number.to_bytes(8, "little"), 0, field(r.UNSIGNED_LE, 64))
+        check(f"{number} as a double", double_of(bits), float(wanted))
+
+
+def example_texts():
+    serial = hexed("50 58 31 00 39")
+    check("Latin-1 stops at NUL", value(serial, field(r.LATIN1, 40)), Decoded(r.TEXT_KIND, at=0, length=3))
+    for data_type in r.TEXTS:
+        check("7 bits at the end", value(b"ab", field(data_type, 7, 0, 2)), Decoded(r.TEXT_KIND, at=2, length=0))
+        check("7 bits past the end", r.decode_value(b"ab", 0, field(data_type, 7, 0, 3)), NOTHING)
+    check("UTF-16 with an odd byte", r.text_utf16_le(hexed("41 00 42"), b"...."), (r.Text(count=1), b"A..."))
+    check("half a pair", r.text_utf16_le(hexed("00 D8"), b"." * 18), (r.Text(count=17, damaged=1), b"<Invalid UTF16LE>."))
+    check("Latin-1 as UTF-8", r.text_latin1(hexed("E9"), b"..."), (r.Text(count=2), hexed("C3 A9") + b"."))
+
+
+def example_validity():
+    record = hexed("34 12 00 02")
+    for flags, position, wanted in ((2, 9, 0), (2, 16, 1), (3, 9, 0), (3, 16, 0), (0, 9, 1), (1, 16, 0)):
+        channel = field(r.UNSIGNED_LE, 16, flags=flags, pos_invalidation_bit=position)
+        check(f"validity, flags {flags}, position {position}", r.check_validity(record, 0, 2, channel), wanted)
+        check("both", r.decode_valid_value(record, 0, 2, channel),
+              r.ValidValue(value=Decoded(r.UNSIGNED_KIND, unsigned_value=4660), is_valid=wanted))
+
+
+def example_lists():
+    def one_link(flags, links_nr=1):
+        sizes = (40).to_bytes(8, "little") + links_nr.to_bytes(8, "little")
+        return b"##DL" + bytes(4) + sizes + bytes(8) + bytes([flags]) + bytes(7)
+
+    id_number = int.from_bytes(b"##DL", "little")
+    check("one link, no blocks", r.read_list(one_link(0)),
+          r.ListReply(header=Header(id_number, 0, 40, 1), links_at=32, links=0, rest_at=40, rest=0))
+    check("one length", r.read_list(one_link(1)), r.ListReply(2, 48))
+    check("very many links", r.read_list(one_link(0, 2**64 - 1)), r.ListReply(2, 18446744073709551615))
+    equal, equal_bytes = r.write_list_equal(bytes(100), 0, [100, 200], 5)
+    variable, variable_bytes = r.write_list_variable(bytes(100), 0, [100, 200], [0, 5])
+    check("two links with one length", equal, r.Written(count=64))
+    check("two links with offsets", variable, r.Written(count=72))
+    check("one length, in bytes", equal_bytes[:64],
+          hexed("23 23 44 4c 00000000 4000000000000000 0300000000000000 0000000000000000 6400000000000000 c800000000000000"
+                "01 000000 02000000 0500000000000000"))
+    check("offsets, in bytes", variable_bytes[:72],
+          hexed("23 23 44 4c 00000000 4800000000000000 0300000000000000 0000000000000000 6400000000000000 c800000000000000"
+                "00 000000 02000000 0000000000000000 0500000000000000"))
+
+
+def example_chain():
+    data = hexed("01 02 03 04 05 06")
+    rng = random.Random(1)
+    cut = cases.Chain(rng, [data[:3], b"", data[3:]], [([0, 1, 2], False)])
+    uncut = cases.Chain(rng, [data], [([0], True)])
+    for chain in (cut, uncut):
+        check("record 1", r.read_record(chain.file(), chain.start, 1, 2, b"..."), (r.Fetched(), hexed("03 04") + b"."))
+        check("record 3", r.read_record(chain.file(), chain.start, 3, 2, b".."), (r.Fetched(16), b".."))
+        check("field of record 1", r.record_value(chain.file(), chain.start, 1, 2, 0, 2, field(r.UNSIGNED_LE, 16), b".."),
+              (r.ValidValue(value=Decoded(r.UNSIGNED_KIND, unsigned_value=0x0403), is_valid=1), hexed("03 04")))
+        check("refused field of record 1", r.record_value(chain.file(), chain.start, 1, 2, 1, 2, field(0, 16), b".."),
+              (r.ValidValue(1), hexed("03 04")))
+
+
+# ---- rules without an example ------------------------------------------------------------------------------------------
+
+
+def rules_of_types():
+    check("codes", [r.type_code(code) for code in range(256)], list(range(17)) + [0] * 239)
+    check("default bits", [r.default_bits(code) for code in range(18)], [32] * 6 + [8] * 7 + [64] * 4 + [8])
+
+
+def rules_of_headers():
+    block = hexed("ff23c344 01020304 0500000000000080 0600000000000000 99")
+    answer = r.read_header(block)
+    check("header", answer, r.HeaderReply(header=Header(0x44C323FF, 0x04030201, 2**63 + 5, 6)))
+    check("short header", r.read_header(block[:23]), r.HeaderReply(2, 24))
+    check("header back", r.write_header(answer.header, bytes(26)), (r.Written(count=24), block[:24] + bytes(2)))
+    check("no room", r.write_header(answer.header, b"\7" * 23), (r.Written(6, 24), b"\7" * 23))
+
+
+def rules_of_writing():
+    for links, offsets in (([1], []), ([], [1]), ([0] * 4097, [0] * 4097)):
+        check("unwritable before no room", r.write_list_variable(b"", 0, links, offsets), (r.Written(5), b""))
+    check("too many links", r.write_list_equal(b"", 0, [0] * 4097, 0), (r.Written(5), b""))
+    check("no room", r.write_list_equal(b"\7", 0, [0] * 4096, 0), (r.Written(6, 48 + 8 * 4096), b"\7"))
+    rng = random.Random(2)
+    for _ in range(300):
+        links = [rng.getrandbits(64) for _ in range(rng.randint(0, 6))]
+        offsets = [rng.getrandbits(64) for _ in links]
+        next_list = rng.getrandbits(64)
+        written, out = r.write_list_variable(bytes(200), next_list, links, offsets)
+        read = r.read_list(out[:written.count])
+        check("what was written reads back", (read.reply, read.next, read.flags, read.data_block_nr, read.header.block_len),
+              (0, next_list, 0, len(links), written.count))
+        check("its links", r.numbers_at(out, read.links_at, read.links), links)
+        check("its offsets", r.numbers_at(out, read.rest_at, read.rest), offsets)
+
+
+def rules_of_values():
+    payload = Channel(r.UNSIGNED_LE, 1, 4, 99, 8, data=7)
+    check("payload number", r.decode_value(hexed("34 12"), 2**64 - 1, payload),
+          r.Value(value=Decoded(r.UNSIGNED_KIND, unsigned_value=0x23)))
+    check("payload number too short", r.decode_value(hexed("34"), 0, payload), NOTHING)
+    check("payload as a double", r.decode_double(hexed("34 12"), 0, payload), r.NAN)
+    check("payload text", r.decode_value(b"abc", 5, payload._replace(data_type=r.UTF8, bit_count=0)),
+          r.Value(value=Decoded(r.TEXT_KIND, at=0, length=3)))
+    check("no payload without a data link", r.decode_value(b"abc", 5, payload._replace(data=0)), NOTHING)
+    check("sum past 2^64", r.decode_value(b"abc", 2**64 - 1, field(0, 8, 0, 1)), NOTHING)
+    check("65 bits", r.decode_value(bytes(20), 0, field(0, 65)), NOTHING)
+    check("unknown type", r.decode_value(b"a", 0, field(99, 0)), r.Value(value=Decoded(r.UNKNOWN_KIND)))
+    check("unknown type past the end", r.decode_value(b"", 0, field(99, 0)), NOTHING)
+    check("64-bit NaN keeps its bits", value(hexed("01 00 00 00 00 00 f0 7f"), field(r.FLOAT_LE, 64)).double_bits,
+          0x7FF0000000000001)
+    check("32-bit NaN", value(hexed("ff ff ff ff"), field(r.FLOAT_LE, 32)).double_bits, r.NAN)
+    check("text as a double", r.decode_double(b"1", 0, field(r.UTF8, 8)), r.NAN)
+
+
+def rules_of_chains():
+    """Each refusal alone, on a file that is sound but for one fault."""
+    def asked(fault, number=0, size=1, room=1, start=None, is_equal=False):
+        chain = cases.Chain(random.Random(3), [b"\1\2", b"\3\4", b"\5"], [([0, 1], is_equal), ([2], is_equal)])
+        fault(chain)
+        return tuple(r.read_record(chain.file(), chain.start if start is None else start, number, size, bytes(room))[0])
+
+    def no_fault(_chain):
+        pass
+
+    def in_list(index, **fields):
+        return lambda chain: chain.lists[index].update(fields)
+
+    def in_data(index, **fields):
+        return lambda chain: chain.datas[index].update(fields)
+
+    check("sound", asked(no_fault), (0, 0))
+    check("record size 0", asked(no_fault, size=0), (15, 0))
+    check("record size 16385", asked(no_fault, size=16385, room=16385), (15, 0))
+    check("buffer one short", asked(no_fault, size=2, room=1), (15, 0))
+    check("start 0", asked(no_fault, start=0), (11, 0))
+    check("start past 2^63", asked(no_fault, start=2**64 - 1), (11, 0))
+    check("list id", asked(in_list(1, id=b"##DT")), (3, 0))
+    check("list without links", asked(in_list(1, links_nr=0)), (4, 0))
+    check("list with too many links", asked(in_list(0, links_nr=2**61)), (2, 2**64 - 1))
+    check("count", asked(in_list(0, count=1)), (10, 0))
+    check("block length", asked(in_list(0, block_len=71)), (10, 0))
+    check("block length may be more", asked(in_list(0, block_len=2**64 - 1)), (0, 0))
+    check("next", asked(in_list(1, next=2**64 - 24)), (11, 0))
+    check("data link", asked(in_list(0, links=[0, 0])), (11, 0))
+    check("data id", asked(in_data(2, id=b"##DL")), (12, 0))
+    check("data links", asked(in_data(0, links_nr=1)), (12, 0))
+    check("data length 23", asked(in_data(0, block_len=23)), (12, 0))
+    check("data past the file", asked(in_data(0, block_len=2**64 - 1)), (12, 0))
+    check("offset", asked(in_list(1, rest=[5])), (13, 0))
+    check("one length", asked(in_list(0, rest=[3]), is_equal=True), (13, 0))
+    check("last longer than the one length", asked(in_list(1, rest=[0]), is_equal=True), (13, 0))
+    check("last shorter than the one length", asked(in_list(1, rest=[2**64 - 1]), is_equal=True), (0, 0))
+    check("past the data", asked(no_fault, number=5), (16, 0))
+    check("number that would wrap", asked(no_fault, number=2**63, size=2, room=2), (16, 0))
+    check("long file", r.read_record(protocol.LongFile(2**40 + 1), 0, 0, 1, bytes(1))[0], r.Fetched(7))
+    check("longest file", r.read_record(protocol.LongFile(2**40), 0, 0, 1, bytes(1))[0], r.Fetched(11))
+
+
+# ---- vectors from outside ----------------------------------------------------------------------------------------------
+
+
+def outside_doubles():
+    for number, bits in ((2**53 + 1, 0x4340000000000000), (2**53 + 2, 0x4340000000000001), (2**53 + 3, 0x4340000000000002),
+                         (2**64 - 1, 0x43F0000000000000), (2**63, 0x43E0000000000000), (-2**63, 0xC3E0000000000000),
+                         (2**63 - 1, 0x43E0000000000000), (2**54 - 1, 0x4350000000000000), (2**53 - 1, 0x433FFFFFFFFFFFFF),
+                         (2**64 - 1024, 0x43F0000000000000), (2**64 - 1025, 0x43EFFFFFFFFFFFFF), (0, 0),
+                         (1, 0x3FF0000000000000), (-1, 0xBFF0000000000000)):
+        check(f"nearest to {number}", hex(r.nearest_double(number)), hex(bits))
+    for single, bits in ((0x00000000, 0), (0x80000000, 2**63), (0x3F800000, 0x3FF0000000000000), (0x00800000, 0x3810000000000000),
+                         (0x007FFFFF, 0x380FFFFFC0000000), (0x7F7FFFFF, 0x47EFFFFFE0000000), (0x7F800000, 0x7FF0000000000000),
+                         (0xFF800000, 0xFFF0000000000000), (0x7F800001, r.NAN), (0xFFC00000, r.NAN), (0xFFFFFFFF, r.NAN)):
+        check(f"single {single:#x}", hex(r.widened(single)), hex(bits))
+
+
+def outside_unicode():
+    damaged = ["C0 AF", "E0 80 BF", "F0 81 82 41",  # table 3-8: non-shortest forms
+               "ED A0 80", "ED BF BF", "ED AF 41",  # table 3-9: surrogates
+               "F4 91 92 93", "FF 41", "80 BF 42",  # table 3-10: other ill-formed sequences
+               "E1 80 E2 F0 91 92 F1 BF 41",  # table 3-11: truncated sequences
+               "C2", "E0 A0", "F0 90 80", "F4 90 80 80", "F5 80 80 80", "C1 BF", "F0 8F BF BF", "FE", "C3 28"]
+    for digits in damaged:
+        check(f"UTF-8 {digits}", r.text_utf8(hexed(digits), bytes(14)), (r.Text(count=14, damaged=1), b"<Invalid UTF8>"))
+    whole = ["4D D0 B0 E4 BA 8C F0 90 8C 82", "C2 80", "DF BF", "E0 A0 80", "ED 9F BF", "EE 80 80", "EF BF BF", "F0 90 80 80",
+             "F4 8F BF BF"]
+    for digits in whole:
+        text = hexed(digits)
+        check(f"UTF-8 {digits}", r.text_utf8(text, bytes(len(text))), (r.Text(count=len(text)), text))
+    check("table 3-4 UTF-16", r.text_utf16_be(hexed("004D 0430 4E8C D800DF02"), bytes(10)),
+          (r.Text(count=10), hexed("4D D0 B0 E4 BA 8C F0 90 8C 82")))
+    check("NUL before the damage", r.text_utf8(hexed("41 00 FF"), b".."), (r.Text(count=1), b"A."))
+    check("zero unit before the damage", r.text_utf16_be(hexed("0041 0000 D800"), b".."), (r.Text(count=1), b"A."))
+    check("zero bytes across units", r.text_utf16_be(hexed("4100 0041"), bytes(4)), (r.Text(count=4), hexed("E4 84 80 41")))
+    check("spelled placeholder", r.text_utf8(b"<Invalid UTF8>", bytes(14)), (r.Text(count=14), b"<Invalid UTF8>"))
+    check("no room for the placeholder", r.text_utf8(b"\xff", bytes(13)), (r.Text(6, 14), bytes(13)))
+
+
+# ---- Python's own conversions ------------------------------------------------------------------------------------------
+
+
+def python_floats():
+    rng = random.Random(4)
+    for _ in range(8000):
+        number = cases.hard_integer(rng, 64) * rng.choice([1, -1])
+        check(f"float({number})", r.nearest_double(number), bits_of(float(number)))
+    for _ in range(3000):  # nearest, by exact distances to the two neighbours
+        number = cases.hard_integer(rng, 64)
+        bits = r.nearest_double(number)
+        distance = abs(Fraction(double_of(bits)) - number)
+        for other in ([bits - 1] if bits else []) + [bits + 1]:
+            other_distance = abs(Fraction(double_of(other)) - number)
+            is_nearest = distance < other_distance or (distance == other_distance and bits % 2 == 0)
+            check(f"nothing nearer to {number}", is_nearest, True)
+    for _ in range(8000):
+        single = cases.hard_float(rng, 32)
+        as_float = struct.unpack("<f", struct.pack("<I", single))[0]
+        check(f"single {single:#x}", r.widened(single), r.NAN if as_float != as_float else bits_of(as_float))
+
+
+def python_integers():
+    """Fields read bit by bit from a string of the span's bits."""
+    rng = random.Random(5)
+    for _ in range(4000):
+        bit_count, bit_offset, data_type = rng.randint(1, 64), rng.randint(0, 7), rng.randint(0, 3)
+        record = rng.randbytes((bit_offset + bit_count + 7) // 8)
+        ordered = record if data_type in (1, 3) else record[::-1]
+        digits = "".join(f"{byte:08b}" for byte in ordered)
+        digits = digits[len(digits) - bit_offset - bit_count:len(digits) - bit_offset]
+        wanted = int(digits, 2)
+        if data_type in (2, 3) and digits[0] == "1":
+            wanted = -int("".join("10"[int(digit)] for digit in digits), 2) - 1
+        answer = value(record, field(data_type, bit_count, bit_offset))
+        check(f"{record.hex()} {data_type} {bit_offset} {bit_count}", answer.unsigned_value + answer.signed_value, wanted)
+
+
+def python_text(text, call):
+    """The same rules with Python's strict codecs."""
+    encoding, placeholder = {
+        "text_latin1": ("latin-1", None), "text_utf8": ("utf-8", b"<Invalid UTF8>"),
+        "text_utf16_le": ("utf-16-le", b"<Invalid UTF16LE>"), "text_utf16_be": ("utf-16-be", b"<Invalid UTF16BE>")}[call]
+    if "16" in encoding:
+        units = [text[i:i + 2] for i in range(0, len(text) // 2 * 2, 2)]
+        text = b"".join(units[:units.index(bytes(2))] if bytes(2) in units else units)
+    else:
+        text = text.split(b"\0")[0]
+    try:
+        return codecs.decode(text, encoding, "strict").encode("utf-8"), 0
+    except UnicodeDecodeError:
+        return placeholder, 1
+
+
+def python_codecs():
+    rng = random.Random(6)
+    for _ in range(8000):
+        call, (text, _out) = cases.random_text_case(rng)
+        content, damaged = python_text(text, call)
+        answer, out = getattr(r, call)(text, bytes(100))
+        wanted = (r.Text(count=len(content), damaged=damaged), content + bytes(100 - len(content)))
+        check(f"{call} {text.hex()}", (answer, out), wanted)
+    for call, (text, _out) in cases.text_boundaries(rng):
+        content, damaged = python_text(text, call)
+        check(f"{call} {text.hex()}", getattr(r, call)(text, bytes(100))[0], r.Text(count=len(content), damaged=damaged))
+
+
+def joined_equal_chains():
+    """Files that cut the same joined bytes differently give the same answers, and those are the joined bytes."""
+    rng = random.Random(7)
+    for _ in range(300):
+        data = rng.randbytes(rng.randint(0, 20))
+        number, size = rng.randint(0, 8), rng.randint(1, 6)
+        record = data[number * size:(number + 1) * size]
+        wanted = (r.Fetched(), record + b".") if len(record) == size else (r.Fetched(16), b"." * (size + 1))
+        for _ in range(3):
+            places = sorted(rng.randint(0, len(data)) for _ in range(rng.randint(0, 4)))
+            blocks = [data[low:high] for low, high in zip([0] + places, places + [len(data)])]
+            split = rng.randint(0, len(blocks))
+            chain = cases.Chain(rng, blocks, [(list(range(split)), False), (list(range(split, len(blocks))), False)])
+            check("record", r.read_record(chain.file(), chain.start, number, size, b"." * (size + 1)), wanted)
+
+
+def lines_read_back():
+    rng = random.Random(8)
+    for _, (call, arguments) in zip(range(3000), cases.random_cases(9)):
+        line = protocol.case_line(call, arguments, rng.random() < 0.5)
+        check(line, protocol.case_of_line(line), (call, arguments))
+    check("joined pieces", protocol.bytes_of_word("x01+00*3+0203*2"), hexed("01 000000 02030203"))
+
+
+def main():
+    section("example: integers", example_integers)
+    section("example: floats", example_floats)
+    section("example: doubles", example_doubles)
+    section("example: texts", example_texts)
+    section("example: validity", example_validity)
+    section("example: lists", example_lists)
+    section("example: chain", example_chain)
+    section("rules of types", rules_of_types)
+    section("rules of headers", rules_of_headers)
+    section("rules of writing lists", rules_of_writing)
+    section("rules of values", rules_of_values)
+    section("rules of chains", rules_of_chains)
+    section("IEEE 754 vectors", outside_doubles)
+    section("Unicode vectors", outside_unicode)
+    section("against float() and struct", python_floats)
+    section("against bit strings", python_integers)
+    section("against Python's codecs", python_codecs)
+    section("chains with the same joined bytes", joined_equal_chains)
+    section("lines read back", lines_read_back)
+    return 1 if failures else 0
+
+
+if __name__ == "__main__":
+    sys.exit(main())
