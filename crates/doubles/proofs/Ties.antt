@@ -6,7 +6,6 @@ use native.Mathlib.Nat.{le-trans, mod-lt}
 use native.Mathlib.Omega.{arith}
 use lib.Dec.{T, isLe, isEq, leb→le, nleb→lt, eqb→eq}
 use lib.Arith.{lt-of-le-ne}
-use lib.Bits.{bitAnd, and-mask}
 use lib.Pow.{pow-pos, shr-lt}
 use lib.Ieee.{nearest}
 use lib.Ieee.Fits.{nearest-le, eq→eqb}
@@ -29,19 +28,16 @@ compared a b = go (compare a b) (leb→le a b) (nleb→lt a b) (eqb→eq a b) eq
 
 -- ---- the digits dropped, against their half
 pub by-dropped : (n r : ℕ)
-    → (bitAnd n 0x7ff < 0x400 → r ≡ n / 2 ^ 11)
-    → (bitAnd n 0x7ff ≡ 0x400 → r ≡ n / 2 ^ 11 + n / 2 ^ 11 % 2)
-    → (0x400 < bitAnd n 0x7ff → r ≡ n / 2 ^ 11 + 1)
+    → (n % 2 ^ 11 < 0x400 → r ≡ n / 2 ^ 11)
+    → (n % 2 ^ 11 ≡ 0x400 → r ≡ n / 2 ^ 11 + n / 2 ^ 11 % 2)
+    → (0x400 < n % 2 ^ 11 → r ≡ n / 2 ^ 11 + 1)
     → r ≡ closest n (2 ^ 11)
 by-dropped n r down tie up = go (compare (n % 2 ^ 11 * 2) (2 ^ 11)) (compared (n % 2 ^ 11 * 2) (2 ^ 11))
   where
-    dropped : bitAnd n 0x7ff ≡ n % 2 ^ 11
-    dropped = and-mask n 11
-
     go : (o : Ordering) → Compared o (n % 2 ^ 11 * 2) (2 ^ 11) → r ≡ nearest (n / 2 ^ 11) o
-    go Ordering·lt h = down (omega (arith, dropped))
-    go Ordering·eq h = tie (omega (arith, dropped))
-    go Ordering·gt h = let more : r ≡ n / 2 ^ 11 + 1 = up (omega (arith, dropped)) in omega arith
+    go Ordering·lt h = down (omega arith)
+    go Ordering·eq h = tie (omega arith)
+    go Ordering·gt h = let more : r ≡ n / 2 ^ 11 + 1 = up (omega arith) in omega arith
 
 -- the bound that the sum of a pattern wants
 pub significand-le : (n : ℕ) → closest (n % 2 ^ 64) (2 ^ 11) ≤ 2 ^ 53

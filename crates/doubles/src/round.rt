@@ -9,15 +9,10 @@ ghost use Rattle.definitions.specs.Ieee754.{doubleOf};
 fn significand(n: u64) -> u64
     ensures { λ r. ⌜ r ≡ closest n (2 ^ 11) ⌝ }
 {
-    let kept = n >> 11;
-    let dropped = n & 0x7ff;
-    if dropped < 0x400 {
-        return kept;
-    }
-    if dropped > 0x400 {
-        return kept + 1;
-    }
-    kept + kept % 2
+    let kept = n / 0x800;
+    let dropped = n % 0x800;
+    // Over half a unit carries, and half a unit where the digits kept are odd. No branch: the digits dropped are random.
+    kept + (dropped + kept % 2 + 0x3ff) / 0x800
 }
 
 // How far n can be shifted up, until its leading digit is the highest of 64.

@@ -2,7 +2,7 @@
 ghost use mathlib.Core.Path.{_≡_};
 ghost use mathlib.Core.Bool.{cond};
 ghost use Prim.Native.Nat.{_+_, _^_, _<_};
-ghost use lib.IntN.{pos, negsuc};
+ghost use lib.IntN.{pos, negsuc, natAbs};
 ghost use lib.Signed.{ltZ};
 ghost use lib.Dec.{T};
 ghost use Rattle.definitions.specs.Ieee754.{doubleOf, doubleOfSign};
@@ -24,7 +24,16 @@ pub fn double_of_sign(negative: bool, magnitude: u64) -> u64
     with_sign(negative, double_of(magnitude))
 }
 
-// One less than the magnitude of a negative number, which fits at i64::MIN too.
+// How far n is from 0. One less is taken first, which fits at i64::MIN too.
+fn magnitude(n: i64) -> u64
+    ensures { λ r. ⌜ r ≡ natAbs n ⌝ }
+{
+    if n < 0 {
+        return magnitude_less_one(n) + 1;
+    }
+    n as u64
+}
+
 fn magnitude_less_one(n: i64) -> u64
     requires { ⌜ T (ltZ n (pos 0)) ⌝ }
     ensures { λ r. ⌜ (n ≡ negsuc r) × (r < 2 ^ 63) ⌝ }
@@ -32,12 +41,9 @@ fn magnitude_less_one(n: i64) -> u64
     (-1 - n) as u64
 }
 
-// The pattern of the double nearest to n.
+// The pattern of the double nearest to n. Sign and magnitude are taken first, so that one rounding serves both signs.
 pub fn double_of_signed(n: i64) -> u64
     ensures { λ r. ⌜ r ≡ doubleOf n ⌝ }
 {
-    if n < 0 {
-        return double_of_sign(true, magnitude_less_one(n) + 1);
-    }
-    double_of_sign(false, n as u64)
+    double_of_sign(n < 0, magnitude(n))
 }
