@@ -1,64 +1,21 @@
 -- The ways through a data block, and what an answer tells of it.
-use mathlib.Core.Path.{_≡_, refl, sym, ap, _∙_}
-use mathlib.Core.Bool.{Bool, true, false, not}
+use mathlib.Core.Path.{_≡_, sym, ap, subst, _∙_}
+use mathlib.Core.Bool.{true, false, not}
 use mathlib.Core.List.{List}
 use Prim.Native.Nat.{ℕ, _+_, _-_, _≤_, _<_}
 use native.Mathlib.Omega.{arith}
-use lib.ListN.{length, take, drop, length-drop}
-use lib.Seq.{take-all, drop-drop}
-use lib.Dec.{leb, ltb, eqb}
-use borrow.Author.Tests.{eq-eqb, ne-eqb, lt-leb, le-leb, lt-ltb, le-ltb, leb-true, ltb-true, ltb-false, eqb-false, not-true}
+use lib.ListN.{length, drop, length-drop}
+use lib.Seq.{drop-drop}
+use lib.Dec.{ltb, eqb}
+use borrow.Author.Tests.{eq-eqb, ne-eqb, lt-ltb, le-ltb, ltb-false, eqb-true, not-false}
 use Rattle.definitions.specs.Reply.{answer, refusal}
-use Rattle.definitions.specs.Bytes.{span, u64At, idAt}
+use Rattle.definitions.specs.Bytes.{u64At, idAt}
 use Rattle.definitions.specs.Header.{Header, headerOf, headerIn}
 use Rattle.definitions.specs.Chain.{Block, hasHeader, blockAt}
 use Rattle.blocks.proofs.Headers.{apart, header-met, header-answered}
-use Rattle.chain.proofs.Answers.{passed, answered, both}
-
--- ---- an end
-
-module _ (at size len : ℕ) where
-  pub past-short : len < size → true ≡ ltb len (at + size)
-  past-short l = let h : len < at + size = omega arith in sym (lt-ltb _ _ h)
-
-  past-test : (t : Bool) → ltb (len - size) at ≡ t → size ≤ len → t ≡ ltb len (at + size)
-  past-test true e l =
-      let h : len < at + size = omega (arith, ltb-true (len - size) at e) in
-      sym (lt-ltb _ _ h)
-  past-test false e l =
-      let h : at + size ≤ len = omega (arith, ltb-false (len - size) at e) in
-      sym (le-ltb _ _ h)
-
-  pub past-by : size ≤ len → ltb (len - size) at ≡ ltb len (at + size)
-  past-by l = past-test (ltb (len - size) at) refl l
-
--- ---- an address
-
-module _ (f : List ℕ) (a : ℕ) where
-  pub header-nowhere : a ≡ 0 → false ≡ hasHeader f a
-  header-nowhere h = rw (eq-eqb _ _ h)
-
-  header-test : (t : Bool) → ltb (length f) (a + 24) ≡ t → not t ≡ leb (a + 24) (length f)
-  header-test true e = sym (lt-leb (a + 24) (length f) (ltb-true (length f) (a + 24) e))
-  header-test false e = sym (le-leb (a + 24) (length f) (ltb-false (length f) (a + 24) e))
-
-  pub header-by : (a ≡ 0 → ⊥) → (past : Bool) → past ≡ ltb (length f) (a + 24) → not past ≡ hasHeader f a
-  header-by z past e = rw (ne-eqb _ _ z) (header-test past (sym e))
-
-  pub header-there : hasHeader f a ≡ true → (0 < a) × (a + 24 ≤ length f)
-  header-there h =
-      let p = both (not (eqb a 0)) (leb (a + 24) (length f)) h in
-      omega (arith, eqb-false a 0 (not-true _ (p .0)), leb-true (a + 24) (length f) (p .1))
-
--- the bytes from an address to the file's end
-pub tail : (l : List ℕ) (a : ℕ) → take (length l - a) (drop a l) ≡ drop a l
-tail l a = take-all (length l - a) (drop a l) (omega (arith, length-drop a l))
-
--- n bytes from an address on
-pub part : (l : List ℕ) (a n : ℕ) → take (a + n - a) (drop a l) ≡ span l a n
-part l a n = let e : a + n - a ≡ n = omega arith in rw e
-
--- ---- a data block
+use Rattle.definitions.specs.Accepted.{BlockStands}
+use Rattle.chain.proofs.Addresses.{header-there}
+use Rattle.chain.proofs.Answers.{passed, answered}
 
 module _ (id f : List ℕ) (a : ℕ) where
   pub block-nowhere : hasHeader f a ≡ false → refusal 11 0 ≡ blockAt id f a
@@ -75,18 +32,26 @@ module _ (id f : List ℕ) (a : ℕ) where
     unfolding blockAt
     block-other i = rw (there, i)
 
-  -- a block that is read stands there, and lies in the file
-  pub block-stands : (b : Block) → blockAt id f a ≡ answer b → (b .address ≡ a) × (a + 24 + b .size ≤ length f)
+  -- a block that is read stands there
+  pub block-stands : (b : Block) → blockAt id f a ≡ answer b → (b .address ≡ a) × BlockStands id f b
   unfolding blockAt
   block-stands b h =
-      let r₁ = passed (not (hasHeader f a)) _ _ _ _ h in
-      let r₂ = passed (not (idAt f a id)) _ _ _ _ (r₁ .1) in
-      let r₃ = passed (not (eqb (u64At f (a + 16)) 0)) _ _ _ _ (r₂ .1) in
-      let r₄ = passed (ltb (u64At f (a + 8)) 24) _ _ _ _ (r₃ .1) in
-      let r₅ = passed (ltb (length f) (a + u64At f (a + 8))) _ _ _ _ (r₄ .1) in
-      let e = answered (r₅ .1) in
-      let s : u64At f (a + 8) - 24 ≡ b .size = ap (λ (x : Block). x .size) e in
-      (sym (ap (λ (x : Block). x .address) e), omega (arith, ltb-false (u64At f (a + 8)) 24 (r₄ .0), ltb-false (length f) (a + u64At f (a + 8)) (r₅ .0)))
+      let there = passed (not (hasHeader f a)) _ _ _ _ h in
+      let named = passed (not (idAt f a id)) _ _ _ _ (there .1) in
+      let unlinked = passed (not (eqb (u64At f (a + 16)) 0)) _ _ _ _ (named .1) in
+      let enough = passed (ltb (u64At f (a + 8)) 24) _ _ _ _ (unlinked .1) in
+      let whole = passed (ltb (length f) (a + u64At f (a + 8))) _ _ _ _ (enough .1) in
+      let room = header-there f a (not-false _ (there .0)) in
+      let l : 24 ≤ u64At f (a + 8) = ltb-false _ _ (enough .0) in
+      let m : a + u64At f (a + 8) ≤ length f = ltb-false _ _ (whole .0) in
+      let stands : BlockStands id f (record { address = a; size = u64At f (a + 8) - 24 }) = record {
+        somewhere = room .0;
+        inside = omega arith;
+        named = not-false _ (named .0);
+        links = eqb-true _ _ (not-false _ (unlinked .0));
+        blockLength = omega arith;
+      } in
+      (sym (ap (λ (x : Block). x .address) (answered (whole .1))), subst (BlockStands id f) (answered (whole .1)) stands)
 
 -- a block with the wanted id, and what its header x tells
 pub record Named (id f : List ℕ) (a : ℕ) (x : Header) : Type 0 where

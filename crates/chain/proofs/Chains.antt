@@ -27,16 +27,16 @@ pub record Stand (f : List ℕ) (bs : List Block) : Type 0 where
 
 -- ---- one block more
 
+pub total-more : (b : Block) (bs : List Block) → total (bs ++ (b ∷ [])) ≡ total bs + b .size
+unfolding total
+total-more b [] = omega arith
+total-more b (c ∷ cs) = omega (arith, total-more b cs)
+
 module _ (f : List ℕ) (b : Block) where
   pub joined-more : (bs : List Block) → joined f (bs ++ (b ∷ [])) ≡ joined f bs ++ dataOf f b
   unfolding joined
   joined-more [] = append-nil (dataOf f b)
   joined-more (c ∷ cs) = rw (joined-more cs, append-assoc)
-
-  pub total-more : (bs : List Block) → total (bs ++ (b ∷ [])) ≡ total bs + b .size
-  unfolding total
-  total-more [] = omega arith
-  total-more (c ∷ cs) = omega (arith, total-more cs)
 
   inside-more : (bs : List Block) → Inside f bs → b .address + 24 + b .size ≤ length f → Inside f (bs ++ (b ∷ []))
   unfolding Inside
@@ -47,7 +47,7 @@ module _ (f : List ℕ) (b : Block) where
   stand-more bs h l t = record {
     inside = inside-more bs (h .inside) (t .inside);
     few = omega (arith, length-append bs (b ∷ []));
-    bounded = omega (arith, total-more bs, t .bounded);
+    bounded = omega (arith, total-more b bs, t .bounded);
   }
 
 -- the joined data is as long as the blocks say

@@ -78,10 +78,9 @@ fragment-stands id f s d i p b h =
     let read = followed (blockAt id f (u64At s (d .linksAt + i * 8))) (judged s d i p) b h in
     let x = read .0 in
     let fits = passed (ltb 9223372036854775807 (p + x .size)) _ _ _ _ (read .2) in
-    let true = passed (not (declared s d i p (x .size))) _ _ _ _ (fits .1) in
-    let stands = block-stands id f (u64At s (d .linksAt + i * 8)) x (read .1) in
+    let truthful = passed (not (declared s d i p (x .size))) _ _ _ _ (fits .1) in
     let e : Taken f p x = record {
-      inside = omega (arith, stands);
+      inside = block-stands id f (u64At s (d .linksAt + i * 8)) x (read .1) .1 .inside;
       bounded = ltb-false _ _ (fits .0);
     } in
-    rw (answered (true .1)) at e
+    rw (answered (truthful .1)) at e

@@ -22,9 +22,11 @@ use Rattle.chain.proofs.Fragments.{Taken, fragment-stands}
 
 module _ (p : Place) (d : DataList) where
   pub leaving-end : d .next ≡ 0 → theEnd (p .position .0) ≡ leaving p d
+  unfolding leaving
   leaving-end z = rw (eq-eqb _ _ z)
 
   pub leaving-on : (d .next ≡ 0 → ⊥) → aList (nextList p (record { 0 = d .next })) ≡ leaving p d
+  unfolding leaving
   leaving-on z = rw (ne-eqb _ _ z)
 
 module _ (p : Place) (r : Reply Block) where
@@ -96,7 +98,7 @@ module _ (id f : List ℕ) (p : Place) (before : List Block) (size : total befor
       in-by : (t : Bool) → ltb (p .index) (d .links) ≡ t
           → andThen (fragments id f (drop (p .list .0) f) d (p .index) (d .links - p .index) before) (next d)
           ≡ andThen (if t then andThen (fragmentOf id f (drop (p .list .0) f) d (p .index) (p .position .0)) (arriving p) else answer (leaving p d)) (goOn id f before)
-      unfolding fragments next
+      unfolding fragments next leaving
       in-by true e =
           let t = ltb-true (p .index) (d .links) e in
           let n : d .links - p .index ≡ suc (d .links - (p .index + 1)) = omega arith in
@@ -147,7 +149,7 @@ module _ (id f : List ℕ) (p : Place) (h : p .lists < 256) (d : DataList) (l : 
   tells-in : (t : Bool) → ltb (p .index) (d .links) ≡ t → (x : Found)
       → (if t then andThen (fragmentOf id f (drop (p .list .0) f) d (p .index) (p .position .0)) (arriving p) else answer (leaving p d)) ≡ answer x
       → Tells f p x
-  unfolding Tells
+  unfolding Tells leaving
   tells-in true e x a =
       let read = followed (fragmentOf id f (drop (p .list .0) f) d (p .index) (p .position .0)) (arriving p) x a in
       let few : p .fragments + p .index < 4096 = omega (arith, ltb-true (p .index) (d .links) e, list-stands f (p .fragments) (p .list .0) d l .1 .few) in

@@ -80,7 +80,7 @@ module _ (id f : List ℕ) (p₀ : Place) where
           record {
             stand = stand-more f b before (m .stand) (omega (arith, m .count, t .2)) here;
             count = omega (arith, length-append before (b ∷ []), m .count);
-            size = omega (arith, total-more f b before, m .size);
+            size = omega (arith, total-more b before, m .size);
             rest = stepped _ e;
           },
           omega (arith, t .2),

@@ -70,7 +70,7 @@ abbrev pub arriving : Place → Block → Reply Found
 arriving p b = answer (aBlock b (behind p (b .size)))
 
 -- behind the last one of a list
-abbrev pub leaving : Place → DataList → Found
+unfoldable pub leaving : Place → DataList → Found
 leaving p d = if eqb (d .next) 0 then theEnd (p .position .0) else aList (nextList p (record { 0 = d .next }))
 
 unfoldable pub stepIn : List ℕ → List ℕ → Place → DataList → Reply Found

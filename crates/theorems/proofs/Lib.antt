@@ -10,3 +10,5 @@ pub mod BlocksStand
 pub mod AcceptedChains
 pub mod NoSecondReply
 pub mod NoSecondReplyToC
+pub mod TwoFiles
+pub mod LeftAlone

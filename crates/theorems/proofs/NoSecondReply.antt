@@ -3,9 +3,12 @@ use mathlib.Core.Path.{_≡_, refl, sym, ap, _∙_}
 use Prim.Native.Nat.{ℕ}
 use Rattle.definitions.specs.Reply.{Outcome}
 use Rattle.definitions.specs.Unicode.{TextWritten}
+use Rattle.definitions.specs.Channel.{ValidValue}
 use Rattle.theorems.specs.Sole.{Settled}
 use Rattle.blocks.proofs.Back.{written-one, header-one, type-one, list-one}
 use Rattle.text.proofs.Back.{text-one}
+use Rattle.decoder.proofs.Meanings.{value-one, valid-value-one}
+use Rattle.chain.proofs.Back.{chain-one, record-one}
 use Rattle.refusals.proofs.Refusal.number.Kinds as refusal-number-kinds
 use Rattle.refusals.proofs.Refusal.number.Reads as refusal-number
 use Rattle.refusals.proofs.Refusal.told.Kinds as refusal-told-kinds
@@ -40,6 +43,20 @@ use Rattle.text.proofs.text_end.Kinds as text-end-kinds
 use Rattle.text.proofs.text_end.Reads as text-end
 use Rattle.text.proofs.write_text.Kinds as text-write-kinds
 use Rattle.text.proofs.write_text.Reads as text-write
+use Rattle.decoder.proofs.decode_channel_value.Kinds as value-read-kinds
+use Rattle.decoder.proofs.decode_channel_value.Reads as value-read
+use Rattle.decoder.proofs.check_value_validity.Kinds as validity-kinds
+use Rattle.decoder.proofs.check_value_validity.Reads as validity
+use Rattle.decoder.proofs.decode_channel_value_with_validity.Kinds as valid-value-read-kinds
+use Rattle.decoder.proofs.decode_channel_value_with_validity.Reads as valid-value-read
+use Rattle.decoder.proofs.decode_f64_from_record.Kinds as record-double-kinds
+use Rattle.decoder.proofs.decode_f64_from_record.Reads as record-double
+use Rattle.chain.proofs.accept.Kinds as chain-accept-kinds
+use Rattle.chain.proofs.accept.Reads as chain-accept
+use Rattle.chain.proofs.read_record.Kinds as record-read-kinds
+use Rattle.chain.proofs.read_record.Reads as record-read
+use Rattle.records.proofs.read_value.Kinds as record-value-kinds
+use Rattle.records.proofs.read_value.Reads as record-value
 
 pub refusal-number-settled : Settled 0 refusal-number-kinds.ps refusal-number-kinds.r refusal-number.Asked refusal-number.ensures refusal-number.Learnt
 refusal-number-settled = record {
@@ -162,4 +179,55 @@ text-write-settled = record {
   says = λ κs a y e w. refl;
   sole = λ κs a y z b c p q.
       (text-one y z (ap (λ (o : Outcome TextWritten). o .reply) (p ∙ sym q)), ap (λ (o : Outcome TextWritten). (tt, (tt, (o .buffer, tt)))) (p ∙ sym q));
+}
+
+pub value-read-settled : Settled 1 value-read-kinds.ps value-read-kinds.r value-read.Asked value-read.ensures value-read.Learnt
+value-read-settled = record {
+  free = λ κs a. tt;
+  says = λ κs a y e w. refl;
+  sole = λ κs a y z b c p q. (value-one y z (p ∙ sym q), refl);
+}
+
+pub validity-settled : Settled 1 validity-kinds.ps validity-kinds.r validity.Asked validity.ensures validity.Learnt
+validity-settled = record {
+  free = λ κs a. tt;
+  says = λ κs a y e w. refl;
+  sole = λ κs a y z b c p q. (p ∙ sym q, refl);
+}
+
+pub valid-value-read-settled : Settled 1 valid-value-read-kinds.ps valid-value-read-kinds.r valid-value-read.Asked valid-value-read.ensures valid-value-read.Learnt
+valid-value-read-settled = record {
+  free = λ κs a. tt;
+  says = λ κs a y e w. refl;
+  sole = λ κs a y z b c p q. (valid-value-one y z (p ∙ sym q), refl);
+}
+
+pub record-double-settled : Settled 1 record-double-kinds.ps record-double-kinds.r record-double.Asked record-double.ensures record-double.Learnt
+record-double-settled = record {
+  free = λ κs a. tt;
+  says = λ κs a y e w. refl;
+  sole = λ κs a y z b c p q. (p ∙ sym q, refl);
+}
+
+pub chain-accept-settled : Settled 2 chain-accept-kinds.ps chain-accept-kinds.r chain-accept.Asked chain-accept.ensures chain-accept.Learnt
+chain-accept-settled = record {
+  free = λ κs a. tt;
+  says = λ κs a y e w. refl;
+  sole = λ κs a y z b c p q. (chain-one y z (p ∙ sym q), refl);
+}
+
+pub record-read-settled : Settled 2 record-read-kinds.ps record-read-kinds.r record-read.Asked record-read.ensures record-read.Learnt
+record-read-settled = record {
+  free = λ κs a. tt;
+  says = λ κs a y e w. refl;
+  sole = λ κs a y z b c p q.
+      (record-one y z (ap (λ (o : Outcome (Unit {0})). o .reply) (p ∙ sym q)), ap (λ (o : Outcome (Unit {0})). (tt, (tt, (tt, (tt, (o .buffer, tt)))))) (p ∙ sym q));
+}
+
+pub record-value-settled : Settled 2 record-value-kinds.ps record-value-kinds.r record-value.Asked record-value.ensures record-value.Learnt
+record-value-settled = record {
+  free = λ κs a. tt;
+  says = λ κs a y e w. refl;
+  sole = λ κs a y z b c p q.
+      (valid-value-one y z (ap (λ (o : Outcome ValidValue). o .reply) (p ∙ sym q)), ap (λ (o : Outcome ValidValue). (tt, (tt, (tt, (tt, (tt, (tt, (tt, (o .buffer, tt)))))))))(p ∙ sym q));
 }

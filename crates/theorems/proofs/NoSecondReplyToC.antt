@@ -4,6 +4,8 @@ use Rattle.theorems.specs.Sole.{Settled}
 use Rattle.mf4.specs.Replies.{Left}
 use Rattle.mf4.specs.declared.written.Mf4Written.{Mf4Written}
 use Rattle.mf4.specs.declared.texts.Mf4Text.{Mf4Text}
+use Rattle.mf4.specs.declared.fetches.Mf4Fetched.{Mf4Fetched}
+use Rattle.mf4.specs.declared.values.Mf4ValidValue.{Mf4ValidValue}
 use Rattle.mf4.proofs.mf4_read_header.Kinds as mf4-read-header-kinds
 use Rattle.mf4.proofs.mf4_read_header.Reads as mf4-read-header
 use Rattle.mf4.proofs.mf4_write_header.Kinds as mf4-write-header-kinds
@@ -26,6 +28,18 @@ use Rattle.mf4.proofs.mf4_text_utf16_le.Kinds as mf4-text-utf16-le-kinds
 use Rattle.mf4.proofs.mf4_text_utf16_le.Reads as mf4-text-utf16-le
 use Rattle.mf4.proofs.mf4_text_utf16_be.Kinds as mf4-text-utf16-be-kinds
 use Rattle.mf4.proofs.mf4_text_utf16_be.Reads as mf4-text-utf16-be
+use Rattle.mf4.proofs.mf4_decode_value.Kinds as mf4-decode-value-kinds
+use Rattle.mf4.proofs.mf4_decode_value.Reads as mf4-decode-value
+use Rattle.mf4.proofs.mf4_check_validity.Kinds as mf4-check-validity-kinds
+use Rattle.mf4.proofs.mf4_check_validity.Reads as mf4-check-validity
+use Rattle.mf4.proofs.mf4_decode_valid_value.Kinds as mf4-decode-valid-value-kinds
+use Rattle.mf4.proofs.mf4_decode_valid_value.Reads as mf4-decode-valid-value
+use Rattle.mf4.proofs.mf4_decode_double.Kinds as mf4-decode-double-kinds
+use Rattle.mf4.proofs.mf4_decode_double.Reads as mf4-decode-double
+use Rattle.mf4.proofs.mf4_read_record.Kinds as mf4-read-record-kinds
+use Rattle.mf4.proofs.mf4_read_record.Reads as mf4-read-record
+use Rattle.mf4.proofs.mf4_record_value.Kinds as mf4-record-value-kinds
+use Rattle.mf4.proofs.mf4_record_value.Reads as mf4-record-value
 
 pub mf4-read-header-settled : Settled 1 mf4-read-header-kinds.ps mf4-read-header-kinds.r mf4-read-header.Asked mf4-read-header.ensures mf4-read-header.Learnt
 mf4-read-header-settled = record {
@@ -109,4 +123,48 @@ mf4-text-utf16-be-settled = record {
   says = λ κs a y e w. refl;
   sole = λ κs a y z b c p q.
       (ap (λ (l : Left Mf4Text). l .result) (p ∙ sym q), ap (λ (l : Left Mf4Text). (tt, (l .buffer, tt))) (p ∙ sym q));
+}
+
+pub mf4-decode-value-settled : Settled 1 mf4-decode-value-kinds.ps mf4-decode-value-kinds.r mf4-decode-value.Asked mf4-decode-value.ensures mf4-decode-value.Learnt
+mf4-decode-value-settled = record {
+  free = λ κs a. tt;
+  says = λ κs a y e w. refl;
+  sole = λ κs a y z b c p q. (p ∙ sym q, refl);
+}
+
+pub mf4-check-validity-settled : Settled 1 mf4-check-validity-kinds.ps mf4-check-validity-kinds.r mf4-check-validity.Asked mf4-check-validity.ensures mf4-check-validity.Learnt
+mf4-check-validity-settled = record {
+  free = λ κs a. tt;
+  says = λ κs a y e w. refl;
+  sole = λ κs a y z b c p q. (p ∙ sym q, refl);
+}
+
+pub mf4-decode-valid-value-settled : Settled 1 mf4-decode-valid-value-kinds.ps mf4-decode-valid-value-kinds.r mf4-decode-valid-value.Asked mf4-decode-valid-value.ensures mf4-decode-valid-value.Learnt
+mf4-decode-valid-value-settled = record {
+  free = λ κs a. tt;
+  says = λ κs a y e w. refl;
+  sole = λ κs a y z b c p q. (p ∙ sym q, refl);
+}
+
+pub mf4-decode-double-settled : Settled 1 mf4-decode-double-kinds.ps mf4-decode-double-kinds.r mf4-decode-double.Asked mf4-decode-double.ensures mf4-decode-double.Learnt
+mf4-decode-double-settled = record {
+  free = λ κs a. tt;
+  says = λ κs a y e w. refl;
+  sole = λ κs a y z b c p q. (p ∙ sym q, refl);
+}
+
+pub mf4-read-record-settled : Settled 2 mf4-read-record-kinds.ps mf4-read-record-kinds.r mf4-read-record.Asked mf4-read-record.ensures mf4-read-record.Learnt
+mf4-read-record-settled = record {
+  free = λ κs a. tt;
+  says = λ κs a y e w. refl;
+  sole = λ κs a y z b c p q.
+      (ap (λ (l : Left Mf4Fetched). l .result) (p ∙ sym q), ap (λ (l : Left Mf4Fetched). (tt, (tt, (tt, (tt, (l .buffer, tt)))))) (p ∙ sym q));
+}
+
+pub mf4-record-value-settled : Settled 2 mf4-record-value-kinds.ps mf4-record-value-kinds.r mf4-record-value.Asked mf4-record-value.ensures mf4-record-value.Learnt
+mf4-record-value-settled = record {
+  free = λ κs a. tt;
+  says = λ κs a y e w. refl;
+  sole = λ κs a y z b c p q.
+      (ap (λ (l : Left Mf4ValidValue). l .result) (p ∙ sym q), ap (λ (l : Left Mf4ValidValue). (tt, (tt, (tt, (tt, (tt, (tt, (tt, (l .buffer, tt))))))))) (p ∙ sym q));
 }

@@ -7,7 +7,8 @@ use borrow.Author.Tests.{not-true, not-false}
 use Rattle.definitions.specs.Header.{headerOf}
 use Rattle.definitions.specs.Chain.{hasHeader}
 use Rattle.blocks.specs.Meaning.{headerMeant, headerReply}
-use Rattle.chain.proofs.Blocks.{Named, header-there, header-stands, block-nowhere, block-other, block-named, block-linked, block-short, block-cut, block-read}
+use Rattle.chain.proofs.Addresses.{header-there}
+use Rattle.chain.proofs.Blocks.{Named, header-stands, block-nowhere, block-other, block-named, block-linked, block-short, block-cut, block-read}
 use Rattle.chain.proofs.block.data_block_at.Statement.{statement}
 use Rattle.chain.proofs.block.data_block_at.Tie as tie
 

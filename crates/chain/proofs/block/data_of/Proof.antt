@@ -1,6 +1,6 @@
 use Prim.Native.Nat.{_+_}
 use borrow.Author.Needs.{needs}
-use Rattle.chain.proofs.Blocks.{part}
+use Rattle.chain.proofs.Addresses.{part}
 use Rattle.chain.proofs.block.data_of.Statement.{statement}
 use Rattle.chain.proofs.block.data_of.Tie as tie
 

@@ -1,6 +1,6 @@
 use native.Mathlib.Omega.{arith}
 use borrow.Author.Needs.{needs}
-use Rattle.chain.proofs.Blocks.{header-there, tail}
+use Rattle.chain.proofs.Addresses.{header-there, tail}
 use Rattle.chain.proofs.place.bytes_from.Statement.{statement}
 use Rattle.chain.proofs.place.bytes_from.Tie as tie
 

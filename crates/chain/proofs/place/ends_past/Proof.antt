@@ -1,5 +1,5 @@
 use borrow.Author.Needs.{needs}
-use Rattle.chain.proofs.Blocks.{past-short, past-by}
+use Rattle.chain.proofs.Addresses.{past-short, past-by}
 use Rattle.chain.proofs.place.ends_past.Statement.{statement}
 use Rattle.chain.proofs.place.ends_past.Tie as tie
 

@@ -1,5 +1,5 @@
 use borrow.Author.Needs.{needs}
-use Rattle.chain.proofs.Blocks.{header-nowhere, header-by}
+use Rattle.chain.proofs.Addresses.{header-nowhere, header-by}
 use Rattle.chain.proofs.place.has_header.Statement.{statement}
 use Rattle.chain.proofs.place.has_header.Tie as tie
 

@@ -1,0 +1,56 @@
+-- Ends that are tested without a sum, addresses, and the bytes from an address on.
+use mathlib.Core.Path.{_≡_, refl, sym}
+use mathlib.Core.Bool.{Bool, true, false, not}
+use mathlib.Core.List.{List}
+use Prim.Native.Nat.{ℕ, _+_, _-_, _≤_, _<_}
+use native.Mathlib.Omega.{arith}
+use lib.ListN.{length, take, drop, length-drop}
+use lib.Seq.{take-all}
+use lib.Dec.{leb, ltb, eqb}
+use borrow.Author.Tests.{eq-eqb, ne-eqb, lt-leb, le-leb, lt-ltb, le-ltb, leb-true, ltb-true, ltb-false, eqb-false, not-true}
+use Rattle.definitions.specs.Bytes.{span}
+use Rattle.definitions.specs.Chain.{hasHeader}
+use Rattle.chain.proofs.Answers.{both}
+
+-- ---- an end
+
+module _ (at size len : ℕ) where
+  pub past-short : len < size → true ≡ ltb len (at + size)
+  past-short l = let h : len < at + size = omega arith in sym (lt-ltb _ _ h)
+
+  past-test : (t : Bool) → ltb (len - size) at ≡ t → size ≤ len → t ≡ ltb len (at + size)
+  past-test true e l =
+      let h : len < at + size = omega (arith, ltb-true (len - size) at e) in
+      sym (lt-ltb _ _ h)
+  past-test false e l =
+      let h : at + size ≤ len = omega (arith, ltb-false (len - size) at e) in
+      sym (le-ltb _ _ h)
+
+  pub past-by : size ≤ len → ltb (len - size) at ≡ ltb len (at + size)
+  past-by l = past-test (ltb (len - size) at) refl l
+
+-- ---- an address
+
+module _ (f : List ℕ) (a : ℕ) where
+  pub header-nowhere : a ≡ 0 → false ≡ hasHeader f a
+  header-nowhere h = rw (eq-eqb _ _ h)
+
+  header-test : (t : Bool) → ltb (length f) (a + 24) ≡ t → not t ≡ leb (a + 24) (length f)
+  header-test true e = sym (lt-leb (a + 24) (length f) (ltb-true (length f) (a + 24) e))
+  header-test false e = sym (le-leb (a + 24) (length f) (ltb-false (length f) (a + 24) e))
+
+  pub header-by : (a ≡ 0 → ⊥) → (past : Bool) → past ≡ ltb (length f) (a + 24) → not past ≡ hasHeader f a
+  header-by z past e = rw (ne-eqb _ _ z) (header-test past (sym e))
+
+  pub header-there : hasHeader f a ≡ true → (0 < a) × (a + 24 ≤ length f)
+  header-there h =
+      let p = both (not (eqb a 0)) (leb (a + 24) (length f)) h in
+      omega (arith, eqb-false a 0 (not-true _ (p .0)), leb-true (a + 24) (length f) (p .1))
+
+-- the bytes from an address to the file's end
+pub tail : (l : List ℕ) (a : ℕ) → take (length l - a) (drop a l) ≡ drop a l
+tail l a = take-all (length l - a) (drop a l) (omega (arith, length-drop a l))
+
+-- n bytes from an address on
+pub part : (l : List ℕ) (a n : ℕ) → take (a + n - a) (drop a l) ≡ span l a n
+part l a n = let e : a + n - a ≡ n = omega arith in rw e

@@ -1,0 +1,46 @@
+-- Two files whose accepted chains join to the same bytes give the same records, and the same values in them.
+use mathlib.Core.Path.{_≡_, refl, sym, ap, _∙_}
+use mathlib.Core.Bool.{Bool, true, false}
+use mathlib.Core.List.{List}
+use Prim.Native.Nat.{ℕ, _≤_}
+use lib.ListN.{length}
+use borrow.Author.Tests.{le-ltb}
+use Rattle.definitions.specs.Reply.{Reply, Outcome, answer, refusal, if_then_else_}
+use Rattle.definitions.specs.Channel.{Channel, ValidValue}
+use Rattle.definitions.specs.Chain.{Block, idDT, joined, chainOf, badSize, recordOf, fetched, fieldOf, valueFetched}
+
+-- a file within the limit of 7, with an accepted chain of ##DT blocks that joins to j
+pub record Joins (f : List ℕ) (start : ℕ) (j : List ℕ) : Type 0 where
+  pub short : length f ≤ 1099511627776
+  pub blocks : List Block
+  pub accepted : chainOf idDT f start ≡ answer blocks
+  pub same : joined f blocks ≡ j
+
+-- what the definitions give on the joined bytes alone
+abbrev pub recordIn : List ℕ → ℕ → ℕ → List ℕ → Outcome (Unit {0})
+recordIn j k size out =
+    if badSize size (length out) then record { reply = refusal 15 0; buffer = out } else recordOf j k size out
+
+abbrev pub valueIn : List ℕ → ℕ → ℕ → ℕ → ℕ → Channel → List ℕ → Outcome ValidValue
+valueIn j k size idSize dataBytes c out = fieldOf size idSize dataBytes c (recordIn j k size out)
+
+module _ (f : List ℕ) (start : ℕ) (j : List ℕ) (h : Joins f start j) where
+  -- every answer is the one on the joined bytes
+  pub record-of-joined : (k size : ℕ) (out : List ℕ) → fetched f start k size out ≡ recordIn j k size out
+  unfolding fetched
+  record-of-joined k size out = rw (le-ltb _ _ (h .short), h .accepted, h .same)
+
+  pub value-of-joined : (k size idSize dataBytes : ℕ) (c : Channel) (out : List ℕ)
+      → valueFetched f start k size idSize dataBytes c out ≡ valueIn j k size idSize dataBytes c out
+  unfolding valueFetched
+  value-of-joined k size idSize dataBytes c out = ap (fieldOf size idSize dataBytes c) (record-of-joined k size out)
+
+-- so two such files are not told apart
+module _ (f g : List ℕ) (a b : ℕ) (j : List ℕ) (h : Joins f a j) (i : Joins g b j) where
+  pub same-record : (k size : ℕ) (out : List ℕ) → fetched f a k size out ≡ fetched g b k size out
+  same-record k size out = record-of-joined f a j h k size out ∙ sym (record-of-joined g b j i k size out)
+
+  pub same-value : (k size idSize dataBytes : ℕ) (c : Channel) (out : List ℕ)
+      → valueFetched f a k size idSize dataBytes c out ≡ valueFetched g b k size idSize dataBytes c out
+  same-value k size idSize dataBytes c out =
+      value-of-joined f a j h k size idSize dataBytes c out ∙ sym (value-of-joined g b j i k size idSize dataBytes c out)
