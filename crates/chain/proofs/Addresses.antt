@@ -10,7 +10,7 @@ use lib.Dec.{leb, ltb, eqb}
 use borrow.Author.Tests.{eq-eqb, ne-eqb, lt-leb, le-leb, lt-ltb, le-ltb, leb-true, ltb-true, ltb-false, eqb-false, not-true}
 use Rattle.definitions.specs.Bytes.{span}
 use Rattle.definitions.specs.Chain.{hasHeader}
-use Rattle.chain.proofs.Answers.{both}
+use Rattle.definitions.proofs.Replies.{both}
 
 -- ---- an end
 

@@ -1,6 +1,6 @@
 -- What an answer tells of the tests before it.
 use mathlib.Core.Path.{_≡_, refl, sym}
-use mathlib.Core.Bool.{Bool, true, false, _&&_}
+use mathlib.Core.Bool.{Bool, true, false}
 use Prim.Native.Nat.{ℕ}
 use Rattle.definitions.specs.Reply.{Reply, answer, refusal, if_then_else_, andThen}
 use Rattle.blocks.proofs.Headers.{apart}
@@ -21,7 +21,3 @@ unfollowed (refusal k t) g n m h = cc
 
 pub answered : {A : Type 0} {a b : A} → answer a ≡ answer b → a ≡ b
 answered h = cc
-
-pub both : (a b : Bool) → a && b ≡ true → (a ≡ true) × (b ≡ true)
-both true b h = (refl, h)
-both false b h = (h, cc)

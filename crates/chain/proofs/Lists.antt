@@ -14,7 +14,8 @@ use Rattle.definitions.specs.DataList.{DataList, idDL, listOf, linksOf, restOf,
 use Rattle.definitions.specs.Chain.{hasHeader, agrees, admitted, listAt}
 use Rattle.blocks.proofs.Headers.{needed}
 use Rattle.chain.specs.Walk.{Readable}
-use Rattle.chain.proofs.Answers.{passed, followed, answered, both}
+use Rattle.definitions.proofs.Replies.{both}
+use Rattle.chain.proofs.Answers.{passed, followed, answered}
 
 -- ---- whether it agrees with itself
 

@@ -1,5 +1,5 @@
 -- The laws over plain variables. Locality, Nearest and OneBit are for the crates above.
-pub mod Meanings
+pub mod Back
 pub mod Tests
 pub mod Forms
 pub mod Fields

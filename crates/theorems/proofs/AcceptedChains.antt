@@ -13,7 +13,7 @@ use Rattle.definitions.specs.DataList.{DataList}
 use Rattle.definitions.specs.Chain.{Block, total, declared, fragmentOf, fragments, listAt, lists, chainOf}
 use Rattle.definitions.specs.Accepted.{Each, Part, blocksOf, linkTo, BlockListed, PartStands, Accepted}
 use Rattle.blocks.proofs.Headers.{apart}
-use Rattle.theorems.proofs.Tested.{gone-on}
+use Rattle.chain.proofs.Answers.{followed}
 use Rattle.theorems.proofs.BlocksStand.{fragment-stands, fragment-taken, list-there, list-taken}
 
 total-append : (bs cs : List Block) → total (bs ++ cs) ≡ total bs + total cs
@@ -55,7 +55,7 @@ module _ (id f : List ℕ) (a : ℕ) (d : DataList) (old : List Block) where
       let same : old ++ bs ≡ all = cc in
       ([], sym same ∙ sym (append-nil (old ++ bs)), refl, tt, rw (sym same) t)
   fragments-stand (suc n) bs all t h =
-      let g = gone-on (fragmentOf id f (drop a f) d (length bs) (total (old ++ bs))) (λ b. fragments id f (drop a f) d (length bs + 1) n (old ++ bs ++ (b ∷ []))) all h in
+      let g = followed (fragmentOf id f (drop a f) d (length bs) (total (old ++ bs))) (λ b. fragments id f (drop a f) d (length bs + 1) n (old ++ bs ++ (b ∷ []))) all h in
       let b : Block = g .0 in
       let k = fragment-stands id f (drop a f) d (length bs) (total (old ++ bs)) b (g .1) in
       let more : total (old ++ (bs ++ (b ∷ []))) ≤ 9223372036854775807 =
@@ -168,9 +168,9 @@ module _ (id f : List ℕ) where
   unfolding lists
   lists-stand zero a ps all t h = apart all 8 0 h
   lists-stand (suc k) a ps all t h =
-      let g = gone-on (listAt f (length (blocksOf ps)) a) _ all h in
+      let g = followed (listAt f (length (blocksOf ps)) a) _ all h in
       let d : DataList = g .0 in
-      let m = gone-on (fragments id f (drop a f) d 0 (d .links) (blocksOf ps)) _ all (g .2) in
+      let m = followed (fragments id f (drop a f) d 0 (d .links) (blocksOf ps)) _ all (g .2) in
       on-next k a ps d (m .0) all (eqb (d .next) 0) (λ c qs. lists-stand k c qs all) t (g .1) (m .1) refl (m .2)
 
   -- a part that stands is taken

@@ -6,14 +6,15 @@ use Prim.Native.Nat.{ℕ, _+_, _-_, _*_, _≤_, _<_}
 use native.Mathlib.Omega.{arith}
 use lib.ListN.{length, drop}
 use lib.Dec.{ltb, eqb}
-use borrow.Author.Tests.{leb-true, ltb-false, eqb-true, eqb-false, not-true, le-leb, le-ltb, eq-eqb, ne-eqb}
+use borrow.Author.Tests.{leb-true, ltb-false, eqb-true, eqb-false, not-true, not-false, le-leb, le-ltb, eq-eqb, ne-eqb}
 use Rattle.definitions.specs.Reply.{Reply, answer}
 use Rattle.definitions.specs.Bytes.{u64At, idAt}
 use Rattle.definitions.specs.DataList.{DataList, listOf}
 use Rattle.definitions.specs.Chain.{Block, hasHeader, blockAt, judged, declared, fragmentOf, agrees, admitted, listAt}
 use Rattle.definitions.specs.Accepted.{BlockStands}
 use Rattle.definitions.proofs.Replies.{both}
-use Rattle.theorems.proofs.Tested.{passed, held, gone-on}
+use Rattle.chain.proofs.Answers.{passed, followed}
+use Rattle.chain.proofs.Blocks.{block-stands}
 
 module _ (f : List ℕ) (a : ℕ) where
   not-zero : (a ≡ 0 → ⊥) → 0 < a
@@ -30,32 +31,6 @@ module _ (f : List ℕ) (a : ℕ) where
       rw (ne-eqb _ _ z, le-leb _ _ l)
 
 module _ (id f : List ℕ) where
-  same-block : (a n m : ℕ) → m ≡ n - 24 → 24 ≤ n → n ≡ 24 + m
-  same-block a n m e h = omega arith
-
-  pub block-stands : (a : ℕ) (b : Block) → blockAt id f a ≡ answer b → (b .address ≡ a) × BlockStands id f b
-  unfolding blockAt
-  block-stands a b h =
-      let p = held 11 0 _ b (hasHeader f a) h in
-      let q = held 12 0 _ b (idAt f a id) (p .1) in
-      let r = held 12 0 _ b (eqb (u64At f (a + 16)) 0) (q .1) in
-      let s = passed 12 0 _ b (ltb (u64At f (a + 8)) 24) (r .1) in
-      let t = passed 12 0 _ b (ltb (length f) (a + u64At f (a + 8))) (s .1) in
-      let at : b .address ≡ a = cc in
-      let size : b .size ≡ u64At f (a + 8) - 24 = cc in
-      let there = has-header f a (p .0) in
-      let long : 24 ≤ u64At f (a + 8) = ltb-false _ _ (s .0) in
-      let ends : a + u64At f (a + 8) ≤ length f = ltb-false _ _ (t .0) in (
-        at,
-        record {
-          somewhere = omega (arith, there .0);
-          inside = omega arith;
-          named = rw at (q .0);
-          links = rw at (eqb-true _ _ (r .0));
-          blockLength = rw at (same-block a (u64At f (a + 8)) (b .size) size long);
-        },
-      )
-
   pub block-taken : (b : Block) → BlockStands id f b → blockAt id f (b .address) ≡ answer b
   unfolding blockAt
   block-taken b h =
@@ -72,12 +47,12 @@ module _ (id f : List ℕ) where
         → (u64At s (d .linksAt + i * 8) ≡ b .address) × BlockStands id f b × (declared s d i p (b .size) ≡ true) × (p + b .size ≤ 9223372036854775807)
     unfolding fragmentOf
     fragment-stands b h =
-        let g = gone-on (blockAt id f (u64At s (d .linksAt + i * 8))) (judged s d i p) b h in
-        let k = block-stands (u64At s (d .linksAt + i * 8)) (g .0) (g .1) in
-        let m = passed 14 0 _ b (ltb 9223372036854775807 (p + g .0 .size)) (g .2) in
-        let t = held 13 0 _ b (declared s d i p (g .0 .size)) (m .1) in
+        let g = followed (blockAt id f (u64At s (d .linksAt + i * 8))) (judged s d i p) b h in
+        let k = block-stands id f (u64At s (d .linksAt + i * 8)) (g .0) (g .1) in
+        let m = passed (ltb 9223372036854775807 (p + g .0 .size)) 14 0 _ b (g .2) in
+        let t = passed (not (declared s d i p (g .0 .size))) 13 0 _ b (m .1) in
         let same : g .0 ≡ b = cc in
-        (rw (sym same) (sym (k .0)), rw (sym same) (k .1), rw (sym same) (t .0), rw (sym same) (ltb-false _ _ (m .0)))
+        (rw (sym same) (sym (k .0)), rw (sym same) (k .1), rw (sym same) (not-false _ (t .0)), rw (sym same) (ltb-false _ _ (m .0)))
 
     pub fragment-taken : (b : Block) → u64At s (d .linksAt + i * 8) ≡ b .address → BlockStands id f b → declared s d i p (b .size) ≡ true
         → p + b .size ≤ 9223372036854775807 → fragmentOf id f s d i p ≡ answer b
@@ -89,13 +64,13 @@ module _ (f : List ℕ) (n a : ℕ) where
       → (0 < a) × (a + 24 ≤ length f) × (listOf (drop a f) ≡ answer d) × (d .count ≡ d .links) × (d .restAt + d .rest * 8 ≤ d .header .blockLength) × (n + d .links ≤ 4096)
   unfolding listAt
   list-there d h =
-      let p = held 11 0 _ d (hasHeader f a) h in
-      let there = has-header f a (p .0) in
-      let g = gone-on (listOf (drop a f)) (admitted n) d (p .1) in
-      let q = held 10 0 _ d (agrees (g .0)) (g .2) in
-      let r = passed 9 0 _ d (ltb 4096 (n + g .0 .links)) (q .1) in
+      let p = passed (not (hasHeader f a)) 11 0 _ d h in
+      let there = has-header f a (not-false _ (p .0)) in
+      let g = followed (listOf (drop a f)) (admitted n) d (p .1) in
+      let q = passed (not (agrees (g .0))) 10 0 _ d (g .2) in
+      let r = passed (ltb 4096 (n + g .0 .links)) 9 0 _ d (q .1) in
       let same : g .0 ≡ d = cc in
-      let t = both _ _ (q .0) in
+      let t = both _ _ (not-false _ (q .0)) in
       (there .0, there .1, g .1 ∙ ap answer same, rw (sym same) (eqb-true _ _ (t .0)), rw (sym same) (leb-true _ _ (t .1)), rw (sym same) (ltb-false _ _ (r .0)))
 
   pub list-taken : (d : DataList) → 0 < a → a + 24 ≤ length f → listOf (drop a f) ≡ answer d → d .count ≡ d .links

@@ -5,7 +5,6 @@ pub mod HeaderRoundTrip
 pub mod ListAnswers
 pub mod ListWrittenRead
 pub mod ListReadWritten
-pub mod Tested
 pub mod BlocksStand
 pub mod AcceptedChains
 pub mod NoSecondReply

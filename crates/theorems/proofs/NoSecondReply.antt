@@ -7,7 +7,7 @@ use Rattle.definitions.specs.Channel.{ValidValue}
 use Rattle.theorems.specs.Sole.{Settled}
 use Rattle.blocks.proofs.Back.{written-one, header-one, type-one, list-one}
 use Rattle.text.proofs.Back.{text-one}
-use Rattle.decoder.proofs.Meanings.{value-one, valid-value-one}
+use Rattle.decoder.proofs.Back.{value-one, valid-value-one}
 use Rattle.chain.proofs.Back.{chain-one, record-one}
 use Rattle.refusals.proofs.Refusal.number.Kinds as refusal-number-kinds
 use Rattle.refusals.proofs.Refusal.number.Reads as refusal-number
