@@ -229,5 +229,5 @@ record-value-settled = record {
   free = λ κs a. tt;
   says = λ κs a y e w. refl;
   sole = λ κs a y z b c p q.
-      (valid-value-one y z (ap (λ (o : Outcome ValidValue). o .reply) (p ∙ sym q)), ap (λ (o : Outcome ValidValue). (tt, (tt, (tt, (tt, (tt, (tt, (tt, (o .buffer, tt)))))))))(p ∙ sym q));
+      (valid-value-one y z (ap (λ (o : Outcome ValidValue). o .reply) (p ∙ sym q)), ap (λ (o : Outcome ValidValue). (tt, (tt, (tt, (tt, (tt, (tt, (tt, (o .buffer, tt))))))))) (p ∙ sym q));
 }
