@@ -1,0 +1,12 @@
+-- The test says that the buffer has as many bytes.
+use mathlib.Core.Path.{sym}
+use borrow.Author.Needs.{needs}
+use lib.Seq.{length-take-le}
+use Rattle.replay.proofs.words.room.Statement.{statement}
+use Rattle.replay.proofs.words.room.Tie as tie
+
+returns : tie.Need-returns
+returns c = (c .if1 .taken, sym (length-take-le _ _ (c .if1 .taken)))
+
+pub room-spec : {M : Type 1} → statement M
+room-spec = tie.close (tie.spec (λ c κs. search needs) returns (λ c. search needs))

@@ -1,0 +1,106 @@
+// Values, validity and doubles of channels.
+use crate::answers::no_value;
+use crate::answers::same_number;
+use crate::answers::same_reply;
+use crate::answers::same_value;
+use crate::kinds::BOTH;
+use crate::kinds::VALIDITY;
+use crate::kinds::VALUE;
+use crate::words::byte;
+use crate::words::bytes;
+use crate::words::next_if;
+use crate::words::number;
+use crate::words::sign;
+use crate::words::small;
+use mf4::Mf4Channel;
+use mf4::Mf4ValidValue;
+use mf4::mf4_check_validity;
+use mf4::mf4_decode_double;
+use mf4::mf4_decode_valid_value;
+use mf4::mf4_decode_value;
+
+// A field's words behind its record; `next` is where the answer begins
+pub struct FieldWords {
+    pub id_size: u64,
+    pub data_bytes: u32,
+    pub channel: Mf4Channel,
+    pub next: usize,
+}
+
+pub fn field_words(line: &[u8], at: usize) -> FieldWords {
+    let id_size = number(line, at);
+    let data_bytes = small(line, id_size.next);
+    let data_type = byte(line, data_bytes.next);
+    let channel_type = byte(line, data_type.next);
+    let bit_offset = byte(line, channel_type.next);
+    let byte_offset = small(line, bit_offset.next);
+    let bit_count = small(line, byte_offset.next);
+    let flags = small(line, bit_count.next);
+    let pos_invalidation_bit = small(line, flags.next);
+    let data = number(line, pos_invalidation_bit.next);
+    let channel = Mf4Channel {
+        data_type: data_type.value,
+        channel_type: channel_type.value,
+        bit_offset: bit_offset.value,
+        byte_offset: byte_offset.value,
+        bit_count: bit_count.value,
+        flags: flags.value,
+        pos_invalidation_bit: pos_invalidation_bit.value,
+        data: data.value,
+    };
+    FieldWords {
+        id_size: id_size.value,
+        data_bytes: data_bytes.value,
+        channel,
+        next: sign(line, data.next, b'='),
+    }
+}
+
+fn same_decoded(line: &[u8], at: usize, record: &[u8], id_size: u64, channel: Mf4Channel) -> usize {
+    let given = mf4_decode_value(record, id_size, channel);
+    let next = same_reply(line, at, given.reply, given.told);
+    if given.reply == 0 {
+        same_value(line, next, given.value)
+    } else {
+        no_value(next, given.value)
+    }
+}
+
+pub fn same_valid_value(line: &[u8], at: usize, given: Mf4ValidValue) -> usize {
+    let next = same_reply(line, at, given.reply, given.told);
+    if given.reply == 0 {
+        let next = same_value(line, next, given.value);
+        same_number(line, next, given.is_valid as u64)
+    } else {
+        next_if(given.is_valid == 0, no_value(next, given.value))
+    }
+}
+
+fn same_answer(line: &[u8], kind: usize, record: &[u8], asked: FieldWords) -> usize {
+    let at = asked.next;
+    let id_size = asked.id_size;
+    let data_bytes = asked.data_bytes;
+    let channel = asked.channel;
+    match kind {
+        VALUE => same_decoded(line, at, record, id_size, channel),
+        VALIDITY => same_number(
+            line,
+            at,
+            mf4_check_validity(record, id_size, data_bytes, channel) as u64,
+        ),
+        BOTH => same_valid_value(
+            line,
+            at,
+            mf4_decode_valid_value(record, id_size, data_bytes, channel),
+        ),
+        _ => same_number(line, at, mf4_decode_double(record, id_size, channel)),
+    }
+}
+
+pub fn replay_field(line: &[u8], kind: usize, at: usize) -> usize {
+    let mut record = [0u8; 512];
+    let read = bytes(line, at, &mut record);
+    let count = read.count;
+    let asked = field_words(line, read.next);
+    same_answer(line, kind, &record[..count], asked)
+}

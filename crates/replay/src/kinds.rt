@@ -1,0 +1,127 @@
+// The kinds of lines, by number.
+use crate::blocks_read::replay_block;
+use crate::blocks_written::replay_header_write;
+use crate::blocks_written::replay_list_write_equal;
+use crate::blocks_written::replay_list_write_variable;
+use crate::chains::replay_record;
+use crate::chains::replay_record_value;
+use crate::fields::replay_field;
+use crate::texts::replay_text;
+use crate::types::replay_type;
+use crate::words::WRONG;
+use crate::words::byte_at;
+use crate::words::past_blank;
+use libc::STDOUT_FILENO;
+
+pub const TYPE: usize = 0;
+
+pub const HEADER_READ: usize = 1;
+
+pub const HEADER_WRITE: usize = 2;
+
+pub const LIST_READ: usize = 3;
+
+pub const LIST_WRITE_EQUAL: usize = 4;
+
+pub const LIST_WRITE_VARIABLE: usize = 5;
+
+pub const VALUE: usize = 6;
+
+pub const VALIDITY: usize = 7;
+
+pub const BOTH: usize = 8;
+
+pub const DOUBLE: usize = 9;
+
+pub const TEXT: usize = 10;
+
+pub const RECORD: usize = 11;
+
+pub const RECORD_VALUE: usize = 12;
+
+pub const UNKNOWN: usize = 13;
+
+// One string, each name with a blank behind it: checking a string for each name takes far longer
+const NAMES: [u8; 137] =
+    *b"type header-read header-write list-read list-write-equal list-write-variable value validity both double text record record-value unknown ";
+
+// Whether the line's first word is the name that begins at `from`
+fn begins(line: &[u8], names: &[u8], from: usize) -> bool {
+    let mut at: usize = 0;
+    let mut name_at = from;
+    while name_at < names.len() {
+        if byte_at(line, at) != names[name_at] {
+            return false;
+        }
+        if names[name_at] == b' ' {
+            return true;
+        }
+        at += 1;
+        name_at += 1;
+    }
+    false
+}
+
+fn kind_among(line: &[u8], names: &[u8]) -> usize {
+    let mut kind: usize = 0;
+    let mut from: usize = 0;
+    while kind < UNKNOWN {
+        if begins(line, names, from) {
+            return kind;
+        }
+        from = past_blank(names, from);
+        kind += 1;
+    }
+    UNKNOWN
+}
+
+pub fn kind_of(line: &[u8]) -> usize {
+    kind_among(line, &NAMES)
+}
+
+fn name_place(kind: usize, names: &[u8]) -> usize {
+    let mut from: usize = 0;
+    let mut passed: usize = 0;
+    while passed < kind {
+        from = past_blank(names, from);
+        passed += 1;
+    }
+    from
+}
+
+fn print_byte(byte: u8) -> bool {
+    let one = [byte];
+    io::write_all(STDOUT_FILENO, &one)
+}
+
+fn print_word(words: &[u8], from: usize) {
+    let mut at = from;
+    while at < words.len() {
+        print_byte(words[at]);
+        if words[at] == b' ' {
+            return;
+        }
+        at += 1;
+    }
+}
+
+// The kind's name and a blank
+pub fn print_kind(kind: usize) {
+    print_word(&NAMES, name_place(kind, &NAMES));
+}
+
+// The place behind the line's last word if the library answers as the line says, else another
+pub fn replay(line: &[u8], kind: usize, at: usize) -> usize {
+    match kind {
+        TYPE => replay_type(line, at),
+        HEADER_READ | LIST_READ => replay_block(line, kind, at),
+        HEADER_WRITE => replay_header_write(line, at),
+        LIST_WRITE_EQUAL => replay_list_write_equal(line, at),
+        LIST_WRITE_VARIABLE => replay_list_write_variable(line, at),
+        VALUE | VALIDITY | BOTH | DOUBLE => replay_field(line, kind, at),
+        TEXT => replay_text(line, at),
+        RECORD => replay_record(line, at),
+        RECORD_VALUE => replay_record_value(line, at),
+        _ => WRONG,
+    }
+}

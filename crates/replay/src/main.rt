@@ -1,0 +1,34 @@
+// Replays stored answers through the library and says which are different: none should be.
+//
+// data/sample.txt holds answers of the Rust crate mf4-rs 3.8.0, as the comparison program writes them by
+// `compare --sample 3000 FILE`; compare/src/main.rs describes the lines. data/vectors.txt holds answers from elsewhere in
+// the same lines: doubles by IEEE 754, texts by the Unicode standard, and the worked examples of the rules. It has
+// two kinds more, for records through a chain of data lists:
+//
+//     record FILE START NUMBER SIZE ROOM = REPLY TOLD LEFT
+//     record-value FILE START NUMBER SIZE ROOM FIELD = REPLY TOLD [VALUE VALID] LEFT
+//
+// FILE is the whole file in bytes, and LEFT the bytes that the call left in its buffer. The FIELD of a `record-value`
+// begins with ID_SIZE, as its record is the one fetched. A line that is empty or begins with `#` is a remark. Every other
+// line counts: one of an unknown kind, with a word too many or too few or with a word that cannot be read is a
+// different one.
+mod answers;
+mod blocks_read;
+mod blocks_written;
+mod chains;
+mod fields;
+mod kinds;
+mod lines;
+mod texts;
+mod types;
+mod words;
+
+use lines::Run;
+use lines::replay_file;
+use lines::report;
+
+fn main() {
+    let run = replay_file(b"sample.txt", Run::new());
+    let run = replay_file(b"vectors.txt", run);
+    report(run);
+}
