@@ -1,6 +1,6 @@
 // The answers: a value, or a value with its validity, or a refusal.
 ghost use mathlib.Core.Path.{_≡_};
-ghost use Rattle.decoder.specs.Meaning.{valueRefusal, validValueRefusal};
+ghost use Rattle.decoder.specs.Meaning.{valueRefusal};
 use refusals::Refusal;
 
 // Texts and bytes are told by place and length in the slice given, a double by its value and its 64-bit pattern.
@@ -40,15 +40,4 @@ pub struct DecodedChannelValue {
 pub enum ValidValueRead {
     Value(DecodedChannelValue),
     Refused(Refusal),
-}
-
-impl ValidValueRead {
-    pub fn refusal(self) -> Refusal
-        ensures { λ r. ⌜ r ≡ validValueRefusal self ⌝ }
-    {
-        match self {
-            ValidValueRead::Refused(r) => r,
-            ValidValueRead::Value(_) => Refusal::NoValue,
-        }
-    }
 }
