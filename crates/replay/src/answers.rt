@@ -9,14 +9,14 @@ use mf4::Mf4Decoded;
 use mf4::Mf4Written;
 
 // A lent buffer is full of these, so that a byte written where none should be shows
-pub const FILL: u8 = 0xa5;
+pub(crate) const FILL: u8 = 0xa5;
 
-pub fn same_number(line: &[u8], at: usize, given: u64) -> usize {
+pub(crate) fn same_number(line: &[u8], at: usize, given: u64) -> usize {
     let due = number(line, at);
     next_if(due.value == given, due.next)
 }
 
-pub fn same_reply(line: &[u8], at: usize, reply: u32, told: u64) -> usize {
+pub(crate) fn same_reply(line: &[u8], at: usize, reply: u32, told: u64) -> usize {
     let next = same_number(line, at, reply as u64);
     same_number(line, next, told)
 }
@@ -49,22 +49,22 @@ fn left(line: &[u8], at: usize, out: &[u8; 512]) -> Counted {
     }
 }
 
-pub fn same_left(line: &[u8], at: usize, out: &[u8; 512]) -> usize {
+pub(crate) fn same_left(line: &[u8], at: usize, out: &[u8; 512]) -> usize {
     left(line, at, out).next
 }
 
 // The same, where the call also told how many bytes it wrote
-pub fn same_output(line: &[u8], at: usize, out: &[u8; 512], count: u64) -> usize {
+pub(crate) fn same_output(line: &[u8], at: usize, out: &[u8; 512], count: u64) -> usize {
     let due = left(line, at, out);
     next_if(due.count as u64 == count, due.next)
 }
 
 // A refused call wrote nothing and told no bytes, and the line ends there
-pub fn same_refusal(at: usize, out: &[u8; 512], count: u64) -> usize {
+pub(crate) fn same_refusal(at: usize, out: &[u8; 512], count: u64) -> usize {
     next_if(count == 0 && holds_only(out, b""), at)
 }
 
-pub fn same_written(line: &[u8], at: usize, out: &[u8; 512], given: Mf4Written) -> usize {
+pub(crate) fn same_written(line: &[u8], at: usize, out: &[u8; 512], given: Mf4Written) -> usize {
     let next = same_reply(line, at, given.reply, given.told);
     if given.reply == 0 {
         same_output(line, next, out, given.count)
@@ -91,7 +91,7 @@ fn where_of_kind(kind: u64, first: u64, last: u64, number: u64) -> u64 {
 }
 
 // Every field of the value, also those that its kind does not use
-pub fn same_value(line: &[u8], at: usize, given: Mf4Decoded) -> usize {
+pub(crate) fn same_value(line: &[u8], at: usize, given: Mf4Decoded) -> usize {
     let kind_read = number(line, at);
     let first = number(line, kind_read.next);
     let second = number(line, first.next);
@@ -112,7 +112,7 @@ pub fn same_value(line: &[u8], at: usize, given: Mf4Decoded) -> usize {
 }
 
 // Beside a refusal every field of the value is 0
-pub fn no_value(at: usize, given: Mf4Decoded) -> usize {
+pub(crate) fn no_value(at: usize, given: Mf4Decoded) -> usize {
     let zeros = b"0 0 0";
     next_if(is_end(zeros, same_value(zeros, 0, given)), at)
 }

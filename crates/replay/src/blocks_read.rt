@@ -62,7 +62,7 @@ fn no_list(at: usize, given: Mf4List) -> usize {
     next_if(is_end(zeros, same_list(zeros, 0, given)), at)
 }
 
-pub fn replay_block(line: &[u8], kind: usize, at: usize) -> usize {
+pub(crate) fn replay_block(line: &[u8], kind: usize, at: usize) -> usize {
     let mut block = [0u8; 512];
     let read = bytes(line, at, &mut block);
     let count = read.count;

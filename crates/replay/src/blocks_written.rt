@@ -33,7 +33,7 @@ fn header_words(line: &[u8], at: usize) -> HeaderWords {
     }
 }
 
-pub fn replay_header_write(line: &[u8], at: usize) -> usize {
+pub(crate) fn replay_header_write(line: &[u8], at: usize) -> usize {
     let words = header_words(line, at);
     let header = words.header;
     let mut out = [FILL; 512];
@@ -44,7 +44,7 @@ pub fn replay_header_write(line: &[u8], at: usize) -> usize {
     same_written(line, next, &out, given)
 }
 
-pub fn replay_list_write_equal(line: &[u8], at: usize) -> usize {
+pub(crate) fn replay_list_write_equal(line: &[u8], at: usize) -> usize {
     let mut out = [FILL; 512];
     let lent = room(line, at, &out);
     let next_list = number(line, lent.next);
@@ -63,7 +63,7 @@ pub fn replay_list_write_equal(line: &[u8], at: usize) -> usize {
     same_written(line, after, &out, given)
 }
 
-pub fn replay_list_write_variable(line: &[u8], at: usize) -> usize {
+pub(crate) fn replay_list_write_variable(line: &[u8], at: usize) -> usize {
     let mut out = [FILL; 512];
     let lent = room(line, at, &out);
     let next_list = number(line, lent.next);

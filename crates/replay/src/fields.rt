@@ -20,14 +20,14 @@ use mf4::mf4_decode_valid_value;
 use mf4::mf4_decode_value;
 
 // A field's words behind its record; `next` is where the answer begins
-pub struct FieldWords {
+pub(crate) struct FieldWords {
     pub id_size: u64,
     pub data_bytes: u32,
     pub channel: Mf4Channel,
     pub next: usize,
 }
 
-pub fn field_words(line: &[u8], at: usize) -> FieldWords {
+pub(crate) fn field_words(line: &[u8], at: usize) -> FieldWords {
     let id_size = number(line, at);
     let data_bytes = small(line, id_size.next);
     let data_type = byte(line, data_bytes.next);
@@ -66,7 +66,7 @@ fn same_decoded(line: &[u8], at: usize, record: &[u8], id_size: u64, channel: Mf
     }
 }
 
-pub fn same_valid_value(line: &[u8], at: usize, given: Mf4ValidValue) -> usize {
+pub(crate) fn same_valid_value(line: &[u8], at: usize, given: Mf4ValidValue) -> usize {
     let next = same_reply(line, at, given.reply, given.told);
     if given.reply == 0 {
         let next = same_value(line, next, given.value);
@@ -97,7 +97,7 @@ fn same_answer(line: &[u8], kind: usize, record: &[u8], asked: FieldWords) -> us
     }
 }
 
-pub fn replay_field(line: &[u8], kind: usize, at: usize) -> usize {
+pub(crate) fn replay_field(line: &[u8], kind: usize, at: usize) -> usize {
     let mut record = [0u8; 512];
     let read = bytes(line, at, &mut record);
     let count = read.count;

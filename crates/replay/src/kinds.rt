@@ -13,33 +13,33 @@ use crate::words::byte_at;
 use crate::words::past_blank;
 use libc::STDOUT_FILENO;
 
-pub const TYPE: usize = 0;
+pub(crate) const TYPE: usize = 0;
 
-pub const HEADER_READ: usize = 1;
+pub(crate) const HEADER_READ: usize = 1;
 
-pub const HEADER_WRITE: usize = 2;
+pub(crate) const HEADER_WRITE: usize = 2;
 
-pub const LIST_READ: usize = 3;
+pub(crate) const LIST_READ: usize = 3;
 
-pub const LIST_WRITE_EQUAL: usize = 4;
+pub(crate) const LIST_WRITE_EQUAL: usize = 4;
 
-pub const LIST_WRITE_VARIABLE: usize = 5;
+pub(crate) const LIST_WRITE_VARIABLE: usize = 5;
 
-pub const VALUE: usize = 6;
+pub(crate) const VALUE: usize = 6;
 
-pub const VALIDITY: usize = 7;
+pub(crate) const VALIDITY: usize = 7;
 
-pub const BOTH: usize = 8;
+pub(crate) const BOTH: usize = 8;
 
-pub const DOUBLE: usize = 9;
+pub(crate) const DOUBLE: usize = 9;
 
-pub const TEXT: usize = 10;
+pub(crate) const TEXT: usize = 10;
 
-pub const RECORD: usize = 11;
+pub(crate) const RECORD: usize = 11;
 
-pub const RECORD_VALUE: usize = 12;
+pub(crate) const RECORD_VALUE: usize = 12;
 
-pub const UNKNOWN: usize = 13;
+pub(crate) const UNKNOWN: usize = 13;
 
 // One string, each name with a blank behind it: checking a string for each name takes far longer
 const NAMES: [u8; 137] =
@@ -75,7 +75,7 @@ fn kind_among(line: &[u8], names: &[u8]) -> usize {
     UNKNOWN
 }
 
-pub fn kind_of(line: &[u8]) -> usize {
+pub(crate) fn kind_of(line: &[u8]) -> usize {
     kind_among(line, &NAMES)
 }
 
@@ -106,12 +106,12 @@ fn print_word(words: &[u8], from: usize) {
 }
 
 // The kind's name and a blank
-pub fn print_kind(kind: usize) {
+pub(crate) fn print_kind(kind: usize) {
     print_word(&NAMES, name_place(kind, &NAMES));
 }
 
 // The place behind the line's last word if the library answers as the line says, else another
-pub fn replay(line: &[u8], kind: usize, at: usize) -> usize {
+pub(crate) fn replay(line: &[u8], kind: usize, at: usize) -> usize {
     match kind {
         TYPE => replay_type(line, at),
         HEADER_READ | LIST_READ => replay_block(line, kind, at),

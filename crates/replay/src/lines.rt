@@ -11,7 +11,7 @@ use libc::STDOUT_FILENO;
 // Enough to see what is wrong without drowning in it
 const MOST_SHOWN: u64 = 20;
 
-pub struct Run {
+pub(crate) struct Run {
     // by kind, and last the lines of no known kind
     counts: [u64; 14],
     different: u64,
@@ -26,7 +26,7 @@ fn one_more(count: u64) -> u64 {
 }
 
 impl Run {
-    pub fn new() -> Self {
+    pub(crate) fn new() -> Self {
         Run {
             counts: [0; 14],
             different: 0,
@@ -165,7 +165,7 @@ fn take_all(fd: i32, path: &[u8], run: Run) -> Run {
     run
 }
 
-pub fn replay_file(path: &[u8], run: Run) -> Run {
+pub(crate) fn replay_file(path: &[u8], run: Run) -> Run {
     let run = run.opened();
     let fd = os::open_read(path);
     if fd < 0 {
@@ -198,7 +198,7 @@ fn print_counts(counts: [u64; 14]) -> u64 {
     total
 }
 
-pub fn report(run: Run) {
+pub(crate) fn report(run: Run) {
     let counts = run.counts;
     let total = print_counts(counts);
     io::print_decimal(STDOUT_FILENO, total);

@@ -11,7 +11,8 @@
 // FILE is the whole file in bytes, and LEFT the bytes that the call left in its buffer. The FIELD of a `record-value`
 // begins with ID_SIZE, as its record is the one fetched. A line that is empty or begins with `#` is a remark. Every other
 // line counts: one of an unknown kind, with a word too many or too few or with a word that cannot be read is a
-// different one.
+// different one. data/wrong.txt holds nothing but such lines, each wrong in one word, so that a program that overlooks
+// something is found out.
 mod answers;
 mod blocks_read;
 mod blocks_written;
@@ -31,4 +32,6 @@ fn main() {
     let run = replay_file(b"sample.txt", Run::new());
     let run = replay_file(b"vectors.txt", run);
     report(run);
+    // wrong on purpose: all of them must be told
+    report(replay_file(b"wrong.txt", Run::new()));
 }

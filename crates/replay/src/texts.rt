@@ -35,7 +35,7 @@ fn same_text(line: &[u8], at: usize, out: &[u8; 512], given: Mf4Text) -> usize {
     }
 }
 
-pub fn replay_text(line: &[u8], at: usize) -> usize {
+pub(crate) fn replay_text(line: &[u8], at: usize) -> usize {
     let code = byte(line, at);
     if code.value < 6 || code.value > 9 {
         return WRONG;

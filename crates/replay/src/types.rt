@@ -5,7 +5,7 @@ use crate::words::sign;
 use mf4::mf4_default_bits;
 use mf4::mf4_type_code;
 
-pub fn replay_type(line: &[u8], at: usize) -> usize {
+pub(crate) fn replay_type(line: &[u8], at: usize) -> usize {
     let code = byte(line, at);
     let next = sign(line, code.next, b'=');
     let next = same_number(line, next, mf4_type_code(code.value) as u64);

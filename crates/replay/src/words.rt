@@ -2,27 +2,28 @@
 //
 // Each reader takes the place where its word begins and answers the place of the next word. There is no word at the place
 // WRONG, and a reader that finds no such word as it reads answers WRONG: so one wrong word makes the rest of its line wrong.
+ghost use Prim.Native.Nat.{_≤_};
 ghost use Rattle.io.specs.Counts.{Counts};
 
-pub const WRONG: usize = usize::MAX;
+pub(crate) const WRONG: usize = usize::MAX;
 
-pub struct NumberRead {
+pub(crate) struct NumberRead {
     pub value: u64,
     pub next: usize,
 }
 
-pub struct SmallRead {
+pub(crate) struct SmallRead {
     pub value: u32,
     pub next: usize,
 }
 
-pub struct ByteRead {
+pub(crate) struct ByteRead {
     pub value: u8,
     pub next: usize,
 }
 
 // how many bytes or numbers were read, or how many bytes are lent
-pub struct Counted {
+pub(crate) struct Counted {
     pub count: usize,
     pub next: usize,
 }
@@ -41,7 +42,7 @@ fn wide(byte: u8) -> u64 {
 }
 
 // 0, which no word has, behind the line's end
-pub fn byte_at(line: &[u8], at: usize) -> u8 {
+pub(crate) fn byte_at(line: &[u8], at: usize) -> u8 {
     if at < line.len() { line[at] } else { 0 }
 }
 
@@ -61,7 +62,7 @@ fn after(line: &[u8], end: usize) -> usize {
 }
 
 // The place behind the next blank
-pub fn past_blank(line: &[u8], from: usize) -> usize {
+pub(crate) fn past_blank(line: &[u8], from: usize) -> usize {
     let mut at = from;
     while at < line.len() {
         if line[at] == b' ' {
@@ -72,15 +73,15 @@ pub fn past_blank(line: &[u8], from: usize) -> usize {
     at
 }
 
-pub fn next_if(is_same: bool, next: usize) -> usize {
+pub(crate) fn next_if(is_same: bool, next: usize) -> usize {
     if is_same { next } else { WRONG }
 }
 
-pub fn is_end(line: &[u8], at: usize) -> bool {
+pub(crate) fn is_end(line: &[u8], at: usize) -> bool {
     at == line.len() + 1
 }
 
-pub fn sign(line: &[u8], at: usize, sign: u8) -> usize {
+pub(crate) fn sign(line: &[u8], at: usize, sign: u8) -> usize {
     if at < line.len() {
         if line[at] == sign {
             return after(line, at + 1);
@@ -94,7 +95,7 @@ fn appended(value: u64, digit: u64) -> u64 {
     value << 4 | digit
 }
 
-pub fn number(line: &[u8], at: usize) -> NumberRead {
+pub(crate) fn number(line: &[u8], at: usize) -> NumberRead {
     let mut value: u64 = 0;
     let mut end = at;
     while end < line.len() {
@@ -123,54 +124,43 @@ fn ended(line: &[u8], from: usize, end: usize, value: u64) -> NumberRead {
     }
 }
 
-pub fn small(line: &[u8], at: usize) -> SmallRead {
+fn up_to(line: &[u8], at: usize, most: u64) -> NumberRead
+    ensures { λ r. ⌜ r .value ≤ most ⌝ }
+{
     let read = number(line, at);
-    let value = read.value;
-    if value <= 0xffffffff {
-        SmallRead {
-            value: value as u32,
-            next: read.next,
-        }
-    } else {
-        SmallRead {
-            value: 0,
-            next: WRONG,
-        }
+    if read.value <= most {
+        return read;
+    }
+    NumberRead {
+        value: 0,
+        next: WRONG,
     }
 }
 
-pub fn byte(line: &[u8], at: usize) -> ByteRead {
-    let read = number(line, at);
-    let value = read.value;
-    if value <= 0xff {
-        ByteRead {
-            value: value as u8,
-            next: read.next,
-        }
-    } else {
-        ByteRead {
-            value: 0,
-            next: WRONG,
-        }
+pub(crate) fn small(line: &[u8], at: usize) -> SmallRead {
+    let read = up_to(line, at, 0xffffffff);
+    SmallRead {
+        value: read.value as u32,
+        next: read.next,
+    }
+}
+
+pub(crate) fn byte(line: &[u8], at: usize) -> ByteRead {
+    let read = up_to(line, at, 0xff);
+    ByteRead {
+        value: read.value as u8,
+        next: read.next,
     }
 }
 
 // How many bytes of a buffer to lend. It takes the buffer so that its part needs no proof where it is lent.
-pub fn room(line: &[u8], at: usize, out: &[u8]) -> Counted
+pub(crate) fn room(line: &[u8], at: usize, out: &[u8]) -> Counted
     ensures { λ r. ⌜ Counts (r .count) (now (out .entry)) ⌝ }
 {
-    let read = number(line, at);
-    let value = read.value;
-    if value <= out.len() as u64 {
-        Counted {
-            count: value as usize,
-            next: read.next,
-        }
-    } else {
-        Counted {
-            count: 0,
-            next: WRONG,
-        }
+    let read = up_to(line, at, out.len() as u64);
+    Counted {
+        count: read.value as usize,
+        next: read.next,
     }
 }
 
@@ -190,7 +180,7 @@ fn pair_on(at: usize) -> usize {
     if at < WRONG - 2 { at + 2 } else { WRONG }
 }
 
-pub fn bytes(line: &[u8], at: usize, out: &mut [u8]) -> Counted
+pub(crate) fn bytes(line: &[u8], at: usize, out: &mut [u8]) -> Counted
     ensures { λ r. ⌜ Counts (r .count) (now (out .exit)) ⌝ }
 {
     let mut count: usize = 0;
@@ -219,7 +209,7 @@ fn bytes_end(line: &[u8], from: usize, end: usize) -> usize {
 }
 
 // A count and then that many numbers
-pub fn numbers(line: &[u8], at: usize, out: &mut [u64]) -> Counted
+pub(crate) fn numbers(line: &[u8], at: usize, out: &mut [u64]) -> Counted
     ensures { λ r. ⌜ Counts (r .count) (now (out .exit)) ⌝ }
 {
     let told = number(line, at);
