@@ -11,3 +11,4 @@ pub mod NoSecondReply
 pub mod NoSecondReplyToC
 pub mod TwoFiles
 pub mod LeftAlone
+pub mod TwoFilesRead

@@ -16,6 +16,10 @@ module _ (n : ℕ) (ps : List (PK n)) (r : RK n) where
   abbrev pub Clause : Type 2
   Clause = (κs : Lfts n) → Dens κs ps → Unit {0} → resT r κs .Denot → AtExit (endedOf n ps r) κs → (w : World) → Pr w
 
+  -- the clause `learnt` allows the result y with the contents b of the lent buffers at exit
+  abbrev pub Allows : Out n ps r → (κs : Lfts n) (a : Dens κs ps) → resT r κs .Denot → Lasts (endedOf n ps r) κs a → Type 0
+  Allows learnt κs a y b = learnt κs a y (atExit (endedOf n ps r) κs a b)
+
   pub record Settled (asked : In n ps) (ensures : Clause) (learnt : Out n ps r) : Type 2 where
     -- nothing is asked of the caller
     pub free : (κs : Lfts n) (a : Dens κs ps) → asked κs a
@@ -24,6 +28,5 @@ module _ (n : ℕ) (ps : List (PK n)) (r : RK n) where
         → ensures κs a tt y e w ≡ fact (w .𝓤) (learnt κs a y e)
     -- two results, each with the contents of every lent buffer at exit, that it allows are the same
     pub sole : (κs : Lfts n) (a : Dens κs ps) (y z : resT r κs .Denot) (b c : Lasts (endedOf n ps r) κs a)
-        → learnt κs a y (atExit (endedOf n ps r) κs a b)
-        → learnt κs a z (atExit (endedOf n ps r) κs a c)
+        → Allows learnt κs a y b → Allows learnt κs a z c
         → (y ≡ z) × (b ≡ c)
