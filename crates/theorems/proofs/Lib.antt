@@ -12,3 +12,4 @@ pub mod NoSecondReplyToC
 pub mod TwoFiles
 pub mod LeftAlone
 pub mod TwoFilesRead
+pub mod Answers

@@ -11,18 +11,16 @@ use Rattle.definitions.specs.Reply.{Reply, answer, refusal, if_then_else_, andT
 use Rattle.definitions.specs.Bytes.{u64At, idAt}
 use Rattle.definitions.specs.Header.{Header, headerOf, headerIn}
 use Rattle.definitions.specs.DataList.{DataList, idDL, listOf, linksOf, restOf, listIn, restIn, flagsAt}
+use Rattle.theorems.specs.Exactly.{ListStands}
 use Rattle.blocks.proofs.Headers.{apart, needed, header-met, header-answered}
 use Rattle.blocks.proofs.Lists.{list-linked}
 use Rattle.definitions.proofs.Replies.{needing-met}
 
--- the id, a link, and room for all that the fields take
-pub record Stands (s : List ℕ) : Type 0 where
-  pub named : idAt s 0 idDL ≡ true
-  pub some : 0 < u64At s 16
-  pub whole : flagsAt (u64At s 16) + 8 + restIn s (u64At s 16) * 8 ≤ length s
+pub above-zero : (n : ℕ) → (n ≡ 0 → ⊥) → 0 < n
+above-zero n h = omega arith
 
 module _ (s : List ℕ) where
-  pub list-answered : Stands s → listOf s ≡ answer (listIn s (headerIn s))
+  pub list-answered : ListStands s → listOf s ≡ answer (listIn s (headerIn s))
   unfolding restOf
   list-answered h =
       let w = h .whole in
@@ -54,10 +52,7 @@ module _ (s : List ℕ) where
   unfolding restOf
   rested d h = needed s _ _ d h
 
-  above-zero : (n : ℕ) → (n ≡ 0 → ⊥) → 0 < n
-  above-zero n h = omega arith
-
-  pub list-stands : (d : DataList) → listOf s ≡ answer d → Stands s × (d ≡ listIn s (headerIn s))
+  pub list-stands : (d : DataList) → listOf s ≡ answer d → ListStands s × (d ≡ listIn s (headerIn s))
   list-stands d h =
       let p = linked (headerIn s) d (headed d h) in
       let q = rested d (p .2) in

@@ -19,7 +19,8 @@ use Rattle.words.proofs.Ids.{id-words}
 use Rattle.blocks.proofs.Headers.{header-met}
 use Rattle.theorems.proofs.Rewritten.{number-written, numbers-written}
 use Rattle.theorems.proofs.HeaderRoundTrip.{header-read-written}
-use Rattle.theorems.proofs.ListAnswers.{Stands, list-stands}
+use Rattle.theorems.specs.Exactly.{ListStands}
+use Rattle.theorems.proofs.ListAnswers.{list-stands}
 
 pub record Plain (d : DataList) : Type 0 where
   pub header-reserved : d .header .reserved ≡ 0
@@ -53,7 +54,7 @@ id-number s b l h =
     id-bytes (suc (suc (suc zero))) = omega arith
     id-bytes (suc (suc (suc (suc i)))) = omega arith
 
-module _ (s : List ℕ) (bytes : Bytes s) (stands : Stands s) where
+module _ (s : List ℕ) (bytes : Bytes s) (stands : ListStands s) where
   -- the link count, where the flags stand, the data links and the numbers of the rest
   abbrev count : ℕ
   count = u64At s 16

@@ -15,7 +15,8 @@ use Rattle.blocks.proofs.Headers.{length-header}
 use Rattle.blocks.proofs.Writes.{length-list}
 use Rattle.theorems.proofs.Rewritten.{Words, number-read, numbers-read}
 use Rattle.theorems.proofs.HeaderRoundTrip.{Fits, fields-read}
-use Rattle.theorems.proofs.ListAnswers.{Stands, list-answered}
+use Rattle.theorems.specs.Exactly.{ListStands}
+use Rattle.theorems.proofs.ListAnswers.{list-answered}
 
 -- what a list is written from: numbers of their widths, and as many of the rest as the flags and the count say
 pub record Writable (next : ℕ) (links : List ℕ) (flags : ℕ) (rest : List ℕ) : Type 0 where
@@ -128,7 +129,7 @@ module _ (next : ℕ) (links : List ℕ) (flags : ℕ) (rest after : List ℕ) w
     rest-is : restIn s (length links + 1) ≡ length rest
     rest-is = ap₂ restCount flags-are count-is ∙ w .counted
 
-    stands : Stands s
+    stands : ListStands s
     stands =
         let tail : List ℕ = le 8 next ++ les links ++ word ++ le 4 (length links) ++ les rest ++ after in
         let e : s ≡ headerBytes header ++ tail = simp append-assoc in

@@ -1,0 +1,236 @@
+-- No definition is met by refusing always: each answers exactly where its condition holds.
+use mathlib.Core.Path.{_≡_, refl, sym, ap, _∙_}
+use mathlib.Core.Logic.{_⊎_, inl, inr}
+use mathlib.Core.Bool.{Bool, true, false, not, _&&_, _||_}
+use mathlib.Core.List.{List}
+use Prim.Native.Nat.{ℕ, _+_, _*_, _≤_, _<_}
+use native.Mathlib.Omega.{arith}
+use lib.ListN.{length, take}
+use lib.Dec.{ltb, eqb}
+use borrow.Author.Tests.{ltb-false, le-ltb, eqb-true, eqb-false, not-false, ne-eqb, eq-eqb}
+use Rattle.definitions.specs.Reply.{Reply, Outcome, answer, refusal, if_then_else_, andThen, told, needing, writing}
+use Rattle.definitions.specs.Unicode.{Encoding, textOf, writtenText, textWritten}
+use Rattle.definitions.specs.Header.{Header, headerIn, headerOf, headerBytes, headerWritten}
+use Rattle.definitions.specs.DataType.{Kind, integer, floating, whole, undecoded, kindOf}
+use Rattle.definitions.specs.DataList.{Lengths, equal, variable, listOf, listBytes, listSize, flagsFor, restFor, unwritable, listWritten}
+use Rattle.definitions.specs.Channel.{Channel, Value, ValidValue, startOf, spanOf, decoded, valueBy, valueOf, validOf, validValueOf}
+use Rattle.definitions.specs.Chain.{Block, idDT, joined, chainOf, badSize, onBlocks, recordOf, fetched, fieldOf, valueFetched}
+use Rattle.blocks.proofs.Headers.{apart, length-header}
+use Rattle.blocks.proofs.Writes.{length-list}
+use Rattle.chain.proofs.Answers.{answered}
+use Rattle.theorems.proofs.ListAnswers.{above-zero, list-answered, list-stands}
+use Rattle.theorems.proofs.AcceptedChains.{accepted, accepts}
+use Rattle.theorems.specs.Exactly.{Exactly, ListStands, Counted, ListFits, Legal, Readable, Fetchable, ValueFetchable}
+
+-- ---- tests in turn
+
+no-way : {P : Type 0} → true ≡ false → P
+no-way h = absurd (let y : _≡_ {A = ℕ} 0 1 = cc in omega arith)
+
+neither : (a b : Bool) → a || b ≡ false → (a ≡ false) × (b ≡ false)
+neither true b h = no-way h
+neither false b h = (refl, h)
+
+either : (a b : Bool) → a || b ≡ true → (a ≡ true) ⊎ (b ≡ true)
+either true b h = inl refl
+either false b h = inr h
+
+module _ {A : Type 0} where
+  pub always : (a : A) → Exactly (Unit {0}) (answer a)
+  always a = record { answers = λ u. (a, refl); only = λ b e. tt }
+
+  pub same : {P Q : Type 0} {r : Reply A} → (Q → P) → (P → Q) → Exactly P r → Exactly Q r
+  same back on h = record { answers = λ q. h .answers (back q); only = λ a e. on (h .only a e) }
+
+  -- behind a test that refuses
+  passing : {P Q : Type 0} (t : Bool) (n m : ℕ) (r : Reply A) → (P → t ≡ false) → (t ≡ false → P) → Exactly Q r
+      → Exactly (P × Q) (if t then refusal n m else r)
+  passing true n m r to from h = record {
+    answers = λ pq. no-way (to (pq .0));
+    only = λ a e. apart a n m e;
+  }
+  passing false n m r to from h = record {
+    answers = λ pq. h .answers (pq .1);
+    only = λ a e. (from refl, h .only a e);
+  }
+
+  pub not-under : {Q : Type 0} (a b n m : ℕ) (r : Reply A) → Exactly Q r → Exactly ((b ≤ a) × Q) (if ltb a b then refusal n m else r)
+  not-under a b n m r h = passing (ltb a b) n m r (λ p. le-ltb a b p) (λ e. ltb-false a b e) h
+
+  pub unless-under : (a b n m : ℕ) (x : A) → Exactly (b ≤ a) (if ltb a b then refusal n m else answer x)
+  unless-under a b n m x = same (λ p. (p, tt)) (λ p. p .0) (not-under a b n m (answer x) (always x))
+
+  pub not-equal : {Q : Type 0} (a b n m : ℕ) (r : Reply A) → Exactly Q r → Exactly ((a ≡ b → ⊥) × Q) (if eqb a b then refusal n m else r)
+  not-equal a b n m r h = passing (eqb a b) n m r (λ p. ne-eqb a b p) (λ e. eqb-false a b e) h
+
+-- going on with an answer
+pub going-on : {A B P Q : Type 0} (r : Reply A) (g : A → Reply B) → Exactly P r → ((a : A) → Exactly Q (g a)) → Exactly (P × Q) (andThen r g)
+going-on (answer a) g h i = record { answers = λ pq. i a .answers (pq .1); only = λ b e. (h .only a refl, i a .only b e) }
+going-on (refusal n m) g h i = record {
+  answers = λ pq. let z = h .answers (pq .0) in apart (z .0) n m (z .1);
+  only = λ b e. apart b n m e;
+}
+
+-- ---- headers
+
+pub header-exactly : (s : List ℕ) → Exactly (24 ≤ length s) (headerOf s)
+unfolding headerOf
+header-exactly s = unless-under (length s) 24 2 (told 24) (headerIn s)
+
+-- ---- lists
+
+pub list-exactly : (s : List ℕ) → Exactly (ListStands s) (listOf s)
+list-exactly s = record { answers = λ h. (_, list-answered s h); only = λ d e. list-stands s d e .0 }
+
+-- ---- into a buffer
+
+module _ {A : Type 0} where
+  reply-of : {Q : Type 0} (t : Bool) (n m : ℕ) (out : List ℕ) (o : Outcome A) → Exactly Q (if t then refusal n m else o .reply)
+      → Exactly Q ((if t then record { reply = refusal n m; buffer = out } else o) .reply)
+  reply-of true n m out o h = h
+  reply-of false n m out o h = h
+
+  -- a buffer that is long enough is written
+  pub writing-exactly : (out bytes : List ℕ) (a : A) → Exactly (length bytes ≤ length out) (writing out bytes a .reply)
+  writing-exactly out bytes a =
+      reply-of (ltb (length out) (length bytes)) 6 (told (length bytes)) out _
+      (unless-under (length out) (length bytes) 6 (told (length bytes)) a)
+
+pub header-written-exactly : (out : List ℕ) (h : Header) → Exactly (24 ≤ length out) (headerWritten out h .reply)
+unfolding headerWritten
+header-written-exactly out h =
+    let l = length-header h in
+    same (λ p. omega arith) (λ p. omega arith) (writing-exactly out (headerBytes h) 24)
+
+counted-passes : (n : ℕ) (l : Lengths) → (n ≤ 4096) × Counted n l → unwritable n l ≡ false
+counted-passes n (equal k) p = le-ltb _ _ (p .0)
+counted-passes n (variable ns) p = rw (le-ltb _ _ (p .0), eq-eqb _ _ (p .1))
+
+passed-counted : (n : ℕ) (l : Lengths) → unwritable n l ≡ false → (n ≤ 4096) × Counted n l
+passed-counted n (equal k) h = (ltb-false _ _ h, tt)
+passed-counted n (variable ns) h =
+    let p = neither (ltb 4096 n) (not (eqb n (length ns))) h in
+    (ltb-false _ _ (p .0), eqb-true _ _ (not-false _ (p .1)))
+
+module _ (out : List ℕ) (next : ℕ) (links : List ℕ) (l : Lengths) where
+  list-room : Exactly (listSize (length links) (length (restFor l)) ≤ length out) (writing out (listBytes next links (flagsFor l) (restFor l)) (listSize (length links) (length (restFor l))) .reply)
+  list-room =
+      let n = length-list next links (flagsFor l) (restFor l) in
+      same (λ p. omega arith) (λ p. omega arith) (writing-exactly out (listBytes next links (flagsFor l) (restFor l)) _)
+
+  pub list-written-exactly : Exactly (ListFits out links l) (listWritten out next links l .reply)
+  unfolding listWritten
+  list-written-exactly =
+      same (λ w. ((w .few, w .counted), w .room)) (λ p. record { few = p .0 .0; counted = p .0 .1; room = p .1 })
+      (reply-of (unwritable (length links) l) 5 0 out _
+      (passing (unwritable (length links) l) 5 0 _ (counted-passes (length links) l) (passed-counted (length links) l) list-room))
+
+pub text-written-exactly : (out : List ℕ) (e : Encoding) (s : List ℕ) → Exactly (length (textOf e s .bytes) ≤ length out) (textWritten out e s .reply)
+unfolding textWritten writtenText
+text-written-exactly out e s = writing-exactly out (textOf e s .bytes) _
+
+-- ---- values
+
+-- a float of 32 or 64 bits
+width-passes : (w : ℕ) → (w ≡ 32) ⊎ (w ≡ 64) → not (eqb w 32 || eqb w 64) ≡ false
+width-passes w (inl e) = rw (eq-eqb _ _ e)
+width-passes w (inr e) = rw e
+
+width-told : (w : ℕ) → (eqb w 32 ≡ true) ⊎ (eqb w 64 ≡ true) → (w ≡ 32) ⊎ (w ≡ 64)
+width-told w (inl e) = inl (eqb-true _ _ e)
+width-told w (inr e) = inr (eqb-true _ _ e)
+
+passed-width : (w : ℕ) → not (eqb w 32 || eqb w 64) ≡ false → (w ≡ 32) ⊎ (w ≡ 64)
+passed-width w h = width-told w (either (eqb w 32) (eqb w 64) (not-false _ h))
+
+module _ (s : List ℕ) (at n : ℕ) (c : Channel) where
+  inside-exactly : {Q : Type 0} (r : Reply Value) → Exactly Q r → Exactly ((at + n ≤ length s) × Q) (if ltb (length s) (at + n) then refusal 1 0 else r)
+  inside-exactly r h = not-under (length s) (at + n) 1 0 r h
+
+  by-kind : (k : Kind) → Exactly (Legal k c × (at + n ≤ length s)) (valueBy k at n s c)
+  unfolding valueBy
+  by-kind integer =
+      same (λ p. (λ z. omega (arith, p .0 .0, z), (p .0 .2, (p .0 .1, (p .1, tt))))) (λ p. ((omega (arith, p .0), p .1 .1 .0, p .1 .0), p .1 .1 .1 .0))
+      (not-equal (c .bitCount) 0 1 0 _ (not-under 7 (c .bitOffset) 1 0 _ (not-under 64 (c .bitCount) 1 0 _ (inside-exactly _ (always _)))))
+  by-kind floating =
+      same (λ p. (some (p .0 .0), (p .0 .1, (p .1, (p .0 .0, tt))))) (λ p. ((p .1 .1 .1 .0, p .1 .0), p .1 .1 .0))
+      (not-equal (c .bitCount) 0 1 0 _ (not-under 7 (c .bitOffset) 1 0 _ (inside-exactly _
+      (passing _ 1 0 _ (width-passes (c .bitCount)) (passed-width (c .bitCount)) (always _)))))
+    where
+      some : (c .bitCount ≡ 32) ⊎ (c .bitCount ≡ 64) → c .bitCount ≡ 0 → ⊥
+      some (inl e) z = omega arith
+      some (inr e) z = omega arith
+  by-kind whole = same (λ p. (p .1, tt)) (λ p. (tt, p .0)) (inside-exactly _ (always _))
+  by-kind undecoded = same (λ p. (p .1, tt)) (λ p. (tt, p .0)) (inside-exactly _ (always _))
+
+module _ (s : List ℕ) (idSize : ℕ) (c : Channel) where
+  -- a number field inside the record with a legal width has a value, and every other field that is inside it
+  pub value-exactly : Exactly (Readable s idSize c) (valueOf s idSize c)
+  unfolding valueOf
+  value-exactly =
+      same (λ r. (r .legal, r .inside)) (λ p. record { legal = p .0; inside = p .1 })
+      (by-kind s (startOf idSize c) (spanOf s c) c (kindOf (c .dataType)))
+
+  pub valid-value-exactly : (dataBytes : ℕ) → Exactly (Readable s idSize c) (validValueOf s idSize dataBytes c)
+  unfolding validValueOf
+  valid-value-exactly dataBytes =
+      same (λ p. (p, tt)) (λ p. p .0) (going-on (valueOf s idSize c) _ value-exactly (λ v. always _))
+
+-- ---- records
+
+size-passes : (size room : ℕ) → (0 < size) × (size ≤ 16384) × (size ≤ room) → badSize size room ≡ false
+size-passes size room p =
+    let z : size ≡ 0 → ⊥ = λ e. omega (arith, p .0) in
+    rw (ne-eqb _ _ z, le-ltb _ _ (p .1), le-ltb _ _ (p .2))
+
+passed-size : (size room : ℕ) → badSize size room ≡ false → (0 < size) × (size ≤ 16384) × (size ≤ room)
+passed-size size room h =
+    let p = neither (eqb size 0 || ltb 16384 size) (ltb room size) h in
+    let q = neither (eqb size 0) (ltb 16384 size) (p .0) in
+    (above-zero size (eqb-false _ _ (q .0)), ltb-false _ _ (q .1), ltb-false _ _ (p .1))
+
+module _ (f : List ℕ) (start k size : ℕ) (out : List ℕ) where
+  record-exactly : (j : List ℕ) → Exactly (k * size + size ≤ length j) (recordOf j k size out .reply)
+  unfolding recordOf
+  record-exactly j =
+      reply-of (ltb (length j) (k * size + size)) 16 0 out _
+      (unless-under (length j) (k * size + size) 16 0 tt)
+
+  -- the record is inside the joined data of a chain that is accepted
+  abbrev Joined : Reply (List Block) → Type 0
+  Joined r = (bs : List Block) × (r ≡ answer bs) × (k * size + size ≤ length (joined f bs))
+
+  on-blocks : (r : Reply (List Block)) → Exactly (Joined r) (onBlocks r (λ bs. recordOf (joined f bs) k size out) out .reply)
+  on-blocks (answer bs) =
+      same (λ p. let e : bs ≡ p .0 = answered (p .1) in rw e (p .2)) (λ p. (bs, refl, p)) (record-exactly (joined f bs))
+  on-blocks (refusal n m) = record {
+    answers = λ p. apart (p .0) n m (p .1);
+    only = λ a e. apart a n m e;
+  }
+
+  pub fetched-exactly : Exactly (Fetchable f start k size out) (fetched f start k size out .reply)
+  unfolding fetched
+  fetched-exactly =
+      same
+      (λ h. ((h .some, h .small, h .room), (h .short, (h .blocks, accepts idDT f start (h .blocks) (h .accepted), h .inside))))
+      (λ p. record {
+        some = p .0 .0;
+        small = p .0 .1;
+        room = p .0 .2;
+        short = p .1 .0;
+        blocks = p .1 .1 .0;
+        accepted = accepted idDT f start (p .1 .1 .0) (p .1 .1 .1);
+        inside = p .1 .1 .2;
+      })
+      (reply-of (badSize size (length out)) 15 0 out _
+      (passing (badSize size (length out)) 15 0 _ (size-passes size (length out)) (passed-size size (length out))
+      (reply-of (ltb 1099511627776 (length f)) 7 0 out _
+      (not-under 1099511627776 (length f) 7 0 _ (on-blocks (chainOf idDT f start))))))
+
+  pub value-fetched-exactly : (idSize dataBytes : ℕ) (c : Channel)
+      → Exactly (ValueFetchable f start k size idSize c out) (valueFetched f start k size idSize dataBytes c out .reply)
+  unfolding valueFetched
+  value-fetched-exactly idSize dataBytes c =
+      same (λ h. (h .fetchable, h .readable)) (λ p. record { fetchable = p .0; readable = p .1 })
+      (going-on (fetched f start k size out .reply) _ fetched-exactly
+      (λ u. valid-value-exactly (take size (fetched f start k size out .buffer)) idSize c dataBytes))

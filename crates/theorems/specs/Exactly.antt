@@ -1,0 +1,65 @@
+-- When a call answers: the exact conditions.
+use mathlib.Core.Path.{_≡_}
+use mathlib.Core.Logic.{_⊎_}
+use mathlib.Core.List.{List}
+use mathlib.Core.Bool.{true}
+use Prim.Native.Nat.{ℕ, _+_, _*_, _≤_, _<_}
+use lib.ListN.{length, take}
+use Rattle.definitions.specs.Reply.{Reply, Outcome, answer}
+use Rattle.definitions.specs.DataType.{Kind, integer, floating, whole, undecoded, kindOf}
+use Rattle.definitions.specs.Bytes.{u64At, idAt}
+use Rattle.definitions.specs.DataList.{Lengths, equal, variable, idDL, flagsAt, restIn, listSize, restFor}
+use Rattle.definitions.specs.Channel.{Channel, startOf, spanOf}
+use Rattle.definitions.specs.Chain.{Block, idDT, joined, fetched}
+use Rattle.definitions.specs.Accepted.{Accepted}
+
+-- there is an answer where P holds, and nowhere else
+pub record Exactly {A : Type 0} (P : Type 0) (r : Reply A) : Type 0 where
+  pub answers : P → (a : A) × (r ≡ answer a)
+  pub only : (a : A) → r ≡ answer a → P
+
+-- ---- a list that is read: the id, a link, and room for all that the fields take
+
+pub record ListStands (s : List ℕ) : Type 0 where
+  pub named : idAt s 0 idDL ≡ true
+  pub some : 0 < u64At s 16
+  pub whole : flagsAt (u64At s 16) + 8 + restIn s (u64At s 16) * 8 ≤ length s
+
+-- ---- a list to be written: as many offsets as links
+
+abbrev pub Counted : ℕ → Lengths → Type 0
+Counted n (equal k) = Unit {0}
+Counted n (variable ns) = n ≡ length ns
+
+pub record ListFits (out links : List ℕ) (l : Lengths) : Type 0 where
+  pub few : length links ≤ 4096
+  pub counted : Counted (length links) l
+  pub room : listSize (length links) (length (restFor l)) ≤ length out
+
+-- ---- a field
+
+-- the widths that a value of this kind can have
+abbrev pub Legal : Kind → Channel → Type 0
+Legal integer c = (0 < c .bitCount) × (c .bitCount ≤ 64) × (c .bitOffset ≤ 7)
+Legal floating c = ((c .bitCount ≡ 32) ⊎ (c .bitCount ≡ 64)) × (c .bitOffset ≤ 7)
+Legal whole c = Unit {0}
+Legal undecoded c = Unit {0}
+
+pub record Readable (s : List ℕ) (idSize : ℕ) (c : Channel) : Type 0 where
+  pub legal : Legal (kindOf (c .dataType)) c
+  pub inside : startOf idSize c + spanOf s c ≤ length s
+
+-- ---- a record, and a value in it
+
+pub record Fetchable (f : List ℕ) (start k size : ℕ) (out : List ℕ) : Type 0 where
+  pub some : 0 < size
+  pub small : size ≤ 16384
+  pub room : size ≤ length out
+  pub short : length f ≤ 1099511627776
+  pub blocks : List Block
+  pub accepted : Accepted idDT f start blocks
+  pub inside : k * size + size ≤ length (joined f blocks)
+
+pub record ValueFetchable (f : List ℕ) (start k size idSize : ℕ) (c : Channel) (out : List ℕ) : Type 0 where
+  pub fetchable : Fetchable f start k size out
+  pub readable : Readable (take size (fetched f start k size out .buffer)) idSize c
