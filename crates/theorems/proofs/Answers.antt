@@ -1,7 +1,7 @@
 -- No definition is met by refusing always: each answers exactly where its condition holds.
 use mathlib.Core.Path.{_≡_, refl, sym, ap, _∙_}
 use mathlib.Core.Logic.{_⊎_, inl, inr}
-use mathlib.Core.Bool.{Bool, true, false, not, _&&_, _||_}
+use mathlib.Core.Bool.{Bool, true, false, not, _||_, true≢false}
 use mathlib.Core.List.{List}
 use Prim.Native.Nat.{ℕ, _+_, _*_, _≤_, _<_}
 use native.Mathlib.Omega.{arith}
@@ -24,11 +24,8 @@ use Rattle.theorems.specs.Exactly.{Exactly, ListStands, Counted, ListFit
 
 -- ---- tests in turn
 
-no-way : {P : Type 0} → true ≡ false → P
-no-way h = absurd (let y : _≡_ {A = ℕ} 0 1 = cc in omega arith)
-
 neither : (a b : Bool) → a || b ≡ false → (a ≡ false) × (b ≡ false)
-neither true b h = no-way h
+neither true b h = absurd (true≢false h)
 neither false b h = (refl, h)
 
 either : (a b : Bool) → a || b ≡ true → (a ≡ true) ⊎ (b ≡ true)
@@ -46,7 +43,7 @@ module _ {A : Type 0} where
   passing : {P Q : Type 0} (t : Bool) (n m : ℕ) (r : Reply A) → (P → t ≡ false) → (t ≡ false → P) → Exactly Q r
       → Exactly (P × Q) (if t then refusal n m else r)
   passing true n m r to from h = record {
-    answers = λ pq. no-way (to (pq .0));
+    answers = λ pq. absurd (true≢false (to (pq .0)));
     only = λ a e. apart a n m e;
   }
   passing false n m r to from h = record {
