@@ -1,14 +1,13 @@
 -- The walk accepts exactly the chains that `Accepted` describes, and joins their blocks' data end to end.
-use mathlib.Core.Path.{_≡_, refl, sym, ap, _∙_, subst}
+use mathlib.Core.Path.{_≡_, refl, sym, ap, _∙_}
 use mathlib.Core.Bool.{Bool, true, false}
 use mathlib.Core.List.{List, [], _∷_, _++_, append-assoc, append-nil}
-use Prim.Native.Nat.{ℕ, zero, suc, _+_, _*_, _≤_, _<_}
+use Prim.Native.Nat.{ℕ, zero, suc, _+_, _≤_, _<_}
 use native.Mathlib.Omega.{arith}
-use native.Mathlib.Numerals.{add-one}
 use lib.ListN.{length, drop, length-append}
 use lib.Dec.{eqb}
-use borrow.Author.Tests.{eqb-true, eqb-false, eq-eqb, ne-eqb}
-use Rattle.definitions.specs.Reply.{Reply, answer, refusal, if_then_else_, andThen}
+use borrow.Author.Tests.{eqb-true, eq-eqb, ne-eqb}
+use Rattle.definitions.specs.Reply.{answer, if_then_else_}
 use Rattle.definitions.specs.DataList.{DataList}
 use Rattle.definitions.specs.Chain.{Block, total, declared, fragmentOf, fragments, listAt, lists, chainOf}
 use Rattle.definitions.specs.Accepted.{Each, Part, blocksOf, linkTo, BlockListed, PartStands, Accepted}

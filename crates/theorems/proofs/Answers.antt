@@ -1,5 +1,5 @@
 -- No definition is met by refusing always: each answers exactly where its condition holds.
-use mathlib.Core.Path.{_≡_, refl, sym, ap, _∙_}
+use mathlib.Core.Path.{_≡_, refl}
 use mathlib.Core.Logic.{_⊎_, inl, inr}
 use mathlib.Core.Bool.{Bool, true, false, not, _||_, true≢false}
 use mathlib.Core.List.{List}
@@ -8,13 +8,13 @@ use native.Mathlib.Omega.{arith}
 use lib.ListN.{length, take}
 use lib.Dec.{ltb, eqb}
 use borrow.Author.Tests.{ltb-false, le-ltb, eqb-true, eqb-false, not-false, ne-eqb, eq-eqb}
-use Rattle.definitions.specs.Reply.{Reply, Outcome, answer, refusal, if_then_else_, andThen, told, needing, writing}
+use Rattle.definitions.specs.Reply.{Reply, Outcome, answer, refusal, if_then_else_, andThen, told, writing}
 use Rattle.definitions.specs.Unicode.{Encoding, textOf, writtenText, textWritten}
 use Rattle.definitions.specs.Header.{Header, headerIn, headerOf, headerBytes, headerWritten}
 use Rattle.definitions.specs.DataType.{Kind, integer, floating, whole, undecoded, kindOf}
 use Rattle.definitions.specs.DataList.{Lengths, equal, variable, listOf, listBytes, listSize, flagsFor, restFor, unwritable, listWritten}
-use Rattle.definitions.specs.Channel.{Channel, Value, ValidValue, startOf, spanOf, decoded, valueBy, valueOf, validOf, validValueOf}
-use Rattle.definitions.specs.Chain.{Block, idDT, joined, chainOf, badSize, onBlocks, recordOf, fetched, fieldOf, valueFetched}
+use Rattle.definitions.specs.Channel.{Channel, Value, startOf, spanOf, valueBy, valueOf, validValueOf}
+use Rattle.definitions.specs.Chain.{Block, idDT, joined, chainOf, badSize, onBlocks, recordOf, fetched, valueFetched}
 use Rattle.blocks.proofs.Headers.{apart, length-header}
 use Rattle.blocks.proofs.Writes.{length-list}
 use Rattle.chain.proofs.Answers.{answered}

@@ -1,14 +1,14 @@
 -- A block is taken at an address exactly where it stands there, and a list exactly where it stands and agrees.
-use mathlib.Core.Path.{_≡_, refl, sym, ap, _∙_}
-use mathlib.Core.Bool.{Bool, true, false, not}
+use mathlib.Core.Path.{_≡_, sym, ap, _∙_}
+use mathlib.Core.Bool.{true, not}
 use mathlib.Core.List.{List}
 use Prim.Native.Nat.{ℕ, _+_, _-_, _*_, _≤_, _<_}
 use native.Mathlib.Omega.{arith}
 use lib.ListN.{length, drop}
-use lib.Dec.{ltb, eqb}
+use lib.Dec.{ltb}
 use borrow.Author.Tests.{leb-true, ltb-false, eqb-true, eqb-false, not-true, not-false, le-leb, le-ltb, eq-eqb, ne-eqb}
-use Rattle.definitions.specs.Reply.{Reply, answer}
-use Rattle.definitions.specs.Bytes.{u64At, idAt}
+use Rattle.definitions.specs.Reply.{answer}
+use Rattle.definitions.specs.Bytes.{u64At}
 use Rattle.definitions.specs.DataList.{DataList, listOf}
 use Rattle.definitions.specs.Chain.{Block, hasHeader, blockAt, judged, declared, fragmentOf, agrees, admitted, listAt}
 use Rattle.definitions.specs.Accepted.{BlockStands}

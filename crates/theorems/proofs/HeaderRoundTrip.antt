@@ -4,8 +4,8 @@ use mathlib.Core.List.{List, [], _++_, append-assoc}
 use Prim.Native.Nat.{ℕ, _+_, _^_, _≤_, _<_}
 use native.Mathlib.Omega.{arith}
 use lib.ListN.{length, take, length-append}
-use Rattle.definitions.specs.Reply.{Reply, answer}
-use Rattle.definitions.specs.Bytes.{leOf, le, span, u32At, u64At}
+use Rattle.definitions.specs.Reply.{answer}
+use Rattle.definitions.specs.Bytes.{le, u32At, u64At}
 use Rattle.definitions.specs.Header.{Header, headerIn, headerOf, headerBytes}
 use Rattle.words.proofs.Numbers.{Bytes, length-le}
 use Rattle.words.proofs.Spans.{span-split}

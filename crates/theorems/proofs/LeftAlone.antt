@@ -1,5 +1,5 @@
 -- What a refusal leaves: every lent byte, but for a record that was fetched before its field was refused.
-use mathlib.Core.Path.{_≡_, refl, sym, ap, _∙_}
+use mathlib.Core.Path.{_≡_, refl}
 use mathlib.Core.Logic.{_⊎_, inl, inr}
 use mathlib.Core.Bool.{Bool, true, false}
 use mathlib.Core.List.{List}
@@ -7,12 +7,12 @@ use Prim.Native.Nat.{ℕ, _+_, _*_}
 use native.Mathlib.Omega.{arith}
 use lib.ListN.{length}
 use lib.Dec.{ltb}
-use Rattle.definitions.specs.Reply.{Reply, Outcome, answer, refusal, if_then_else_, andThen, told, writing}
+use Rattle.definitions.specs.Reply.{Reply, Outcome, answer, refusal, if_then_else_, told, writing}
 use Rattle.definitions.specs.Unicode.{Encoding, textOf, writtenText, textWritten}
 use Rattle.definitions.specs.Header.{Header, headerBytes, headerWritten}
 use Rattle.definitions.specs.DataList.{Lengths, listBytes, listSize, flagsFor, restFor, unwritable, listWritten}
-use Rattle.definitions.specs.Channel.{Channel, ValidValue, validValueOf}
-use Rattle.definitions.specs.Chain.{Block, idDT, joined, chainOf, badSize, onBlocks, recordOf, fetched, fieldOf, valueFetched}
+use Rattle.definitions.specs.Channel.{Channel}
+use Rattle.definitions.specs.Chain.{Block, idDT, joined, chainOf, badSize, onBlocks, recordOf, fetched, valueFetched}
 
 -- a refused call leaves the buffer as it was
 abbrev pub LeftAlone : {A : Type 0} → Outcome A → List ℕ → Type 0
@@ -75,8 +75,11 @@ module _ (out : List ℕ) where
   by-reply o (answer u) e h = inr e
   by-reply o (refusal n t) e h = inl (h n t e)
 
+  pub fetched-or-left : (f : List ℕ) (start k size : ℕ) → (fetched f start k size out .buffer ≡ out) ⊎ (fetched f start k size out .reply ≡ answer tt)
+  fetched-or-left f start k size = by-reply (fetched f start k size out) (fetched f start k size out .reply) refl (fetch-left f start k size)
+
+  -- and a value leaves what the fetch did, whatever its reply
   pub value-left : (f : List ℕ) (start k size idSize dataBytes : ℕ) (c : Channel)
-      → (valueFetched f start k size idSize dataBytes c out .buffer ≡ out) ⊎ (fetched f start k size out .reply ≡ answer tt)
+      → valueFetched f start k size idSize dataBytes c out .buffer ≡ fetched f start k size out .buffer
   unfolding valueFetched
-  value-left f start k size idSize dataBytes c =
-      by-reply (fetched f start k size out) (fetched f start k size out .reply) refl (fetch-left f start k size)
+  value-left f start k size idSize dataBytes c = refl

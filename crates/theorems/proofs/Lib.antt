@@ -13,3 +13,4 @@ pub mod TwoFiles
 pub mod LeftAlone
 pub mod TwoFilesRead
 pub mod Answers
+pub mod LeftAloneByCalls

@@ -2,7 +2,7 @@
 -- are 0, flags is 0 or 1, data links are at most 4,096, count is links less 1, and block length is what the fields take.
 use mathlib.Core.Path.{_≡_, refl, sym, ap, ap₂, _∙_, subst}
 use mathlib.Core.Logic.{_⊎_, inl, inr}
-use mathlib.Core.Bool.{Bool, true, false}
+use mathlib.Core.Bool.{true, false}
 use mathlib.Core.List.{List, [], _∷_, _++_}
 use Prim.Native.Nat.{ℕ, zero, suc, _+_, _-_, _*_, _≤_, _<_}
 use native.Mathlib.Nat.{zero-add}
@@ -10,8 +10,8 @@ use native.Mathlib.Omega.{arith}
 use lib.ListN.{length, getD, take}
 use borrow.Author.Tests.{le-ltb, eq-eqb, eqb-true}
 use Rattle.definitions.specs.Reply.{answer, if_then_else_}
-use Rattle.definitions.specs.Bytes.{leOf, le, les, span, u32At, u64At, u64sAt, idAt}
-use Rattle.definitions.specs.Header.{Header, headerIn, headerOf, headerBytes}
+use Rattle.definitions.specs.Bytes.{leOf, le, span, u32At, u64At, u64sAt, idAt}
+use Rattle.definitions.specs.Header.{Header, headerIn, headerBytes}
 use Rattle.definitions.specs.DataList.{DataList, idDL, oneLength, listOf, listIn, restIn, restCount, flagsAt, listSize, headerFor, listBytes, Lengths, equal, variable, flagsFor, restFor, unwritable}
 use Rattle.words.proofs.Numbers.{Bytes}
 use Rattle.words.proofs.Spans.{span-one, span-split}

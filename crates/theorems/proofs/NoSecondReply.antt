@@ -1,5 +1,5 @@
 -- No public call has a second reply: each theorem is about the very clause of the call's contract.
-use mathlib.Core.Path.{_≡_, refl, sym, ap, _∙_}
+use mathlib.Core.Path.{refl, sym, ap, _∙_}
 use Prim.Native.Nat.{ℕ}
 use Rattle.definitions.specs.Reply.{Outcome}
 use Rattle.definitions.specs.Unicode.{TextWritten}

@@ -1,5 +1,5 @@
 -- No call for C has a second reply: each theorem is about the very clause of the call's contract.
-use mathlib.Core.Path.{_≡_, refl, sym, ap, _∙_}
+use mathlib.Core.Path.{refl, sym, ap, _∙_}
 use Rattle.theorems.specs.Sole.{Settled}
 use Rattle.mf4.specs.Replies.{Left}
 use Rattle.mf4.specs.declared.written.Mf4Written.{Mf4Written}

@@ -5,7 +5,7 @@ use Prim.Native.Nat.{ℕ, zero, suc, _+_, _*_, _^_, _≤_, _<_}
 use native.Mathlib.Nat.{mod-eq-of-lt}
 use native.Mathlib.Omega.{arith}
 use lib.ListN.{length, getD, length-append}
-use Rattle.definitions.specs.Bytes.{leOf, le, les, span, u64At, u64sAt}
+use Rattle.definitions.specs.Bytes.{leOf, le, les, span, u64sAt}
 use Rattle.words.proofs.Numbers.{Bytes, length-le, back-le}
 use Rattle.words.proofs.Spans.{bytes-span, length-span, span-split}
 use Rattle.words.proofs.Stores.{read-middle}

@@ -1,11 +1,10 @@
 -- Two files whose accepted chains join to the same bytes give the same records, and the same values in them.
-use mathlib.Core.Path.{_≡_, refl, sym, ap, _∙_}
-use mathlib.Core.Bool.{Bool, true, false}
+use mathlib.Core.Path.{_≡_, sym, ap, _∙_}
 use mathlib.Core.List.{List}
 use Prim.Native.Nat.{ℕ, _≤_}
 use lib.ListN.{length}
 use borrow.Author.Tests.{le-ltb}
-use Rattle.definitions.specs.Reply.{Reply, Outcome, answer, refusal, if_then_else_}
+use Rattle.definitions.specs.Reply.{Outcome, answer, refusal, if_then_else_}
 use Rattle.definitions.specs.Channel.{Channel, ValidValue}
 use Rattle.definitions.specs.Chain.{Block, idDT, joined, chainOf, badSize, recordOf, fetched, fieldOf, valueFetched}
 

@@ -1,7 +1,7 @@
 -- Demand 3 for the calls: `read_record`, `read_value` and their calls for C, on two files whose accepted chains join to the
 -- same bytes j, with buffers that hold the same bytes, reply the same and leave the same; and it is what the definitions give
 -- on j. Each theorem is about the call's own clause, `Learnt`.
-use mathlib.Core.Path.{_≡_, refl, sym, ap, _∙_}
+use mathlib.Core.Path.{_≡_, sym, ap, _∙_}
 use mathlib.Core.List.{List}
 use Prim.Native.Nat.{ℕ}
 use contract.Lifetimes.{Lfts}

@@ -3,8 +3,8 @@ use mathlib.Core.Path.{_≡_, refl, sym, ap, _∙_}
 use mathlib.Core.List.{List, [], _∷_, map}
 use Prim.Native.Nat.{ℕ, zero, suc, _+_, _≤_, _<_}
 use native.Mathlib.Omega.{arith}
-use lib.ListN.{length, getD, List·getD-map, List·getD-eq-default}
-use Rattle.definitions.specs.DataType.{DataType, coded, unknown, typeOf, codeOf}
+use lib.ListN.{getD, List·getD-map, List·getD-eq-default}
+use Rattle.definitions.specs.DataType.{coded, unknown, typeOf, codeOf}
 
 -- n numbers from k on
 counting : ℕ → ℕ → List ℕ

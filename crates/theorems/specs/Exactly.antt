@@ -5,7 +5,7 @@ use mathlib.Core.List.{List}
 use mathlib.Core.Bool.{true}
 use Prim.Native.Nat.{ℕ, _+_, _*_, _≤_, _<_}
 use lib.ListN.{length, take}
-use Rattle.definitions.specs.Reply.{Reply, Outcome, answer}
+use Rattle.definitions.specs.Reply.{Reply, answer}
 use Rattle.definitions.specs.DataType.{Kind, integer, floating, whole, undecoded, kindOf}
 use Rattle.definitions.specs.Bytes.{u64At, idAt}
 use Rattle.definitions.specs.DataList.{Lengths, equal, variable, idDL, flagsAt, restIn, listSize, restFor}
