@@ -17,7 +17,6 @@ use Rattle.blocks.specs.declared.header.HeaderRead.{HeaderRead}
 use Rattle.blocks.specs.declared.header.HeaderRead.the-variants.{Header as Headed, Refused as NoHeader}
 use Rattle.blocks.specs.declared.data_type.DataType.{DataType}
 use Rattle.blocks.specs.declared.data_type.DataType.the-variants.{UnsignedIntegerLE, UnsignedIntegerBE, SignedIntegerLE, SignedIntegerBE, FloatLE, FloatBE, StringLatin1, StringUtf8, StringUtf16LE, StringUtf16BE, ByteArray, MimeSample, MimeStream, CanOpenDate, CanOpenTime, ComplexLE, ComplexBE, Unknown}
-use Rattle.blocks.specs.declared.data_list.DataListBlock.{DataListBlock}
 use Rattle.blocks.specs.declared.data_list.ListRead.{ListRead}
 use Rattle.blocks.specs.declared.data_list.ListRead.the-variants.{List as Listed, Refused as NoList}
 

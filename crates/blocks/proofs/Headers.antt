@@ -1,5 +1,5 @@
 -- The ways through a header, and what a header tells of the bytes.
-use mathlib.Core.Path.{_≡_, refl, sym, ap, _∙_}
+use mathlib.Core.Path.{_≡_, refl, sym}
 use mathlib.Core.List.{List, _++_}
 use mathlib.Core.Bool.{Bool, true, false}
 use Prim.Native.Nat.{ℕ, _≤_, _<_}
@@ -8,7 +8,7 @@ use lib.ListN.{length, length-append}
 use lib.Dec.{ltb}
 use lib.Seq.{sets}
 use borrow.Author.Tests.{ltb-false}
-use Rattle.definitions.specs.Reply.{Reply, Outcome, answer, refusal, if_then_else_, needing, told}
+use Rattle.definitions.specs.Reply.{Reply, answer, refusal, if_then_else_, needing, told}
 use Rattle.definitions.specs.Bytes.{u32At, u64At, le}
 use Rattle.definitions.specs.Header.{Header, headerIn, headerOf, headerBytes, headerWritten}
 use Rattle.definitions.proofs.Replies.{needing-short, needing-met, writing-short, writing-met}

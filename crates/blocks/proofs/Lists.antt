@@ -1,16 +1,16 @@
 -- The ways through a data list that is read.
-use mathlib.Core.Path.{_≡_, refl, sym, ap, _∙_}
+use mathlib.Core.Path.{_≡_, sym, ap, _∙_}
 use mathlib.Core.List.{List}
-use mathlib.Core.Bool.{Bool, true, false}
+use mathlib.Core.Bool.{true, false}
 use Prim.Native.Nat.{ℕ, _+_, _-_, _*_, _%_, _≤_, _<_}
 use native.Mathlib.Nat.{div-one}
 use native.Mathlib.Omega.{arith}
 use lib.ListN.{length, getD}
 use borrow.Author.Tests.{eq-eqb, ne-eqb}
-use Rattle.definitions.specs.Reply.{Reply, answer, refusal, told}
+use Rattle.definitions.specs.Reply.{answer, refusal, told}
 use Rattle.definitions.specs.Bytes.{leOf, span, u32At, u64At, idAt, bit}
 use Rattle.definitions.specs.Header.{Header, headerOf}
-use Rattle.definitions.specs.DataList.{DataList, idDL, listOf, linksOf, restOf, restIn, restCount, flagsAt}
+use Rattle.definitions.specs.DataList.{idDL, listOf, linksOf, restOf, restIn, restCount, flagsAt}
 use Rattle.definitions.proofs.Replies.{needing-short, needing-met, told-small}
 
 -- bit 0 of the flags tells how many numbers stand after the count

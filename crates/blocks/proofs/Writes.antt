@@ -1,17 +1,15 @@
 -- The ways through a data list that is written.
-use mathlib.Core.Path.{_≡_, refl, sym, ap, _∙_}
+use mathlib.Core.Path.{_≡_, sym, ap, _∙_}
 use mathlib.Core.List.{List, [], _∷_, _++_}
-use mathlib.Core.Bool.{Bool, true, false}
 use Prim.Native.Nat.{ℕ, _+_, _*_, _/_, _%_, _≤_, _<_}
 use native.Mathlib.Omega.{arith}
 use lib.ListN.{length, length-append}
-use lib.Dec.{ltb, eqb}
 use lib.Seq.{sets}
 use borrow.Author.Tests.{lt-ltb, le-ltb, eq-eqb, ne-eqb}
-use Rattle.definitions.specs.Reply.{Reply, Outcome, answer, refusal, writing}
+use Rattle.definitions.specs.Reply.{answer, refusal, writing}
 use Rattle.definitions.specs.Bytes.{leOf, le, les}
 use Rattle.definitions.specs.Header.{Header, headerBytes}
-use Rattle.definitions.specs.DataList.{idDL, flagsAt, listSize, headerFor, listBytes, listWritten, equal, variable}
+use Rattle.definitions.specs.DataList.{idDL, listSize, headerFor, listBytes, listWritten, equal, variable}
 use Rattle.definitions.proofs.Replies.{writing-short, writing-met}
 use Rattle.definitions.proofs.Stores.{stored-then}
 use Rattle.words.proofs.Numbers.{length-le, length-les}

@@ -7,7 +7,7 @@ use native.Mathlib.Omega.{arith}
 use lib.ListN.{length, drop}
 use lib.Seq.{sets}
 use borrow.Author.Tests.{lt-ltb, le-ltb}
-use Rattle.definitions.specs.Reply.{Reply, Outcome, answer, refusal, told, needing, writing}
+use Rattle.definitions.specs.Reply.{Reply, answer, refusal, told, needing, writing}
 use Rattle.definitions.proofs.Stores.{sets-front}
 
 -- a size that fits in 64 bits is told as it is

@@ -9,7 +9,7 @@ use lib.Ieee.{Float, binary64, ofBits}
 use Rattle.definitions.specs.Reply.{Reply, answer, refusal, if_then_else_, andThen}
 use Rattle.definitions.specs.Bytes.{Order, span, bit, bytesFor, fieldAt, twosComplement}
 use Rattle.definitions.specs.Ieee754.{nanPattern, doubleOf, widened}
-use Rattle.definitions.specs.Unicode.{Encoding, stopped}
+use Rattle.definitions.specs.Unicode.{stopped}
 use Rattle.definitions.specs.DataType.{DataType, unsignedInteger, signedInteger, float, complex, string, byteArray, mimeSample, mimeStream, canOpenDate, canOpenTime, unknown, Kind, integer, floating, whole, undecoded, kindOf}
 
 -- what is known of a channel

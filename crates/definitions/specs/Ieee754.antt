@@ -1,7 +1,7 @@
 -- IEEE 754: patterns of doubles, over the values and the rounding of `lib.Ieee`.
 use mathlib.Core.Path.{_≡_}
 use mathlib.Core.Logic.{_⊎_}
-use mathlib.Core.Bool.{Bool, true, false, Bool·beq}
+use mathlib.Core.Bool.{Bool, Bool·beq}
 use Prim.Native.Nat.{ℕ, _+_, _-_, _*_, _%_, _^_, _≤_}
 use lib.IntN.{ℤ}
 use lib.Ieee.{binary32, binary64, round, ofInt, ofBits, toBits}

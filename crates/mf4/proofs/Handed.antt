@@ -2,10 +2,10 @@
 use mathlib.Core.Path.{_≡_, sym, ap, ap₂, _∙_}
 use mathlib.Core.List.{List}
 use Prim.Native.Nat.{ℕ}
-use Rattle.definitions.specs.Reply.{Reply, Outcome, answer, refusal}
+use Rattle.definitions.specs.Reply.{Reply, Outcome, refusal}
 use Rattle.refusals.specs.Meaning.{numberOf, toldOf, refused}
 use Rattle.refusals.specs.declared.Refusal.{Refusal}
-use Rattle.mf4.specs.Replies.{Left, left}
+use Rattle.mf4.specs.Replies.{left}
 
 module _ {R A C : Type 0} (toC : Reply A → C) (meant : R → Reply A) where
   -- a refusal: R is the library's answer, which was found to be the case x

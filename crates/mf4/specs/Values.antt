@@ -1,6 +1,5 @@
 -- Values and records as C sees them.
 use Prim.Native.Nat.{ℕ}
-use mathlib.Core.List.{List}
 use lib.IntN.{ℤ, pos}
 use Rattle.definitions.specs.Reply.{Reply, Outcome, answer, refusal}
 use Rattle.definitions.specs.DataType.{typeOf}

@@ -1,4 +1,4 @@
-use mathlib.Core.Path.{refl, sym}
+use mathlib.Core.Path.{refl}
 use Rattle.blocks.specs.Meaning.{listReply, listRefusal}
 use Rattle.mf4.specs.Replies.{listC}
 use Rattle.mf4.proofs.Handed.{handed-on, handed}

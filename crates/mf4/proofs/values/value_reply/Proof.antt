@@ -4,7 +4,6 @@ use Rattle.decoder.specs.declared.value.ValueRead.{ValueRead}
 use Rattle.refusals.specs.Meaning.{refused}
 use Rattle.mf4.specs.Values.{valueC}
 use Rattle.mf4.specs.declared.values.Mf4Decoded.{Mf4Decoded}
-use Rattle.mf4.specs.declared.values.Mf4Value.{Mf4Value}
 use borrow.Author.Needs.{needs}
 use Rattle.mf4.proofs.values.value_reply.Statement.{statement}
 use Rattle.mf4.proofs.values.value_reply.Tie as tie

@@ -1,6 +1,5 @@
 -- Each case gives the number that the definition has for the type it means.
 use mathlib.Core.Path.{_≡_, sym, ap}
-use Prim.Native.Nat.{ℕ}
 use borrow.Author.Needs.{needs}
 use Rattle.definitions.specs.DataType.{defaultBits}
 use Rattle.blocks.specs.Meaning.{typeMeant}
