@@ -25,23 +25,23 @@ extern "C" {
 /* ---- replies ---------------------------------------------------------------------------------------------------- */
 
 enum mf4_reply {
-    MF4_ANSWER = 0,
-    MF4_NO_VALUE = 1,            /* the decoder has no value                                                      */
-    MF4_TOO_FEW_BYTES = 2,       /* a block has too few bytes; told: how many it needs                            */
-    MF4_OTHER_ID = 3,            /* the block id is another                                                       */
-    MF4_NO_LINKS = 4,            /* a data list has 0 links                                                       */
-    MF4_UNWRITABLE_LIST = 5,     /* write: links and offsets differ in number, or over 4,096 data links           */
-    MF4_NO_ROOM = 6,             /* output buffer too small; told: the bytes needed                               */
-    MF4_FILE_TOO_LONG = 7,       /* file longer than 2^40 bytes                                                   */
-    MF4_TOO_MANY_LISTS = 8,      /* a 257th list would be read                                                    */
-    MF4_TOO_MANY_FRAGMENTS = 9,  /* the chain's fragments pass 4,096                                              */
-    MF4_LIST_DISAGREES = 10,     /* a list's count is not its links less 1, or its block length is too small      */
-    MF4_NO_BLOCK_THERE = 11,     /* a link or the start is 0, or has under 24 bytes of file from it on            */
-    MF4_BAD_DATA_BLOCK = 12,     /* data block: id not ##DT, links not 0, length under 24, or end past the file   */
-    MF4_UNTRUE_DECLARATION = 13, /* a declared length or offset is untrue                                         */
-    MF4_DATA_TOO_LONG = 14,      /* the joined data would pass 2^63-1 bytes                                       */
-    MF4_BAD_RECORD_SIZE = 15,    /* record size 0 or over 16,384, or record buffer shorter than that              */
-    MF4_NO_SUCH_RECORD = 16      /* the record is not wholly inside the joined data                               */
+    MF4_ANSWER = 0,              /* the answer's fields hold                                                      */
+    MF4_NO_VALUE = 1,            /* a field that cannot be decoded                                                */
+    MF4_TOO_FEW_BYTES = 2,       /* a block that ends too early; told: the size that it needs                     */
+    MF4_OTHER_ID = 3,            /* a block, but not the kind that was asked for                                  */
+    MF4_NO_LINKS = 4,            /* a data list whose link count is 0                                             */
+    MF4_UNWRITABLE_LIST = 5,     /* a list that is not written: too many links, or not one offset for each        */
+    MF4_NO_ROOM = 6,             /* a lent buffer that is too short; told: the size that is needed                */
+    MF4_FILE_TOO_LONG = 7,       /* a file of more than 2^40 bytes                                                */
+    MF4_TOO_MANY_LISTS = 8,      /* a chain of more than 256 lists                                                */
+    MF4_TOO_MANY_FRAGMENTS = 9,  /* a chain of more than 4,096 data blocks                                        */
+    MF4_LIST_DISAGREES = 10,     /* a list that contradicts itself: its count, or the length of its block         */
+    MF4_NO_BLOCK_THERE = 11,     /* a start or a data link of 0, or an address without room for a header          */
+    MF4_BAD_DATA_BLOCK = 12,     /* what a list links is no whole ##DT block                                      */
+    MF4_UNTRUE_DECLARATION = 13, /* a list tells a length or an offset that is not so                             */
+    MF4_DATA_TOO_LONG = 14,      /* more joined data than 2^63-1 bytes                                            */
+    MF4_BAD_RECORD_SIZE = 15,    /* a record size of 0, over 16,384, or over the record buffer's                  */
+    MF4_NO_SUCH_RECORD = 16      /* a record that the joined data does not hold whole                             */
 };
 
 /* A reply in words, for people. */
@@ -145,7 +145,11 @@ mf4_written mf4_write_list_variable(uint8_t *out, size_t out_len, uint64_t next,
 
 /* ---- values ----------------------------------------------------------------------------------------------------- */
 
-/* A channel's description. data_type: a code of enum mf4_data_type. */
+/* A channel's description, as its channel block has it.
+ * data_type: a code of enum mf4_data_type. channel_type: 1 for a channel of variable length, whose data is then the link
+ * to its payloads. byte_offset counts from the byte behind the record id; bit_offset (0 to 7) is how far the field lies
+ * above the lowest bit of the number that its bytes make, and bit_count its width. flags: bit 0, every value is invalid;
+ * bit 1, a bit of the record tells which are, the one at pos_invalidation_bit behind the data bytes. */
 typedef struct mf4_channel {
     uint8_t data_type;
     uint8_t channel_type;
@@ -191,10 +195,13 @@ typedef struct mf4_valid_value {
     uint8_t is_valid;
 } mf4_valid_value;
 
+/* record_id_size: the bytes of the record id in front of each record. data_bytes: the bytes of channel data behind it; the
+ * invalidation bits begin where they end. */
+
 /* The value of a channel in a record, or in a payload where channel_type is 1 and data is not 0. Refuses with 1. */
 mf4_value mf4_decode_value(const uint8_t *record, size_t record_len, uint64_t record_id_size, mf4_channel channel);
 
-/* 1 if the value is valid, 0 if not. A byte beyond the record means valid. */
+/* 1 if the value is valid, 0 if not, by the channel's flags; an invalidation bit beyond the record counts as valid. */
 uint8_t mf4_check_validity(const uint8_t *record, size_t record_len, uint64_t record_id_size, uint32_t data_bytes,
                            mf4_channel channel);
 
