@@ -50,14 +50,15 @@ blockAt id f a =
 -- ---- a fragment
 
 -- Whether what a list declares of its fragment i is true; s is the file from the list on, and the data of all fragments
--- before this one is p bytes. With one length, every fragment has it, but the list's last may be shorter
+-- before this one is p bytes. One length holds for all fragments of a list and bounds the last of them; it is that of the
+-- data without the header. An offset is p
 abbrev pub declared : List ℕ → DataList → ℕ → ℕ → ℕ → Bool
 declared s d i p size =
     if oneLength (d .flags)
     then (if ltb (i + 1) (d .links) then eqb size (u64At s (d .restAt)) else leb size (u64At s (d .restAt)))
     else eqb (u64At s (d .restAt + i * 8)) p
 
--- 14: the joined data would pass 2^63-1 bytes; 13: a declared length or offset is untrue
+-- 14: more than 2^63-1 bytes with this block; 13: the list declares it falsely
 abbrev pub judged : List ℕ → DataList → ℕ → ℕ → Block → Reply Block
 judged s d i p b =
     if ltb 9223372036854775807 (p + b .size) then refusal 14 0
@@ -75,18 +76,18 @@ fragments id f s d i (suc n) before =
 
 -- ---- a list
 
--- 10: count is not links less 1, or the block length is less than the fields take
+-- 10: the count is not that of the data links, or the block is shorter than its fields
 abbrev pub agrees : DataList → Bool
 agrees d = eqb (d .count) (d .links) && leb (d .restAt + d .rest * 8) (d .header .blockLength)
 
--- 9: the chain's fragments pass 4,096, n of them being in the lists before
+-- 9: with the n fragments of the lists before, more than 4,096
 abbrev pub admitted : ℕ → DataList → Reply DataList
 admitted n d =
     if not (agrees d) then refusal 10 0
     else if ltb 4096 (n + d .links) then refusal 9 0
     else answer d
 
--- a list is read from its address to the file's end
+-- the list has all bytes of the file from its address on
 unfoldable pub listAt : List ℕ → ℕ → ℕ → Reply DataList
 listAt f n a = if not (hasHeader f a) then refusal 11 0 else andThen (listOf (drop a f)) (admitted n)
 
@@ -105,11 +106,11 @@ chainOf id f start = lists id f 256 start []
 
 -- ---- a record
 
--- 15: record size 0 or over 16,384, or a record buffer shorter than that
+-- 15: a size that is not from 1 to 16,384, or that the buffer does not hold
 abbrev pub badSize : ℕ → ℕ → Bool
 badSize size room = eqb size 0 || ltb 16384 size || ltb room size
 
--- record k of the joined data j into the buffer; 16: it is not wholly inside
+-- record k of the joined data j into the buffer; 16: j ends before it does
 unfoldable pub recordOf : List ℕ → ℕ → ℕ → List ℕ → Outcome (Unit {0})
 recordOf j k size out =
     if ltb (length j) (k * size + size)

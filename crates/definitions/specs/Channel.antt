@@ -25,20 +25,20 @@ pub record Channel : Type 0 where
 
 -- ---- where the field lies
 
--- channel type 1 and a data link other than 0: the slice given is the payload
+-- a channel of variable length with a link to its data: what is given is not a record but a payload
 abbrev pub variableLength : Channel → Bool
 variableLength c = eqb (c .channelType) 1 && not (eqb (c .dataLink) 0)
 
--- a field starts at record id size + byte offset, a payload at its first byte
+-- behind the record id and the byte offset; a payload has neither
 abbrev pub startOf : ℕ → Channel → ℕ
 startOf idSize c = if variableLength c then 0 else idSize + c .byteOffset
 
--- ceil((bit offset + bit count) / 8) bytes, at least 1
+-- as many bytes as the offset and the width reach into, and never none
 abbrev pub bitSpan : Channel → ℕ
 bitSpan c = max 1 (bytesFor (c .bitOffset) (c .bitCount))
 
--- a number has the span of its bits. Of a payload every other type takes the whole, which is n bytes. In a record
--- texts, byte arrays and MIME have whole bytes, possibly 0, and ignore the bit offset
+-- a number has the span of its bits. What is no number is all n bytes of a payload; in a record it is the whole bytes of
+-- the bit count where it is text, bytes or MIME, which know no bit offset, and else the span of its bits
 abbrev pub spanIn : Bool → Kind → ℕ → Channel → ℕ
 spanIn payload integer n c = bitSpan c
 spanIn payload floating n c = bitSpan c
@@ -50,7 +50,7 @@ spanOf s c = spanIn (variableLength c) (kindOf (c .dataType)) (length s) c
 
 -- ---- the value
 
--- texts and bytes are told by place and length in the slice given; a double by its value and its 64-bit pattern
+-- a text or bytes: where in the slice, and how many; a double: its value, and its 64-bit pattern
 pub data Value : Type 0 where
   unsigned : ℕ → Value
   signed : ℤ → Value
@@ -61,7 +61,7 @@ pub data Value : Type 0 where
 abbrev pub doubleValue : ℕ → Value
 doubleValue pattern = double (ofBits binary64 pattern) pattern
 
--- a 64-bit field keeps its bits, a 32-bit one widens
+-- the pattern of a field: itself, or what a single widens to
 abbrev pub floatBits : ℕ → ℕ → ℕ
 floatBits count x = if eqb count 64 then x else widened x
 
@@ -98,12 +98,12 @@ isFloating undecoded = false
 abbrev pub isNumber : Kind → Bool
 isNumber k = isInteger k || isFloating k
 
--- 1: the decoder has no value
+-- 1
 abbrev pub noValue : {A : Type 0} → Reply A
 noValue = refusal 1 0
 
--- the tests in turn: a number of bit count 0, a number's bit offset over 7, an integer over 64 bits, the span ends
--- outside the slice, a float of another width than 32 or 64
+-- the tests in turn: a number needs a bit, an offset inside its first byte, and as an integer no more than 64 bits; every
+-- field has to end inside the slice; a float is a single or a double
 unfoldable pub valueBy : Kind → ℕ → ℕ → List ℕ → Channel → Reply Value
 valueBy k at n s c =
     if isNumber k && eqb (c .bitCount) 0 then noValue
@@ -136,7 +136,7 @@ recordDouble s idSize c = if variableLength c then nanPattern else doubleIn (val
 
 -- ---- validity
 
--- flag bit 0: invalid. Bits 0 and 1 clear: valid. Else the invalidation bit tells, and a byte beyond the slice reads 0
+-- flag 0: never valid. Without flag 1: always. With it, where the invalidation bit is clear; bits beyond the slice are
 unfoldable pub validOf : List ℕ → ℕ → ℕ → Channel → Bool
 validOf s idSize dataBytes c =
     if eqb (bit (c .flags) 0) 1 then false

@@ -1,5 +1,6 @@
--- A data list: after the header next (8), the data links (8 each), flags (1), reserved (3), count (4), then by flag bit 0
--- one length (8), or without it count offsets (8 each).
+-- A data list: behind the header a link to the next list and the links to its data, then a byte of flags, three reserved
+-- ones and a count of four. The rest, by flag bit 0, is one length of its fragments, or else an offset for each; links,
+-- length and offsets have 8 bytes.
 use Prim.Native.Nat.{ℕ, _+_, _-_, _*_}
 use mathlib.Core.List.{List, [], _∷_, _++_}
 use mathlib.Core.Bool.{Bool, not, _||_}

@@ -10,7 +10,7 @@ pub data DataType : Type 0 where
   string : Encoding → DataType
   byteArray mimeSample mimeStream canOpenDate canOpenTime unknown : DataType
 
--- codes 0 to 16 (MDF 4.1 ends at 14; the crate has complex numbers at 15 and 16)
+-- by their codes, from 0 on. The public document has those up to 14, the crate two more for complex numbers
 abbrev pub coded : List DataType
 coded =
     unsignedInteger little ∷ unsignedInteger big ∷ signedInteger little ∷ signedInteger big ∷ float little ∷ float big

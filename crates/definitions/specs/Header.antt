@@ -4,7 +4,7 @@ use mathlib.Core.List.{List, _++_}
 use Rattle.definitions.specs.Reply.{Reply, Outcome, answer, needing, writing}
 use Rattle.definitions.specs.Bytes.{u32At, u64At, le}
 
--- the four id bytes are kept, whatever they are, as the number that they stand for
+-- any four bytes are an id, kept as the number that they stand for
 pub record Header : Type 0 where
   pub id : ℕ
   pub reserved : ℕ
@@ -18,7 +18,7 @@ headerIn s = record { id = u32At s 0; reserved = u32At s 4; blockLength = u64At 
 unfoldable pub headerOf : List ℕ → Reply Header
 headerOf s = needing s 24 (answer (headerIn s))
 
--- a header is written as the same 24 bytes, else 6
+-- and back; 6 without the room
 unfoldable pub headerBytes : Header → List ℕ
 headerBytes h = le 4 (h .id) ++ le 4 (h .reserved) ++ le 8 (h .blockLength) ++ le 8 (h .linkCount)
 

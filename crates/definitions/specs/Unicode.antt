@@ -14,12 +14,12 @@ pub data Encoding : Type 0 where
 
 -- ---- where a text stops
 
--- Latin-1 and UTF-8 stop at the first NUL byte
+-- single bytes: before the first NUL
 unfoldable pub beforeNul : List ℕ → List ℕ
 beforeNul [] = []
 beforeNul (b ∷ s) = if eqb b 0 then [] else b ∷ beforeNul s
 
--- UTF-16 drops an odd last byte and stops at the first zero unit, which is one of two zero bytes
+-- UTF-16: before the first unit of two zero bytes, and without half a unit at the end
 unfoldable pub beforeZeroUnit : List ℕ → List ℕ
 beforeZeroUnit [] = []
 beforeZeroUnit (a ∷ []) = []
