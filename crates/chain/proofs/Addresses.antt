@@ -4,11 +4,12 @@ use mathlib.Core.Bool.{Bool, true, false, not}
 use mathlib.Core.List.{List}
 use Prim.Native.Nat.{ℕ, _+_, _-_, _≤_, _<_}
 use native.Mathlib.Omega.{arith}
+use native.Mathlib.Nat.{add-zero}
 use lib.ListN.{length, take, drop, length-drop}
-use lib.Seq.{take-all}
+use lib.Seq.{take-all, drop-drop, getD-drop}
 use lib.Dec.{leb, ltb, eqb}
 use borrow.Author.Tests.{eq-eqb, ne-eqb, lt-leb, le-leb, lt-ltb, le-ltb, leb-true, ltb-true, ltb-false, eqb-false, not-true}
-use Rattle.definitions.specs.Bytes.{span}
+use Rattle.definitions.specs.Bytes.{span, idAt}
 use Rattle.definitions.specs.Chain.{hasHeader}
 use Rattle.definitions.proofs.Replies.{both}
 
@@ -47,10 +48,20 @@ module _ (f : List ℕ) (a : ℕ) where
       let p = both (not (eqb a 0)) (leb (a + 24) (length f)) h in
       omega (arith, eqb-false a 0 (not-true _ (p .0)), leb-true (a + 24) (length f) (p .1))
 
+  pub header-inside : hasHeader f a ≡ true → a ≤ length f
+  header-inside h = omega (arith, header-there h)
+
+  pub header-long : hasHeader f a ≡ true → 24 ≤ length (drop a f)
+  header-long h = omega (arith, header-there h, length-drop a f)
+
+  -- the id of a block is that of the bytes from its address on
+  pub id-from : (id : List ℕ) → idAt (drop a f) 0 id ≡ idAt f a id
+  id-from id = simp (getD-drop, add-zero)
+
 -- the bytes from an address to the file's end
 pub tail : (l : List ℕ) (a : ℕ) → take (length l - a) (drop a l) ≡ drop a l
 tail l a = take-all (length l - a) (drop a l) (omega (arith, length-drop a l))
 
--- n bytes from an address on
-pub part : (l : List ℕ) (a n : ℕ) → take (a + n - a) (drop a l) ≡ span l a n
-part l a n = let e : a + n - a ≡ n = omega arith in rw e
+-- n bytes behind the first k of those from an address on
+pub part : (l : List ℕ) (a k n : ℕ) → take (k + n - k) (drop k (drop a l)) ≡ span l (a + k) n
+part l a k n = let e : k + n - k ≡ n = omega arith in rw (e, drop-drop)

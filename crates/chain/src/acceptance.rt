@@ -39,7 +39,7 @@ pub fn accept(file: &[u8], start: FileAddress, id: &[u8; 4]) -> ChainRead
 
 impl ChainRead {
     // what is handed on where the chain was refused
-    pub fn refusal(self) -> Refusal
+    pub(crate) fn refusal(self) -> Refusal
         ensures { λ r. ⌜ r ≡ chainRefusal self ⌝ }
     {
         match self {

@@ -6,7 +6,6 @@ ghost use Rattle.definitions.specs.Chain.{blockAt, dataOf};
 ghost use Rattle.chain.specs.Meaning.{blockMeant, blockReply, blockRefusal};
 use crate::place::FileAddress;
 use crate::place::bytes_from;
-use crate::place::ends_past;
 use crate::place::has_header;
 use blocks::BlockHeader;
 use blocks::HeaderRead;
@@ -29,17 +28,18 @@ impl DataBlock {
 }
 
 // The data block with that id at an address
-pub fn data_block_at(file: &[u8], address: FileAddress, id: &[u8; 4]) -> BlockRead
+pub(crate) fn data_block_at(file: &[u8], address: FileAddress, id: &[u8; 4]) -> BlockRead
     ensures { λ r. ⌜ blockReply r ≡ blockAt (now (id .entry)) (now (file .entry)) (address .0) ⌝ }
 {
     if !has_header(file, address) {
         return BlockRead::Refused(Refusal::NoBlockThere);
     }
-    let read = BlockHeader::from_bytes(bytes_from(file, address));
+    let bytes = bytes_from(file, address);
+    let read = BlockHeader::from_bytes(bytes);
     let HeaderRead::Header(header) = read else {
         return BlockRead::Refused(read.refusal());
     };
-    if !id_at(file, address.0 as usize, id) {
+    if !id_at(bytes, 0, id) {
         return BlockRead::Refused(Refusal::BadDataBlock);
     }
     if header.links_nr != 0 {
@@ -48,7 +48,7 @@ pub fn data_block_at(file: &[u8], address: FileAddress, id: &[u8; 4]) -> BlockRe
     if header.block_len < 24 {
         return BlockRead::Refused(Refusal::BadDataBlock);
     }
-    if ends_past(address.0, header.block_len, file.len() as u64) {
+    if address.ends_outside(header.block_len, file) {
         return BlockRead::Refused(Refusal::BadDataBlock);
     }
     BlockRead::Block(DataBlock {
@@ -62,13 +62,13 @@ pub fn data_of(file: &[u8], block: DataBlock) -> &[u8]
     requires { ⌜ block .address .0 + 24 + block .size ≤ length (now file) ⌝ }
     ensures { λ r. ⌜ now r ≡ dataOf (now (file .entry)) (blockMeant block) ⌝ }
 {
-    let at = block.address.0 as usize + 24;
-    &file[at..at + block.size as usize]
+    let bytes = bytes_from(file, block.address);
+    &bytes[24..24 + block.size as usize]
 }
 
 impl BlockRead {
     // what is handed on where the block was refused
-    pub fn refusal(self) -> Refusal
+    pub(crate) fn refusal(self) -> Refusal
         ensures { λ r. ⌜ r ≡ blockRefusal self ⌝ }
     {
         match self {

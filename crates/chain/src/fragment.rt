@@ -8,7 +8,6 @@ use crate::block::BlockRead;
 use crate::block::data_block_at;
 use crate::place::DataPosition;
 use crate::place::FileAddress;
-use crate::place::ends_past;
 use blocks::DataListBlock;
 use refusals::Refusal;
 use words::read_u64_le;
@@ -36,7 +35,7 @@ fn truly_declared(
 }
 
 // Fragment `index` of the list, with so much data before it. The link alone says where it is.
-pub fn fragment_at(
+pub(crate) fn fragment_at(
     file: &[u8],
     bytes: &[u8],
     list: DataListBlock,
@@ -52,7 +51,7 @@ pub fn fragment_at(
     let BlockRead::Block(block) = read else {
         return BlockRead::Refused(read.refusal());
     };
-    if ends_past(position.0, block.size, 9223372036854775807) {
+    if position.passes_limit(block.size) {
         return BlockRead::Refused(Refusal::DataTooLong);
     }
     if !truly_declared(bytes, list, index, position, block.size) {

@@ -5,8 +5,8 @@ ghost use Rattle.definitions.specs.Chain.{agrees, listAt};
 ghost use Rattle.blocks.specs.Meaning.{listMeant, listReply};
 use crate::place::FileAddress;
 use crate::place::bytes_from;
-use crate::place::ends_past;
 use crate::place::has_header;
+use crate::place::sum_passes;
 use blocks::DataListBlock;
 use blocks::ListRead;
 use refusals::Refusal;
@@ -23,7 +23,7 @@ fn agrees_with_itself(list: DataListBlock) -> bool
 }
 
 // The list at an address, with so many fragments in the lists before it
-pub fn list_at(file: &[u8], address: FileAddress, fragments: u64) -> ListRead
+pub(crate) fn list_at(file: &[u8], address: FileAddress, fragments: u64) -> ListRead
     ensures { λ r. ⌜ listReply r ≡ listAt (now (file .entry)) fragments (address .0) ⌝ }
 {
     if !has_header(file, address) {
@@ -36,7 +36,7 @@ pub fn list_at(file: &[u8], address: FileAddress, fragments: u64) -> ListRead
     if !agrees_with_itself(list) {
         return ListRead::Refused(Refusal::ListDisagrees);
     }
-    if ends_past(fragments, list.links, 4096) {
+    if sum_passes(fragments, list.links, 4096) {
         return ListRead::Refused(Refusal::TooManyFragments);
     }
     ListRead::List(list)

@@ -1,8 +1,7 @@
 // Two kinds of numbers, addresses in the file and positions in the joined data, and where a walk stands.
 ghost use mathlib.Core.Path.{_≡_};
-ghost use mathlib.Core.Bool.{true};
-ghost use Prim.Native.Nat.{_+_, _<_};
-ghost use lib.ListN.{drop};
+ghost use Prim.Native.Nat.{_+_, _≤_, _<_};
+ghost use lib.ListN.{length, drop};
 ghost use lib.Dec.{ltb};
 ghost use Rattle.definitions.specs.Chain.{hasHeader};
 ghost use Rattle.chain.specs.Walk.{startAt, further, behind, nextList};
@@ -25,29 +24,38 @@ pub struct Place {
     pub position: DataPosition,
 }
 
-// Whether so many bytes from `at` on end past `len`. The sum of the two is not taken, since it could wrap.
-pub fn ends_past(at: u64, size: u64, len: u64) -> bool
-    ensures { λ r. ⌜ r ≡ ltb len (at + size) ⌝ }
+// Whether a + b is over a limit. The sum is not taken, since it could wrap.
+pub(crate) fn sum_passes(a: u64, b: u64, limit: u64) -> bool
+    ensures { λ r. ⌜ r ≡ ltb limit (a + b) ⌝ }
 {
-    if len < size {
+    if limit < b {
         return true;
     }
-    len - size < at
+    limit - b < a
+}
+
+impl FileAddress {
+    // whether a block of that size ends past the file
+    pub(crate) fn ends_outside(self, size: u64, file: &[u8]) -> bool
+        ensures { λ r. ⌜ r ≡ ltb (length (now (file .entry))) (self .0 + size) ⌝ }
+    {
+        sum_passes(self.0, size, file.len() as u64)
+    }
 }
 
 // Whether the file has the 24 bytes of a header there
-pub fn has_header(file: &[u8], address: FileAddress) -> bool
+pub(crate) fn has_header(file: &[u8], address: FileAddress) -> bool
     ensures { λ r. ⌜ r ≡ hasHeader (now (file .entry)) (address .0) ⌝ }
 {
     if address.0 == 0 {
         return false;
     }
-    !ends_past(address.0, 24, file.len() as u64)
+    !address.ends_outside(24, file)
 }
 
-// The file from a block's header on
-pub fn bytes_from(file: &[u8], address: FileAddress) -> &[u8]
-    requires { ⌜ hasHeader (now file) (address .0) ≡ true ⌝ }
+// The file from an address on. Nothing else reads the file.
+pub(crate) fn bytes_from(file: &[u8], address: FileAddress) -> &[u8]
+    requires { ⌜ address .0 ≤ length (now file) ⌝ }
     ensures { λ r. ⌜ now r ≡ drop (address .0) (now (file .entry)) ⌝ }
 {
     let at = address.0 as usize;
@@ -55,7 +63,14 @@ pub fn bytes_from(file: &[u8], address: FileAddress) -> &[u8]
 }
 
 impl DataPosition {
-    pub fn further(self, size: u64) -> DataPosition
+    // whether so many bytes more are too many for joined data
+    pub(crate) fn passes_limit(self, size: u64) -> bool
+        ensures { λ r. ⌜ r ≡ ltb 9223372036854775807 (self .0 + size) ⌝ }
+    {
+        sum_passes(self.0, size, 9223372036854775807)
+    }
+
+    pub(crate) fn further(self, size: u64) -> DataPosition
         requires { ⌜ self .0 + size < 18446744073709551616 ⌝ }
         ensures { λ r. ⌜ r ≡ further self size ⌝ }
     {
@@ -78,7 +93,7 @@ impl Place {
     }
 
     // behind a fragment with so many bytes of data
-    pub fn behind(self, size: u64) -> Place
+    pub(crate) fn behind(self, size: u64) -> Place
         requires { ⌜ (self .index + 1 < 18446744073709551616) × (self .position .0 + size < 18446744073709551616) ⌝ }
         ensures { λ r. ⌜ r ≡ behind self size ⌝ }
     {
@@ -94,7 +109,7 @@ impl Place {
     }
 
     // before the first fragment of the next list
-    pub fn next_list(self, list: FileAddress) -> Place
+    pub(crate) fn next_list(self, list: FileAddress) -> Place
         requires { ⌜ (self .lists + 1 < 18446744073709551616) × (self .fragments + self .index < 18446744073709551616) ⌝ }
         ensures { λ r. ⌜ r ≡ nextList self list ⌝ }
     {

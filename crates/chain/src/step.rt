@@ -40,7 +40,7 @@ fn over_fragment(file: &[u8], bytes: &[u8], list: DataListBlock, place: Place, i
     Step::Data(block, place.behind(block.size))
 }
 
-// The step behind the last fragment of a list. Only a next link of 0 ends the chain.
+// The step behind the last fragment of a list. The chain ends where it links no further list.
 fn out_of_list(list: DataListBlock, place: Place) -> Step
     requires { ⌜ (place .fragments + place .index ≤ 4096) × (place .lists < 256) ⌝ }
     ensures { λ r. ⌜ stepReply r ≡ answer (leaving place (listMeant list)) ⌝ }

@@ -27,20 +27,20 @@ block c = sym (c .before .before .before .data-block-at .ensures) ∙ ap blockRe
 returns-2 : tie.Need-returns-2
 returns-2 c =
     let told = c .before .before in
-    fragment-long _ _ _ _ _ _ _ (told .before .before .before .before .read-u64-le .ensures) _ (block told) (sym (c .before .ends-past .ensures) ∙ c .if1 .taken)
+    fragment-long _ _ _ _ _ _ _ (told .before .before .before .before .read-u64-le .ensures) _ (block told) (sym (c .before .passes-limit .ensures) ∙ c .if1 .taken)
 
 returns-3 : tie.Need-returns-3
 returns-3 c =
     let one = c .before .before in
     let told = one .before .before in
-    fragment-untrue _ _ _ _ _ _ _ (told .before .before .before .before .read-u64-le .ensures) _ (block told) (sym (one .before .ends-past .ensures) ∙ one .if1 .left)
+    fragment-untrue _ _ _ _ _ _ _ (told .before .before .before .before .read-u64-le .ensures) _ (block told) (sym (one .before .passes-limit .ensures) ∙ one .if1 .left)
     (sym (c .before .truly-declared .ensures) ∙ not-true _ (c .if2 .taken))
 
 returns-4 : tie.Need-returns-4
 returns-4 c =
     let one = c .before .before in
     let told = one .before .before in
-    fragment-taken _ _ _ _ _ _ _ (told .before .before .before .before .read-u64-le .ensures) _ (block told) (sym (one .before .ends-past .ensures) ∙ one .if1 .left)
+    fragment-taken _ _ _ _ _ _ _ (told .before .before .before .before .read-u64-le .ensures) _ (block told) (sym (one .before .passes-limit .ensures) ∙ one .if1 .left)
     (sym (c .before .truly-declared .ensures) ∙ not-false _ (c .if2 .left))
 
 pub fragment-at-spec : {M : Type 1} → statement M

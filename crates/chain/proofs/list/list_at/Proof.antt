@@ -9,6 +9,7 @@ use Rattle.definitions.specs.DataList.{listOf}
 use Rattle.definitions.specs.Chain.{hasHeader, agrees}
 use Rattle.refusals.specs.Meaning.{refused}
 use Rattle.blocks.specs.Meaning.{listMeant, listReply, listRefusal}
+use Rattle.chain.proofs.Addresses.{header-inside}
 use Rattle.chain.proofs.Lists.{list-nowhere, list-refused, list-disagrees, list-many, list-admitted, list-lies}
 use Rattle.chain.proofs.list.list_at.Statement.{statement}
 use Rattle.chain.proofs.list.list_at.Tie as tie
@@ -59,13 +60,13 @@ returns-4 : tie.Need-returns-4
 returns-4 c =
     let two = c .before .before in
     let told = two .before .before in
-    list-many _ _ _ (there (told .before .before .before .before .before)) _ (listed told) (agreed two) (sym (c .before .ends-past .ensures) ∙ c .if3 .taken)
+    list-many _ _ _ (there (told .before .before .before .before .before)) _ (listed told) (agreed two) (sym (c .before .sum-passes .ensures) ∙ c .if3 .taken)
 
 returns-5 : tie.Need-returns-5
 returns-5 c =
     let two = c .before .before in
     let told = two .before .before in
-    list-admitted _ _ _ (there (told .before .before .before .before .before)) _ (listed told) (agreed two) (sym (c .before .ends-past .ensures) ∙ c .if3 .left)
+    list-admitted _ _ _ (there (told .before .before .before .before .before)) _ (listed told) (agreed two) (sym (c .before .sum-passes .ensures) ∙ c .if3 .left)
 
 pub list-at-spec : {M : Type 1} → statement M
 list-at-spec =
@@ -73,7 +74,7 @@ list-at-spec =
     (tie.spec
     (λ c κs. search needs)
     returns
-    (λ c κs. there c)
+    (λ c κs. header-inside (c .before .before .before .args .file .now) (c .before .before .before .args .address .0) (there c))
     (λ c κs. search needs)
     (λ c. search needs)
     (λ c. search needs)

@@ -9,7 +9,7 @@ returns c = let a = c .before .before .before .args in header-nowhere (a .file .
 returns-2 : tie.Need-returns-2
 returns-2 c =
     let a = c .before .before .before .before .args in
-    header-by (a .file .now) (a .address .0) (c .before .if1 .left) _ (c .ends-past .ensures)
+    header-by (a .file .now) (a .address .0) (c .before .if1 .left) _ (c .ends-outside .ensures)
 
 pub has-header-spec : {M : Type 1} → statement M
 has-header-spec = tie.close (tie.spec returns (λ c κs. search needs) returns-2)

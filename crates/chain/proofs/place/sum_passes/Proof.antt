@@ -1,7 +1,7 @@
 use borrow.Author.Needs.{needs}
 use Rattle.chain.proofs.Addresses.{past-short, past-by}
-use Rattle.chain.proofs.place.ends_past.Statement.{statement}
-use Rattle.chain.proofs.place.ends_past.Tie as tie
+use Rattle.chain.proofs.place.sum_passes.Statement.{statement}
+use Rattle.chain.proofs.place.sum_passes.Tie as tie
 
 returns : tie.Need-returns
 returns c = past-short _ _ _ (c .if1 .taken)
@@ -9,5 +9,5 @@ returns c = past-short _ _ _ (c .if1 .taken)
 returns-2 : tie.Need-returns-2
 returns-2 c = search (past-by, needs)
 
-pub ends-past-spec : {M : Type 1} → statement M
-ends-past-spec = tie.close (tie.spec returns returns-2)
+pub sum-passes-spec : {M : Type 1} → statement M
+sum-passes-spec = tie.close (tie.spec returns returns-2)

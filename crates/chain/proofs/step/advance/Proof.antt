@@ -4,6 +4,7 @@ use Rattle.definitions.specs.Reply.{answer}
 use Rattle.definitions.specs.Chain.{listAt}
 use Rattle.refusals.specs.Meaning.{refused}
 use Rattle.blocks.specs.Meaning.{listMeant, listReply, listRefusal}
+use Rattle.chain.proofs.Addresses.{header-inside}
 use Rattle.chain.proofs.Lists.{list-stands, list-readable}
 use Rattle.chain.proofs.Steps.{step-many, step-refused, step-over, step-out}
 use Rattle.chain.proofs.step.advance.Statement.{statement}
@@ -27,7 +28,10 @@ listed : (c : tie.After-known-told) →
 listed c = sym (c .before .before .before .list-at .ensures) ∙ ap listReply (c .before .read .given .1)
 
 bytes-from-requires : tie.Need-bytes-from-requires
-bytes-from-requires c κs = list-stands _ _ _ _ (listed (c .before .before .before)) .0
+bytes-from-requires c κs =
+    let told = c .before .before .before in
+    let a = told .before .before .before .before .before .before .before .before .args in
+    header-inside (a .file .now) (a .place .list .0) (list-stands _ _ _ _ (listed told) .0)
 
 over-fragment-requires : tie.Need-over-fragment-requires
 over-fragment-requires c κs =
