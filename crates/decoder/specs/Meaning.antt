@@ -51,3 +51,7 @@ validValueMeant v = record { value = valueMeant (v .value); valid = v .«is_vali
 abbrev pub validValueReply : ValidValueRead → Reply ValidValue
 validValueReply (Judged v) = answer (validValueMeant v)
 validValueReply (NotJudged r) = refused r
+
+abbrev pub validValueRefusal : ValidValueRead → Refusal
+validValueRefusal (Judged v) = NoValue
+validValueRefusal (NotJudged r) = r

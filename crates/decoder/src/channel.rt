@@ -17,7 +17,7 @@ pub struct Channel {
 
 impl Channel {
     // The slice given is then the payload, and no record.
-    pub fn is_variable_length(self) -> bool
+    pub(crate) fn is_variable_length(self) -> bool
         ensures { λ r. ⌜ r ≡ variableLength (channelMeant self) ⌝ }
     {
         if self.channel_type != 1 {

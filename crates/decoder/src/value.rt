@@ -1,9 +1,9 @@
 // The answers: a value, or a value with its validity, or a refusal.
 ghost use mathlib.Core.Path.{_≡_};
-ghost use Rattle.decoder.specs.Meaning.{valueRefusal};
+ghost use Rattle.decoder.specs.Meaning.{valueRefusal, validValueRefusal};
 use refusals::Refusal;
 
-// Texts and bytes are told by place and length in the slice given, a double by its value and its 64-bit pattern.
+// `at` and `length` are a place in the slice; `bits` is the pattern of the double beside it, which tells NaNs apart.
 pub enum DecodedValue {
     UnsignedInteger(u64),
     SignedInteger(i64),
@@ -40,4 +40,15 @@ pub struct DecodedChannelValue {
 pub enum ValidValueRead {
     Value(DecodedChannelValue),
     Refused(Refusal),
+}
+
+impl ValidValueRead {
+    pub fn refusal(self) -> Refusal
+        ensures { λ r. ⌜ r ≡ validValueRefusal self ⌝ }
+    {
+        match self {
+            ValidValueRead::Refused(r) => r,
+            ValidValueRead::Value(_) => Refusal::NoValue,
+        }
+    }
 }

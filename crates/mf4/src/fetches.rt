@@ -23,11 +23,11 @@ fn fetched_reply(read: RecordRead) -> Mf4Fetched
     ensures { λ r. ⌜ r ≡ fetchedC (recordReply read) ⌝ }
 {
     match read {
-        RecordRead::Record => Mf4Fetched { reply: 0, told: 0 },
         RecordRead::Refused(why) => Mf4Fetched {
             reply: why.number(),
             told: why.told(),
         },
+        RecordRead::Record => Mf4Fetched { reply: 0, told: 0 },
     }
 }
 

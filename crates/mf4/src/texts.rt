@@ -27,17 +27,17 @@ fn text_reply(write: TextWrite) -> Mf4Text
     ensures { λ r. ⌜ r ≡ textC (textReply write) ⌝ }
 {
     match write {
-        TextWrite::Written { count, damaged } => Mf4Text {
-            reply: 0,
-            told: 0,
-            count,
-            damaged: flag(damaged),
-        },
         TextWrite::Refused(why) => Mf4Text {
             reply: why.number(),
             told: why.told(),
             count: 0,
             damaged: 0,
+        },
+        TextWrite::Written { count, damaged } => Mf4Text {
+            reply: 0,
+            told: 0,
+            count,
+            damaged: flag(damaged),
         },
     }
 }

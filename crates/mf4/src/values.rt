@@ -114,52 +114,56 @@ fn decoded(value: DecodedValue) -> Mf4Decoded
     }
 }
 
+fn value_refused(why: Refusal) -> Mf4Value
+    ensures { λ r. ⌜ r ≡ valueC (refused why) ⌝ }
+{
+    let value = place(0, 0, 0);
+    Mf4Value {
+        reply: why.number(),
+        told: why.told(),
+        value,
+    }
+}
+
 fn value_reply(read: ValueRead) -> Mf4Value
     ensures { λ r. ⌜ r ≡ valueC (valueReply read) ⌝ }
 {
-    match read {
-        ValueRead::Value(v) => {
-            let value = decoded(v);
-            Mf4Value {
-                reply: 0,
-                told: 0,
-                value,
-            }
-        }
-        ValueRead::Refused(why) => {
-            let value = place(0, 0, 0);
-            Mf4Value {
-                reply: why.number(),
-                told: why.told(),
-                value,
-            }
-        }
+    let ValueRead::Value(v) = read else {
+        return value_refused(read.refusal());
+    };
+    let value = decoded(v);
+    Mf4Value {
+        reply: 0,
+        told: 0,
+        value,
+    }
+}
+
+fn valid_value_refused(why: Refusal) -> Mf4ValidValue
+    ensures { λ r. ⌜ r ≡ validValueC (refused why) ⌝ }
+{
+    let value = place(0, 0, 0);
+    Mf4ValidValue {
+        reply: why.number(),
+        told: why.told(),
+        value,
+        is_valid: 0,
     }
 }
 
 pub fn valid_value_reply(read: ValidValueRead) -> Mf4ValidValue
     ensures { λ r. ⌜ r ≡ validValueC (validValueReply read) ⌝ }
 {
-    match read {
-        ValidValueRead::Value(v) => {
-            let inner = v.value;
-            let value = decoded(inner);
-            Mf4ValidValue {
-                reply: 0,
-                told: 0,
-                value,
-                is_valid: flag(v.is_valid),
-            }
-        }
-        ValidValueRead::Refused(why) => {
-            let value = place(0, 0, 0);
-            Mf4ValidValue {
-                reply: why.number(),
-                told: why.told(),
-                value,
-                is_valid: 0,
-            }
-        }
+    let ValidValueRead::Value(v) = read else {
+        return valid_value_refused(read.refusal());
+    };
+    let inner = v.value;
+    let value = decoded(inner);
+    Mf4ValidValue {
+        reply: 0,
+        told: 0,
+        value,
+        is_valid: flag(v.is_valid),
     }
 }
 

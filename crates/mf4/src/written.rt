@@ -16,15 +16,15 @@ pub fn written_reply(written: Written) -> Mf4Written
     ensures { λ r. ⌜ r ≡ writtenC (writtenReply written) ⌝ }
 {
     match written {
-        Written::Bytes(count) => Mf4Written {
-            reply: 0,
-            told: 0,
-            count,
-        },
         Written::Refused(why) => Mf4Written {
             reply: why.number(),
             told: why.told(),
             count: 0,
+        },
+        Written::Bytes(count) => Mf4Written {
+            reply: 0,
+            told: 0,
+            count,
         },
     }
 }

@@ -25,14 +25,13 @@ fn write_fixed(text: &[u8], out: &mut [u8]) -> TextWrite
     ensures { λ r. ⌜ wrote r (now (out .exit)) ≡ writtenText (now (out .entry)) (broken (now (text .entry))) ⌝ }
 {
     let count = text.len() as u64;
-    if text.len() <= out.len() {
-        copy(text, out);
-        TextWrite::Written {
-            count,
-            damaged: true,
-        }
-    } else {
-        TextWrite::Refused(Refusal::NoRoom(count))
+    if out.len() < text.len() {
+        return TextWrite::Refused(Refusal::NoRoom(count));
+    }
+    copy(text, out);
+    TextWrite::Written {
+        count,
+        damaged: true,
     }
 }
 

@@ -20,13 +20,12 @@ pub fn write_text(encoding: Encoding, bytes: &[u8], out: &mut [u8]) -> TextWrite
         return write_placeholder(encoding, out);
     };
     let count = size as u64;
-    if size <= out.len() {
-        write_chars(encoding, text, out);
-        TextWrite::Written {
-            count,
-            damaged: false,
-        }
-    } else {
-        TextWrite::Refused(Refusal::NoRoom(count))
+    if out.len() < size {
+        return TextWrite::Refused(Refusal::NoRoom(count));
+    }
+    write_chars(encoding, text, out);
+    TextWrite::Written {
+        count,
+        damaged: false,
     }
 }

@@ -8,13 +8,13 @@ use Rattle.mf4.proofs.fetches.fetched_reply.Statement.{statement}
 use Rattle.mf4.proofs.fetches.fetched_reply.Tie as tie
 
 returns : tie.Need-returns
-returns c = sym (ap (λ (r : RecordRead). fetchedC (recordReply r)) (c .enum-told .given .1))
-
-returns-2 : tie.Need-returns-2
-returns-2 c =
+returns c =
     by-numbers fetchedC (c .before .before .before .read .given .0 .0) (c .before .number .ensures) (c .told .ensures)
     ∙ sym (ap (λ (r : RecordRead). fetchedC (recordReply r)) (c .before .before .before .read .given .1))
 
+returns-2 : tie.Need-returns-2
+returns-2 c = sym (ap (λ (r : RecordRead). fetchedC (recordReply r)) (c .enum-told .given .1))
+
 pub fetched-reply-spec : {M : Type 1} → statement M
 fetched-reply-spec =
-    tie.close (tie.spec (λ c. search needs) (λ c. search needs) (λ c κs. search needs) (λ c κs. search needs) returns returns-2)
+    tie.close (tie.spec (λ c. search needs) (λ c κs. search needs) (λ c κs. search needs) (λ c. search needs) returns returns-2)

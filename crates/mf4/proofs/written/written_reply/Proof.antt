@@ -8,20 +8,20 @@ use Rattle.mf4.proofs.written.written_reply.Statement.{statement}
 use Rattle.mf4.proofs.written.written_reply.Tie as tie
 
 returns : tie.Need-returns
-returns c = sym (ap (λ (w : Written). writtenC (writtenReply w)) (c .before .written .given .1))
+returns c =
+    by-numbers writtenC (c .before .before .before .written .given .0 .0) (c .before .number .ensures) (c .told .ensures)
+    ∙ sym (ap (λ (w : Written). writtenC (writtenReply w)) (c .before .before .before .written .given .1))
 
 returns-2 : tie.Need-returns-2
-returns-2 c =
-    by-numbers writtenC (c .before .before .before .written2 .given .0 .0) (c .before .number .ensures) (c .told .ensures)
-    ∙ sym (ap (λ (w : Written). writtenC (writtenReply w)) (c .before .before .before .written2 .given .1))
+returns-2 c = sym (ap (λ (w : Written). writtenC (writtenReply w)) (c .before .written2 .given .1))
 
 pub written-reply-spec : {M : Type 1} → statement M
 written-reply-spec =
     tie.close
     (tie.spec
     (λ c. search needs)
+    (λ c κs. search needs)
+    (λ c κs. search needs)
     (λ c. search needs)
-    (λ c κs. search needs)
-    (λ c κs. search needs)
     returns
     returns-2)

@@ -8,14 +8,14 @@ use Rattle.text.proofs.damaged.write_fixed.Tie as tie
 
 returns : tie.Need-returns
 returns c =
-    let t = c .before .before .before .before in
-    let a = t .before .before .before .args in
-    written-fits (a .out .now) _ (broken (a .text .now)) _ refl (t .if1 .taken) (c .before .before .copy .ensures)
+    let a = c .before .before .before .args in
+    written-small (a .out .now) (broken (a .text .now)) _ refl (omega arith) (c .if1 .taken)
 
 returns-2 : tie.Need-returns-2
 returns-2 c =
-    let a = c .before .before .before .args in
-    written-small (a .out .now) (broken (a .text .now)) _ refl (omega arith) (c .if1 .left)
+    let t = c .before .before .before .before in
+    let a = t .before .before .before .args in
+    written-fits (a .out .now) _ (broken (a .text .now)) _ refl (t .if1 .left) (c .before .before .copy .ensures)
 
 pub write-fixed-spec : {M : Type 1} → statement M
-write-fixed-spec = tie.close (tie.spec (λ c κs. search needs) (λ c. search needs) returns returns-2)
+write-fixed-spec = tie.close (tie.spec returns (λ c κs. search needs) (λ c. search needs) returns-2)

@@ -19,21 +19,21 @@ returns c =
 write-chars-requires : tie.Need-write-chars-requires
 write-chars-requires c κs =
     let z = c .before .before .before in
-    found-room _ _ _ (sym (z .size .given .1) ∙ z .before .before .measure .ensures) (c .before .if1 .taken)
+    found-room _ _ _ (sym (z .size .given .1) ∙ z .before .before .measure .ensures) (c .before .if1 .left)
 
 returns-2 : tie.Need-returns-2
 returns-2 c =
+    let z = c .before .before in
+    let m = z .before .before in
+    out-small _ _ _ _ _ (stop-kept _ _ _ (m .before .before .text-end .ensures)) (sym (z .size .given .1) ∙ m .measure .ensures) (omega arith) (c .if1 .taken)
+
+returns-3 : tie.Need-returns-3
+returns-3 c =
     let t = c .before .before .before .before in
     let z = t .before .before in
     let m = z .before .before in
     out-fits _ _ _ _ _ _ (stop-kept _ _ _ (m .before .before .text-end .ensures)) (sym (z .size .given .1) ∙ m .measure .ensures)
-    (t .if1 .taken) (c .before .before .write-chars .ensures)
-
-returns-3 : tie.Need-returns-3
-returns-3 c =
-    let z = c .before .before in
-    let m = z .before .before in
-    out-small _ _ _ _ _ (stop-kept _ _ _ (m .before .before .text-end .ensures)) (sym (z .size .given .1) ∙ m .measure .ensures) (omega arith) (c .if1 .left)
+    (t .if1 .left) (c .before .before .write-chars .ensures)
 
 pub write-text-spec : {M : Type 1} → statement M
 write-text-spec =
@@ -47,7 +47,7 @@ write-text-spec =
     (λ c κs. search needs)
     (λ c. search needs)
     returns
+    returns-2
     write-chars-requires
     (λ c. search needs)
-    returns-2
     returns-3)
