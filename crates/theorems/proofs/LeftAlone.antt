@@ -1,17 +1,18 @@
 -- What a refusal leaves: every lent byte, but for a record that was fetched before its field was refused.
-use mathlib.Core.Path.{_≡_, refl}
+use mathlib.Core.Path.{_≡_, refl, sym}
 use mathlib.Core.Logic.{_⊎_, inl, inr}
-use mathlib.Core.Bool.{Bool, true, false}
+use mathlib.Core.Bool.{Bool, true, false, not, _&&_, _||_}
 use mathlib.Core.List.{List}
 use Prim.Native.Nat.{ℕ, _+_, _*_}
 use native.Mathlib.Omega.{arith}
-use lib.ListN.{length}
-use lib.Dec.{ltb}
-use Rattle.definitions.specs.Reply.{Reply, Outcome, answer, refusal, if_then_else_, told, writing}
+use lib.ListN.{length, take}
+use lib.Dec.{ltb, eqb}
+use Rattle.definitions.specs.Reply.{Reply, Outcome, answer, refusal, if_then_else_, andThen, told, writing}
 use Rattle.definitions.specs.Unicode.{Encoding, textOf, writtenText, textWritten}
 use Rattle.definitions.specs.Header.{Header, headerBytes, headerWritten}
+use Rattle.definitions.specs.DataType.{Kind, kindOf}
 use Rattle.definitions.specs.DataList.{Lengths, listBytes, listSize, flagsFor, restFor, unwritable, listWritten}
-use Rattle.definitions.specs.Channel.{Channel}
+use Rattle.definitions.specs.Channel.{Channel, Value, ValidValue, startOf, spanOf, decoded, isInteger, isFloating, isNumber, noValue, valueBy, valueOf, validValueOf}
 use Rattle.definitions.specs.Chain.{Block, idDT, joined, chainOf, badSize, onBlocks, recordOf, fetched, valueFetched}
 
 -- a refused call leaves the buffer as it was
@@ -83,3 +84,43 @@ module _ (out : List ℕ) where
       → valueFetched f start k size idSize dataBytes c out .buffer ≡ fetched f start k size out .buffer
   unfolding valueFetched
   value-left f start k size idSize dataBytes c = refl
+
+-- ---- a field is refused with 1 alone, so that is the reply where a fetched record stays
+
+abbrev pub OnlyWithOne : {A : Type 0} → Reply A → Type 0
+OnlyWithOne r = (n t : ℕ) → r ≡ refusal n t → (n ≡ 1) × (t ≡ 0)
+
+module _ {A : Type 0} where
+  one-or-on : (b : Bool) (r : Reply A) → OnlyWithOne r → OnlyWithOne (if b then noValue else r)
+  one-or-on true r h n t e = (let z : 1 ≡ n = cc in sym z, let z : 0 ≡ t = cc in sym z)
+  one-or-on false r h n t e = h n t e
+
+  no-refusal-at-all : (a : A) → OnlyWithOne (answer a)
+  no-refusal-at-all a n t e = absurd (let z : _≡_ {A = ℕ} 0 1 = cc in omega arith)
+
+module _ (s : List ℕ) (idSize : ℕ) (c : Channel) where
+  by-with-one : (k : Kind) (at n : ℕ) → OnlyWithOne (valueBy k at n s c)
+  unfolding valueBy
+  by-with-one k at n =
+      one-or-on (isNumber k && eqb (c .bitCount) 0) _
+      (one-or-on (isNumber k && ltb 7 (c .bitOffset)) _
+      (one-or-on (isInteger k && ltb 64 (c .bitCount)) _
+      (one-or-on (ltb (length s) (at + n)) _
+      (one-or-on (isFloating k && not (eqb (c .bitCount) 32 || eqb (c .bitCount) 64)) _ (no-refusal-at-all (decoded (c .dataType) s at n c))))))
+
+  pub value-with-one : OnlyWithOne (valueOf s idSize c)
+  unfolding valueOf
+  value-with-one = by-with-one (kindOf (c .dataType)) (startOf idSize c) (spanOf s c)
+
+  both-with-one : (r : Reply Value) (f : Value → ValidValue) → OnlyWithOne r → OnlyWithOne (andThen r (λ x. answer (f x)))
+  both-with-one (answer x) f h n t e = no-refusal-at-all (f x) n t e
+  both-with-one (refusal m u) f h n t e = h n t (let z : m ≡ n = cc in let y : u ≡ t = cc in rw (z, y))
+
+  pub valid-value-with-one : (dataBytes : ℕ) → OnlyWithOne (validValueOf s idSize dataBytes c)
+  unfolding validValueOf
+  valid-value-with-one dataBytes = both-with-one (valueOf s idSize c) _ value-with-one
+
+pub kept-with-one : (out f : List ℕ) (start k size idSize dataBytes : ℕ) (c : Channel) → fetched f start k size out .reply ≡ answer tt
+    → OnlyWithOne (valueFetched f start k size idSize dataBytes c out .reply)
+unfolding valueFetched
+kept-with-one out f start k size idSize dataBytes c h = rw h (valid-value-with-one (take size (fetched f start k size out .buffer)) idSize c dataBytes)

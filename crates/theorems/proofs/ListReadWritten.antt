@@ -1,5 +1,5 @@
--- A data list that is read and then written gives the block's bytes again, under exactly these conditions: reserved fields
--- are 0, flags is 0 or 1, data links are at most 4,096, count is links less 1, and block length is what the fields take.
+-- A data list that is read and then written gives its bytes again where it is `Plain`: nothing in the reserved fields or
+-- the upper flags, no more links than can be written, and a count and a block length that fit its fields.
 use mathlib.Core.Path.{_≡_, refl, sym, ap, ap₂, _∙_, subst}
 use mathlib.Core.Logic.{_⊎_, inl, inr}
 use mathlib.Core.Bool.{true, false}
@@ -145,7 +145,7 @@ either-form s d p e = go (p .flags)
     go (inl f) = many-form s d f e (p .few) (p .count)
     go (inr f) = one-form s d f e (p .few)
 
--- the list may be written, and is then the block's bytes; bytes after the block play no part
+-- the list may be written, and is then the block's bytes; what comes behind them does not matter
 pub list-read-written : (s : List ℕ) (d : DataList) → Bytes s → listOf s ≡ answer d → Plain d
     → (unwritable (d .links) (lengthsIn s d) ≡ false)
     × (listBytes (d .next) (u64sAt s (d .linksAt) (d .links)) (flagsFor (lengthsIn s d)) (restFor (lengthsIn s d)) ≡ take (d .header .blockLength) s)

@@ -1,4 +1,4 @@
--- A data list that was written reads back the same, whatever bytes come after it.
+-- Reading gives what a data list was written from, whatever bytes come after it.
 use mathlib.Core.Path.{_≡_, refl, sym, ap, ap₂, _∙_}
 use mathlib.Core.Bool.{Bool, true, false}
 use mathlib.Core.List.{List, [], _∷_, _++_, append-assoc}

@@ -25,6 +25,8 @@ use Rattle.doubles.proofs.value_of.Kinds as double-value-kinds
 use Rattle.doubles.proofs.value_of.Reads as double-value
 use Rattle.blocks.proofs.header.BlockHeader.from_bytes.Kinds as header-read-kinds
 use Rattle.blocks.proofs.header.BlockHeader.from_bytes.Reads as header-read
+use Rattle.blocks.proofs.header.HeaderRead.refusal.Kinds as header-refusal-kinds
+use Rattle.blocks.proofs.header.HeaderRead.refusal.Reads as header-refusal
 use Rattle.blocks.proofs.header.BlockHeader.to_bytes.Kinds as header-write-kinds
 use Rattle.blocks.proofs.header.BlockHeader.to_bytes.Reads as header-write
 use Rattle.blocks.proofs.data_type.DataType.from_u8.Kinds as type-read-kinds
@@ -35,6 +37,8 @@ use Rattle.blocks.proofs.data_type.DataType.default_bits.Kinds as type-bits-kin
 use Rattle.blocks.proofs.data_type.DataType.default_bits.Reads as type-bits
 use Rattle.blocks.proofs.data_list.DataListBlock.from_bytes.Kinds as list-read-kinds
 use Rattle.blocks.proofs.data_list.DataListBlock.from_bytes.Reads as list-read
+use Rattle.blocks.proofs.data_list.ListRead.refusal.Kinds as list-refusal-kinds
+use Rattle.blocks.proofs.data_list.ListRead.refusal.Reads as list-refusal
 use Rattle.blocks.proofs.data_list.DataListBlock.write_equal.Kinds as list-equal-kinds
 use Rattle.blocks.proofs.data_list.DataListBlock.write_equal.Reads as list-equal
 use Rattle.blocks.proofs.data_list.DataListBlock.write_variable.Kinds as list-variable-kinds
@@ -45,16 +49,24 @@ use Rattle.text.proofs.write_text.Kinds as text-write-kinds
 use Rattle.text.proofs.write_text.Reads as text-write
 use Rattle.decoder.proofs.decode_channel_value.Kinds as value-read-kinds
 use Rattle.decoder.proofs.decode_channel_value.Reads as value-read
+use Rattle.decoder.proofs.value.ValueRead.refusal.Kinds as value-refusal-kinds
+use Rattle.decoder.proofs.value.ValueRead.refusal.Reads as value-refusal
 use Rattle.decoder.proofs.check_value_validity.Kinds as validity-kinds
 use Rattle.decoder.proofs.check_value_validity.Reads as validity
 use Rattle.decoder.proofs.decode_channel_value_with_validity.Kinds as valid-value-read-kinds
 use Rattle.decoder.proofs.decode_channel_value_with_validity.Reads as valid-value-read
+use Rattle.decoder.proofs.value.ValidValueRead.refusal.Kinds as valid-value-refusal-kinds
+use Rattle.decoder.proofs.value.ValidValueRead.refusal.Reads as valid-value-refusal
 use Rattle.decoder.proofs.decode_f64_from_record.Kinds as record-double-kinds
 use Rattle.decoder.proofs.decode_f64_from_record.Reads as record-double
 use Rattle.chain.proofs.accept.Kinds as chain-accept-kinds
 use Rattle.chain.proofs.accept.Reads as chain-accept
+use Rattle.chain.proofs.place.Place.start.Kinds as chain-start-kinds
+use Rattle.chain.proofs.place.Place.start.Reads as chain-start
 use Rattle.chain.proofs.read_record.Kinds as record-read-kinds
 use Rattle.chain.proofs.read_record.Reads as record-read
+use Rattle.chain.proofs.record.RecordRead.refusal.Kinds as record-refusal-kinds
+use Rattle.chain.proofs.record.RecordRead.refusal.Reads as record-refusal
 use Rattle.records.proofs.read_value.Kinds as record-value-kinds
 use Rattle.records.proofs.read_value.Reads as record-value
 
@@ -114,6 +126,13 @@ header-read-settled = record {
   sole = λ κs a y z b c p q. (header-one y z (p ∙ sym q), refl);
 }
 
+pub header-refusal-settled : Settled 0 header-refusal-kinds.ps header-refusal-kinds.r header-refusal.Asked header-refusal.ensures header-refusal.Learnt
+header-refusal-settled = record {
+  free = λ κs a. tt;
+  says = λ κs a y e w. refl;
+  sole = λ κs a y z b c p q. (p ∙ sym q, refl);
+}
+
 pub header-write-settled : Settled 1 header-write-kinds.ps header-write-kinds.r header-write.Asked header-write.ensures header-write.Learnt
 header-write-settled = record {
   free = λ κs a. tt;
@@ -148,6 +167,13 @@ list-read-settled = record {
   free = λ κs a. tt;
   says = λ κs a y e w. refl;
   sole = λ κs a y z b c p q. (list-one y z (p ∙ sym q), refl);
+}
+
+pub list-refusal-settled : Settled 0 list-refusal-kinds.ps list-refusal-kinds.r list-refusal.Asked list-refusal.ensures list-refusal.Learnt
+list-refusal-settled = record {
+  free = λ κs a. tt;
+  says = λ κs a y e w. refl;
+  sole = λ κs a y z b c p q. (p ∙ sym q, refl);
 }
 
 pub list-equal-settled : Settled 2 list-equal-kinds.ps list-equal-kinds.r list-equal.Asked list-equal.ensures list-equal.Learnt
@@ -188,6 +214,13 @@ value-read-settled = record {
   sole = λ κs a y z b c p q. (value-one y z (p ∙ sym q), refl);
 }
 
+pub value-refusal-settled : Settled 0 value-refusal-kinds.ps value-refusal-kinds.r value-refusal.Asked value-refusal.ensures value-refusal.Learnt
+value-refusal-settled = record {
+  free = λ κs a. tt;
+  says = λ κs a y e w. refl;
+  sole = λ κs a y z b c p q. (p ∙ sym q, refl);
+}
+
 pub validity-settled : Settled 1 validity-kinds.ps validity-kinds.r validity.Asked validity.ensures validity.Learnt
 validity-settled = record {
   free = λ κs a. tt;
@@ -200,6 +233,13 @@ valid-value-read-settled = record {
   free = λ κs a. tt;
   says = λ κs a y e w. refl;
   sole = λ κs a y z b c p q. (valid-value-one y z (p ∙ sym q), refl);
+}
+
+pub valid-value-refusal-settled : Settled 0 valid-value-refusal-kinds.ps valid-value-refusal-kinds.r valid-value-refusal.Asked valid-value-refusal.ensures valid-value-refusal.Learnt
+valid-value-refusal-settled = record {
+  free = λ κs a. tt;
+  says = λ κs a y e w. refl;
+  sole = λ κs a y z b c p q. (p ∙ sym q, refl);
 }
 
 pub record-double-settled : Settled 1 record-double-kinds.ps record-double-kinds.r record-double.Asked record-double.ensures record-double.Learnt
@@ -216,12 +256,26 @@ chain-accept-settled = record {
   sole = λ κs a y z b c p q. (chain-one y z (p ∙ sym q), refl);
 }
 
+pub chain-start-settled : Settled 0 chain-start-kinds.ps chain-start-kinds.r chain-start.Asked chain-start.ensures chain-start.Learnt
+chain-start-settled = record {
+  free = λ κs a. tt;
+  says = λ κs a y e w. refl;
+  sole = λ κs a y z b c p q. (p ∙ sym q, refl);
+}
+
 pub record-read-settled : Settled 2 record-read-kinds.ps record-read-kinds.r record-read.Asked record-read.ensures record-read.Learnt
 record-read-settled = record {
   free = λ κs a. tt;
   says = λ κs a y e w. refl;
   sole = λ κs a y z b c p q.
       (record-one y z (ap (λ (o : Outcome (Unit {0})). o .reply) (p ∙ sym q)), ap (λ (o : Outcome (Unit {0})). (tt, (tt, (tt, (tt, (o .buffer, tt)))))) (p ∙ sym q));
+}
+
+pub record-refusal-settled : Settled 0 record-refusal-kinds.ps record-refusal-kinds.r record-refusal.Asked record-refusal.ensures record-refusal.Learnt
+record-refusal-settled = record {
+  free = λ κs a. tt;
+  says = λ κs a y e w. refl;
+  sole = λ κs a y z b c p q. (p ∙ sym q, refl);
 }
 
 pub record-value-settled : Settled 2 record-value-kinds.ps record-value-kinds.r record-value.Asked record-value.ensures record-value.Learnt

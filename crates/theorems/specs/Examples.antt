@@ -98,7 +98,7 @@ table =
     ∷ value (le 8 0) (channel (signedInteger little) 4 64) (refusal 1 0)
     ∷ value (0x00 ∷ 0x00 ∷ 0x80 ∷ 0x3F ∷ []) (channel (float little) 0 32) (answer (double (fin false 1 (pos 0)) 0x3FF0000000000000))
     ∷ value (0x01 ∷ 0x00 ∷ 0x00 ∷ 0x00 ∷ []) (channel (float little) 0 32) (answer (double (fin false 1 (negsuc 148)) 0x36A0000000000000))
-    ∷ value (0x00 ∷ 0x00 ∷ []) (channel (float little) 0 16) (refusal 1 0)
+    ∷ value (0x00 ∷ 0x00 ∷ 0x80 ∷ 0x3F ∷ []) (channel (float little) 0 16) (refusal 1 0)
     ∷ counter 9007199254740993 9007199254740992
     ∷ counter 9007199254740995 9007199254740996
     ∷ value (0x50 ∷ 0x58 ∷ 0x31 ∷ 0x00 ∷ 0x39 ∷ []) (channel (string latin1) 0 40) (answer (text 0 3))
@@ -106,7 +106,7 @@ table =
     ∷ value (0x50 ∷ 0x58 ∷ []) (fixed 3 0 0 (string latin1) 0 7) (refusal 1 0)
     ∷ validity (0x34 ∷ 0x12 ∷ 0x00 ∷ 0x02 ∷ []) (flagged 2 9) false
     ∷ validity (0x34 ∷ 0x12 ∷ 0x00 ∷ 0x02 ∷ []) (flagged 2 16) true
-    ∷ validity (0x34 ∷ 0x12 ∷ 0x00 ∷ 0x02 ∷ []) (flagged 3 9) false
+    ∷ validity (0x34 ∷ 0x12 ∷ 0x00 ∷ 0x02 ∷ []) (flagged 3 16) false
     ∷ list (shortList 1 0) (answer (record {
       header = record { id = 1279533859; reserved = 0; blockLength = 40; linkCount = 1 };
       next = 0;
