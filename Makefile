@@ -14,7 +14,7 @@ SECONDS := 60
 COUNT := 10000000
 CASES := 20000
 
-.PHONY: demo test archive ctest header check compare fuzz fmt kit
+.PHONY: demo test archive ctest header check compare fuzz bench fmt kit
 
 # Writes a small pump log and reads it with the library.
 demo: archive
@@ -48,6 +48,7 @@ header:
 # An independent program, written from the rules alone, gives the same answers.
 check: archive
 	@python3 tests/independent/test_reference.py
+	@python3 tests/independent/stored.py crates/replay/data/vectors.txt crates/replay/data/sample.txt
 	@$(CC) $(C_FLAGS) -o build/driver tests/independent/driver.c build/libmf4.a
 	@python3 tests/independent/check.py --driver build/driver --count $(CASES)
 
@@ -58,6 +59,10 @@ compare: archive
 # Tries made-up inputs for SECONDS seconds.
 fuzz: archive
 	@tests/fuzz/run $(SECONDS)
+
+# Times and instructions of the calls beside those of mf4-rs, as the table of docs/BENCH.md.
+bench: archive
+	@bench/run
 
 fmt:
 	@rt fmt

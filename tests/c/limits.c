@@ -1035,7 +1035,7 @@ static void check_all_damages(void)
     CHECK_DAMAGES(pair, make_pair_file);
 }
 
-/* A list is read from its address to the file's end, and what it needs is counted from its address. */
+/* The list at the end of a short file: what it needs is counted from its own address. */
 static void check_short_files(void)
 {
     name_case("files that end early");

@@ -1,0 +1,188 @@
+"""Asks reference.py for every stored answer: those of mf4-rs and those of IEEE 754, Unicode and the rules' examples.
+
+    stored.py FILE...    files of lines as compare/src/main.rs and crates/replay/src/main.rt describe them
+
+Exit status: 0 if every answer is the stored one, 1 if not.
+"""
+
+import sys
+
+import reference
+
+LEFT_ALONE = 0xA5  # fills a lent buffer
+
+
+class Words:
+    """The words of a line, taken in turn."""
+
+    def __init__(self, line):
+        self.words = iter(line.split())
+
+    def word(self):
+        return next(self.words)
+
+    def number(self):
+        return int(self.word(), 16)
+
+    def bytes(self):
+        word = self.word()
+        return b"" if word == "-" else bytes.fromhex(word)
+
+    def numbers(self):
+        return [self.number() for _ in range(self.number())]
+
+    def buffer(self):
+        return bytes([LEFT_ALONE]) * self.number()
+
+    def header(self):
+        return reference.Header(*(self.number() for _ in reference.Header._fields))
+
+    def channel(self):
+        return reference.Channel(*(self.number() for _ in reference.Channel._fields))
+
+
+def bytes_word(content):
+    return content.hex() or "-"
+
+
+def number_words(*numbers):
+    return [f"{number % 2**64:x}" for number in numbers]
+
+
+def reply_words(reply, answer):
+    """The words of an answer stand only where there is one."""
+    return number_words(reply.reply, reply.told) + (answer(reply) if reply.reply == 0 else [])
+
+
+def value_words(value):
+    content = {
+        1: (value.unsigned_value, 0),
+        2: (value.signed_value, 0),
+        3: (value.double_bits, 0),
+    }.get(value.kind, (value.at, value.length))
+    return number_words(value.kind, *content)
+
+
+def valid_value_words(reply):
+    return reply_words(reply, lambda r: value_words(r.value) + number_words(r.is_valid))
+
+
+def written_words(outcome):
+    reply, out = outcome
+    return reply_words(reply, lambda r: [bytes_word(out[:r.count])])
+
+
+# ---- an answer for each kind of line
+
+
+def type_answer(words):
+    code = words.number()
+    return number_words(reference.type_code(code), reference.default_bits(code))
+
+
+def header_read_answer(words):
+    return reply_words(reference.read_header(words.bytes()), lambda r: number_words(*r.header))
+
+
+def header_write_answer(words):
+    header = words.header()
+    return written_words(reference.write_header(header, words.buffer()))
+
+
+def list_read_answer(words):
+    def fields(r):
+        return number_words(*r.header, r.next, r.links_at, r.links, r.flags, r.reserved1, r.data_block_nr, r.rest_at, r.rest)
+
+    return reply_words(reference.read_list(words.bytes()), fields)
+
+
+def list_write_equal_answer(words):
+    out, next_list, length = words.buffer(), words.number(), words.number()
+    return written_words(reference.write_list_equal(out, next_list, words.numbers(), length))
+
+
+def list_write_variable_answer(words):
+    out, next_list, links = words.buffer(), words.number(), words.numbers()
+    return written_words(reference.write_list_variable(out, next_list, links, words.numbers()))
+
+
+def field(words):
+    return words.bytes(), words.number(), words.number(), words.channel()
+
+
+def value_answer(words):
+    record, id_size, _, channel = field(words)
+    return reply_words(reference.decode_value(record, id_size, channel), lambda r: value_words(r.value))
+
+
+def validity_answer(words):
+    return number_words(reference.check_validity(*field(words)))
+
+
+def both_answer(words):
+    return valid_value_words(reference.decode_valid_value(*field(words)))
+
+
+def double_answer(words):
+    record, id_size, _, channel = field(words)
+    return number_words(reference.decode_double(record, id_size, channel))
+
+
+def text_answer(words):
+    encoding, text = words.number(), words.bytes()
+    reply, out = reference.text_as_utf8(text, encoding, words.buffer())
+    return reply_words(reply, lambda r: number_words(r.damaged) + [bytes_word(out[:r.count])])
+
+
+def fetched_word(buffer, record_size, fetched):
+    return [bytes_word(buffer[:record_size]) if fetched else "-"]
+
+
+def record_answer(words):
+    file, start, number, size = words.bytes(), words.number(), words.number(), words.number()
+    reply, buffer = reference.read_record(file, start, number, size, words.buffer())
+    return number_words(reply.reply, reply.told) + fetched_word(buffer, size, reply.reply == 0)
+
+
+def record_value_answer(words):
+    file, start, number, size = words.bytes(), words.number(), words.number(), words.number()
+    before, id_size, data_bytes = words.buffer(), words.number(), words.number()
+    reply, buffer = reference.record_value(file, start, number, size, id_size, data_bytes, words.channel(), before)
+    return valid_value_words(reply) + fetched_word(buffer, size, buffer != before)
+
+
+ANSWERS = {
+    "type": type_answer,
+    "header-read": header_read_answer,
+    "header-write": header_write_answer,
+    "list-read": list_read_answer,
+    "list-write-equal": list_write_equal_answer,
+    "list-write-variable": list_write_variable_answer,
+    "value": value_answer,
+    "validity": validity_answer,
+    "both": both_answer,
+    "double": double_answer,
+    "text": text_answer,
+    "record": record_answer,
+    "record-value": record_value_answer,
+}
+
+
+def is_stored(line):
+    given, stored = line.split(" = ")
+    words = Words(given)
+    found = " ".join(ANSWERS[words.word()](words))
+    if found != stored:
+        print(f"DIFFERENCE\n  stored    {line}\n  reference {found}")
+    return found == stored
+
+
+def main():
+    lines = [line.strip() for path in sys.argv[1:] for line in open(path, encoding="utf-8")]
+    verdicts = [is_stored(line) for line in lines if line and not line.startswith("#")]
+    print(f"stored answers: {len(verdicts)} asked, {verdicts.count(False)} different")
+    return 0 if verdicts and all(verdicts) else 1
+
+
+if __name__ == "__main__":
+    sys.exit(main())
