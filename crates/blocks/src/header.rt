@@ -52,7 +52,7 @@ impl BlockHeader {
 }
 
 // The 24 bytes, where there is room for them
-pub fn put_header(out: &mut [u8], header: BlockHeader)
+pub(crate) fn put_header(out: &mut [u8], header: BlockHeader)
     requires { ⌜ 24 ≤ length (now out) ⌝ }
     ensures { λ _. ⌜ now (out .exit) ≡ sets (now (out .entry)) 0 (headerBytes (headerMeant header)) ⌝ }
 {

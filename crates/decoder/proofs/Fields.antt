@@ -1,22 +1,18 @@
 -- The ways to a field, and to each refusal of one.
-use mathlib.Core.Path.{_≡_, sym, ap, ap₂, _∙_, subst}
+use mathlib.Core.Path.{_≡_, refl, sym, ap, _∙_, subst}
 use mathlib.Core.Logic.{inl, inr}
 use mathlib.Core.Bool.{Bool, true, false, not, _&&_, _||_, true≢false}
 use mathlib.Core.List.{List}
-use Prim.Native.Nat.{ℕ, _+_, _*_, _%_, _^_, _≤_, _<_}
-use native.Mathlib.Nat.{lt-of-lt-of-le, div-one, mod-eq-of-lt}
+use Prim.Native.Nat.{ℕ, _+_, _^_, _≤_, _<_}
 use native.Mathlib.Omega.{arith}
 use lib.ListN.{length}
 use lib.Dec.{ltb, eqb}
-use lib.Pow.{pow-mono}
 use borrow.Author.Tests.{ltb-false, eqb-false}
 use Rattle.definitions.specs.Reply.{Reply, answer, if_then_else_}
 use Rattle.definitions.specs.DataType.{Kind, integer, floating, whole, undecoded}
 use Rattle.definitions.specs.Channel.{Channel, Value, decoded, isNumber, isInteger, isFloating, noValue, spanIn, valueBy}
-use Rattle.words.proofs.Numbers.{Bytes}
-use Rattle.words.proofs.Spans.{span-below}
 use Rattle.words.proofs.Bits.{field-below}
-use Rattle.definitions.specs.Bytes.{Order, numberOf, span, bits, bytesFor, fieldAt}
+use Rattle.definitions.specs.Bytes.{numberOf, span, bytesFor, fieldAt}
 use Rattle.decoder.specs.Form.{orderMeant, numberKind, formKind}
 use Rattle.decoder.specs.Found.{valueAt, Readable, Sound, Valued, Fitting}
 use Rattle.decoder.specs.declared.form.Number.{Number}
@@ -25,6 +21,20 @@ use Rattle.decoder.specs.declared.form.Form.{Form}
 use Rattle.decoder.specs.declared.form.Form.the-variants.{Number as numbered}
 use Rattle.decoder.proofs.Forms.{is-number}
 use Rattle.decoder.proofs.Tests.{float-width}
+
+-- the tests on a slice of l bytes, and v where they are passed
+abbrev pub tested : Kind → ℕ → ℕ → ℕ → Channel → Value → Reply Value
+tested k at n l c v =
+    if isNumber k && eqb (c .bitCount) 0 then noValue
+    else if isNumber k && ltb 7 (c .bitOffset) then noValue
+    else if isInteger k && ltb 64 (c .bitCount) then noValue
+    else if ltb l (at + n) then noValue
+    else if isFloating k && not (eqb (c .bitCount) 32 || eqb (c .bitCount) 64) then noValue
+    else answer v
+
+pub value-tested : (k : Kind) (at n : ℕ) (s : List ℕ) (c : Channel) → valueBy k at n s c ≡ tested k at n (length s) c (decoded (c .dataType) s at n c)
+unfolding valueBy
+value-tested k at n s c = refl
 
 -- each test in turn refuses
 module _ (k : Kind) (at n : ℕ) (s : List ℕ) (c : Channel) where
@@ -145,24 +155,7 @@ fitting number order s at n c h e = record {
 pub same-number : {number m : Number} {count x : ℕ} → number ≡ m → Fitting number count x → Fitting m count x
 same-number {count = count} {x = x} e h = subst (λ (k : Number). Fitting k count x) e h
 
--- what the cast of a field wants
-pub small : (count x : ℕ) → x < 2 ^ count → count ≤ 32 → x < 2 ^ 32
-small count x h l = lt-of-lt-of-le h (pow-mono l)
-
 pub narrow : {number : Number} {count x : ℕ} → Fitting number count x → number ≡ Float → (count ≡ 64 → ⊥) → x < 2 ^ 32
 narrow {number} {count} {x} h e other =
     let w : count ≡ 32 = h .width (ap (λ (m : Number). isFloating (numberKind m)) e) other in
     subst (λ (k : ℕ). x < 2 ^ k) w (h .below)
-
--- a field of whole bytes is their number
-aligned : (o : Order) (s : List ℕ) (at n : ℕ) → Bytes s → at + n ≤ length s → numberOf o (span s at n) ≡ fieldAt o s at 0 (8 * n)
-aligned o s at n b h =
-    let e : bytesFor 0 (8 * n) ≡ n = omega arith in
-    let l : numberOf o (span s at n) < 2 ^ (8 * n) = span-below o s at n b h in
-    sym (ap (λ (m : ℕ). bits (numberOf o (span s at m)) 0 (8 * n)) e ∙ ap (λ (x : ℕ). x % 2 ^ (8 * n)) (div-one (numberOf o (span s at n))) ∙ mod-eq-of-lt l)
-
-pub loaded : (o : Order) (s : List ℕ) (at n : ℕ) {offset count r : ℕ} → Bytes s → Readable s at offset count → offset ≡ 0 → count ≡ 8 * n
-    → r ≡ numberOf o (span s at n) → r ≡ fieldAt o s at offset count
-loaded o s at n b h eo ec er =
-    let l : at + n ≤ length s = omega (arith, h .inside) in
-    er ∙ aligned o s at n b l ∙ sym (ap₂ (λ (x y : ℕ). fieldAt o s at x y) eo ec)

@@ -3,8 +3,9 @@ pub mod Back
 pub mod Tests
 pub mod Forms
 pub mod Fields
-pub mod SmallSigned
+pub mod ExactIntegers
 pub mod Values
+pub mod Nearby
 pub mod Doubles
 pub mod Invalidation
 pub mod Types

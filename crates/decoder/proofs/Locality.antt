@@ -1,7 +1,7 @@
 -- A fixed field's value is determined by its own bits: a number's, and its double, by the bits from the bit offset on, any
 -- other's by its bytes.
 use mathlib.Core.Path.{_≡_, refl, sym, ap, ap₂, _∙_}
-use mathlib.Core.Bool.{Bool, true, false, not, _&&_, _||_, true≢false}
+use mathlib.Core.Bool.{Bool, true, false, _&&_, true≢false}
 use mathlib.Core.List.{List}
 use Prim.Native.Nat.{ℕ, _+_, _≤_, _<_}
 use native.Mathlib.Omega.{arith}
@@ -9,15 +9,16 @@ use lib.ListN.{length, getD}
 use lib.Seq.{ext-getD}
 use lib.Dec.{ltb, eqb}
 use borrow.Author.Tests.{ltb-false}
-use Rattle.definitions.specs.Reply.{answer, if_then_else_}
+use Rattle.definitions.specs.Reply.{if_then_else_}
 use Rattle.definitions.specs.Bytes.{Order, little, span, bytesFor}
 use Rattle.definitions.specs.Unicode.{stopped}
 use Rattle.definitions.specs.DataType.{DataType, unsignedInteger, signedInteger, float, complex, string, byteArray, mimeSample, mimeStream, canOpenDate, canOpenTime, unknown, Kind, integer, floating, whole, undecoded, kindOf}
-use Rattle.definitions.specs.Channel.{Channel, Value, unsigned, signed, text, variableLength, bitSpan, spanIn, doubleValue, floatBits, numberIn, decoded, isInteger, isFloating, isNumber, noValue, valueBy, valueOf, doubleIn, recordDouble}
+use Rattle.definitions.specs.Channel.{Channel, Value, unsigned, signed, text, variableLength, bitSpan, spanIn, doubleValue, floatBits, numberIn, decoded, isInteger, isNumber, noValue, valueBy, valueOf, doubleIn, recordDouble}
 use Rattle.definitions.specs.Bytes.{twosComplement}
 use Rattle.words.proofs.Numbers.{Bytes}
 use Rattle.words.proofs.Locality as words
 use Rattle.words.proofs.Spans.{length-span, getD-span}
+use Rattle.decoder.proofs.Fields.{tested, value-tested}
 use Rattle.decoder.proofs.Types.{number-types}
 use Rattle.decoder.proofs.Doubles.{double-fixed}
 
@@ -53,15 +54,7 @@ number-span undecoded payload n c h = absurd (true≢false (sym h))
 module _ (k : Kind) (at n : ℕ) (c : Channel) where
   -- a value by the length of the slice and what its bytes stand for
   by-parts : (s t : List ℕ) → length s ≡ length t → decoded (c .dataType) s at n c ≡ decoded (c .dataType) t at n c → valueBy k at n s c ≡ valueBy k at n t c
-  unfolding valueBy
-  by-parts s t el ev =
-      ap₂
-      (λ (l : ℕ) (v : Value). if isNumber k && eqb (c .bitCount) 0 then noValue
-      else if isNumber k && ltb 7 (c .bitOffset) then noValue
-      else if isInteger k && ltb 64 (c .bitCount) then noValue
-      else if ltb l (at + n) then noValue
-      else if isFloating k && not (eqb (c .bitCount) 32 || eqb (c .bitCount) 64) then noValue
-      else answer v) el ev
+  by-parts s t el ev = value-tested k at n s c ∙ ap₂ (λ (l : ℕ) (v : Value). tested k at n l c v) el ev ∙ sym (value-tested k at n t c)
 
   -- a field that ends outside has none
   outside : (s : List ℕ) → ltb (length s) (at + n) ≡ true → valueBy k at n s c ≡ noValue

@@ -57,6 +57,22 @@ abbrev pub formKind : Form → Kind
 formKind (Number number b) = numberKind number
 formKind (Other content) = contentKind content
 
+-- a description with nothing said of validity
+abbrev pub placed : DataType → ℕ → ℕ → ℕ → ℕ → ℕ → Channel
+placed type channelType bitOffset byteOffset bitCount dataLink = record {
+  dataType = type;
+  channelType = channelType;
+  bitOffset = bitOffset;
+  byteOffset = byteOffset;
+  bitCount = bitCount;
+  flags = 0;
+  invalidationBit = 0;
+  dataLink = dataLink;
+}
+
+abbrev pub numbered : numbers.Number → Bool → Form
+numbered = Number
+
 -- what the field x of a number stands for, and as a double
 abbrev pub numberValue : numbers.Number → ℕ → ℕ → Value
 numberValue (Integer false) count x = unsigned x

@@ -7,7 +7,7 @@ use lib.ListN.{length}
 use Rattle.definitions.specs.Reply.{Reply, answer}
 use Rattle.definitions.specs.Bytes.{bytesFor}
 use Rattle.definitions.specs.DataType.{Kind}
-use Rattle.definitions.specs.Channel.{Channel, Value, decoded, isNumber, isFloating, spanIn, valueBy, doubleIn}
+use Rattle.definitions.specs.Channel.{Channel, variableLength, Value, decoded, isNumber, isFloating, spanIn, valueBy, doubleIn}
 use Rattle.refusals.specs.Meaning.{refused}
 use Rattle.refusals.specs.declared.Refusal.{Refusal}
 use Rattle.refusals.specs.declared.Refusal.the-variants.{NoValue}
@@ -29,6 +29,14 @@ pub record Readable (s : List ℕ) (at offset count : ℕ) : Type 0 where
   pub some : 1 ≤ count
   pub few : count ≤ 64
   pub inside : at + bytesFor offset count ≤ length s
+
+-- a fixed number's field lies in the eight bytes from its first one on
+pub record Near (length idSize : ℕ) (c : Channel) : Type 0 where
+  pub fixed : variableLength c ≡ false
+  pub word : idSize + c .byteOffset + 8 ≤ length
+  pub offset : c .bitOffset < 8
+  pub some : 1 ≤ c .bitCount
+  pub few : c .bitOffset + c .bitCount ≤ 64
 
 -- n bytes at `at` are the channel's field, of kind k
 pub record Sound (k : Kind) (s : List ℕ) (at n : ℕ) (c : Channel) : Type 0 where

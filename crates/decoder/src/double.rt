@@ -4,18 +4,23 @@ ghost use Rattle.definitions.specs.DataType.{integer, floating};
 ghost use Rattle.definitions.specs.Channel.{recordDouble};
 ghost use Rattle.blocks.specs.Meaning.{typeMeant};
 ghost use Rattle.decoder.specs.Meaning.{channelMeant};
-ghost use Rattle.decoder.specs.Form.{formOf};
-ghost use Rattle.decoder.specs.Found.{doubleAt};
+ghost use lib.ListN.{length};
+ghost use Rattle.decoder.specs.Form.{formOf, numberDouble, placed};
+ghost use Rattle.decoder.specs.Found.{Near, Fitting, doubleAt};
 use crate::channel::Channel;
 use crate::field::FieldFound;
 use crate::field::find_field;
+use crate::field::is_no_float_width;
 use crate::form::Form;
 use crate::form::Number;
 use crate::form::form_of;
 use crate::integer::double_of_integer;
-use crate::load::load_float;
-use crate::load::load_integer;
+use crate::near::is_near;
 use crate::number::float_bits;
+use crate::number::number_at;
+use blocks::DataType;
+use words::near_be;
+use words::near_le;
 
 // What stands for no value
 const NAN: u64 = 0x7ff8_0000_0000_0000;
@@ -38,7 +43,7 @@ fn integer_double(
         return NAN;
     };
     let bit_offset = channel.bit_offset as u32;
-    let x = load_integer(record, at, big_endian, bit_offset, channel.bit_count);
+    let x = number_at(record, at, big_endian, bit_offset, channel.bit_count);
     double_of_integer(signed, channel.bit_count, x)
 }
 
@@ -54,11 +59,12 @@ fn float_double(record: &[u8], record_id_size: usize, big_endian: bool, channel:
         return NAN;
     };
     let bit_offset = channel.bit_offset as u32;
-    let x = load_float(record, at, big_endian, bit_offset, channel.bit_count);
+    let x = number_at(record, at, big_endian, bit_offset, channel.bit_count);
     float_bits(channel.bit_count, x)
 }
 
-pub fn decode_f64_from_record(record: &[u8], record_id_size: usize, channel: Channel) -> u64
+// The double of any field
+fn any_double(record: &[u8], record_id_size: usize, channel: Channel) -> u64
     ensures { λ r. ⌜ r ≡ recordDouble (now («record» .entry)) «record_id_size» (channelMeant channel) ⌝ }
 {
     if channel.is_variable_length() {
@@ -75,4 +81,82 @@ pub fn decode_f64_from_record(record: &[u8], record_id_size: usize, channel: Cha
         }
         Number::Float => float_double(record, record_id_size, big_endian, channel),
     }
+}
+
+// It takes numbers and not the channel: that would have to lie in memory for it, and every near field would wait for that.
+fn far_double(
+    record: &[u8],
+    record_id_size: usize,
+    data_type: DataType,
+    channel_type: u8,
+    bit_offset: u8,
+    byte_offset: u32,
+    bit_count: u32,
+    data: u64,
+) -> u64
+    ensures { λ r. ⌜ r ≡ recordDouble (now («record» .entry)) «record_id_size» (placed (typeMeant «data_type») «channel_type» «bit_offset» «byte_offset» «bit_count» «data») ⌝ }
+{
+    let channel = Channel {
+        data_type,
+        channel_type,
+        bit_offset,
+        byte_offset,
+        bit_count,
+        flags: 0,
+        pos_invalidation_bit: 0,
+        data,
+    };
+    any_double(record, record_id_size, channel)
+}
+
+fn number_double(number: Number, bit_count: u32, x: u64) -> u64
+    requires { ⌜ Fitting number «bit_count» x ⌝ }
+    ensures { λ r. ⌜ r ≡ numberDouble number «bit_count» x ⌝ }
+{
+    match number {
+        Number::Integer { signed } => double_of_integer(signed, bit_count, x),
+        Number::Float => float_bits(bit_count, x),
+    }
+}
+
+// The double of a field that is near, where it is a number's
+fn near_double(record: &[u8], record_id_size: usize, channel: Channel) -> u64
+    requires { ⌜ Near (length (now «record»)) «record_id_size» (channelMeant channel) ⌝ }
+    ensures { λ r. ⌜ r ≡ recordDouble (now («record» .entry)) «record_id_size» (channelMeant channel) ⌝ }
+{
+    let data_type = channel.data_type;
+    let form = form_of(data_type);
+    let Form::Number(number, big_endian) = form else {
+        return NAN;
+    };
+    if is_no_float_width(form, channel.bit_count) {
+        return NAN;
+    }
+    let at = record_id_size + channel.byte_offset as usize;
+    let bit_offset = channel.bit_offset as u32;
+    let x = if big_endian {
+        near_be(record, at, bit_offset, channel.bit_count)
+    } else {
+        near_le(record, at, bit_offset, channel.bit_count)
+    };
+    number_double(number, channel.bit_count, x)
+}
+
+pub fn decode_f64_from_record(record: &[u8], record_id_size: usize, channel: Channel) -> u64
+    ensures { λ r. ⌜ r ≡ recordDouble (now («record» .entry)) «record_id_size» (channelMeant channel) ⌝ }
+{
+    if is_near(record.len(), record_id_size, channel) {
+        return near_double(record, record_id_size, channel);
+    }
+    let data_type = channel.data_type;
+    far_double(
+        record,
+        record_id_size,
+        data_type,
+        channel.channel_type,
+        channel.bit_offset,
+        channel.byte_offset,
+        channel.bit_count,
+        channel.data,
+    )
 }

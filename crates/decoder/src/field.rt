@@ -70,7 +70,7 @@ fn is_float_width(bit_count: u32) -> bool
     bit_count == 64
 }
 
-fn is_no_float_width(form: Form, bit_count: u32) -> bool
+pub(crate) fn is_no_float_width(form: Form, bit_count: u32) -> bool
     ensures { λ r. ⌜ r ≡ isFloating (formKind form) && not (eqb «bit_count» 32 || eqb «bit_count» 64) ⌝ }
 {
     let Form::Number(number, _) = form else {

@@ -1,7 +1,8 @@
 // The doubles of integers.
 ghost use mathlib.Core.Path.{_≡_};
 ghost use mathlib.Core.Bool.{true, false};
-ghost use lib.IntN.{pos};
+ghost use lib.Dec.{T};
+ghost use lib.Ieee.{binary64, inFloat};
 ghost use Rattle.definitions.specs.Ieee754.{doubleOf};
 ghost use Rattle.decoder.specs.Form.{numberDouble};
 ghost use Rattle.decoder.specs.Found.{Fitting};
@@ -10,14 +11,9 @@ use doubles::double_of;
 use doubles::double_of_signed;
 use words::signed_of;
 
-// Every 32-bit integer is a double, so the machine's own cast loses nothing.
-fn small_double(n: u32) -> u64
-    ensures { λ r. ⌜ r ≡ doubleOf (pos n) ⌝ }
-{
-    f64::to_bits(n as f64)
-}
-
-fn small_signed_double(n: i32) -> u64
+// A double holds every whole number up to 2^53, so the machine's own cast loses nothing.
+fn exact_double(n: i64) -> u64
+    requires { ⌜ T (inFloat binary64 n) ⌝ }
     ensures { λ r. ⌜ r ≡ doubleOf n ⌝ }
 {
     f64::to_bits(n as f64)
@@ -27,8 +23,8 @@ fn unsigned_double(bit_count: u32, x: u64) -> u64
     requires { ⌜ Fitting (Number.Integer false) «bit_count» x ⌝ }
     ensures { λ r. ⌜ r ≡ numberDouble (Number.Integer false) «bit_count» x ⌝ }
 {
-    if bit_count <= 32 {
-        return small_double(x as u32);
+    if bit_count <= 53 {
+        return exact_double(x as i64);
     }
     double_of(x)
 }
@@ -38,8 +34,8 @@ fn signed_double(bit_count: u32, x: u64) -> u64
     ensures { λ r. ⌜ r ≡ numberDouble (Number.Integer true) «bit_count» x ⌝ }
 {
     let n = signed_of(x, bit_count);
-    if bit_count <= 32 {
-        return small_signed_double(n as i32);
+    if bit_count <= 53 {
+        return exact_double(n);
     }
     double_of_signed(n)
 }

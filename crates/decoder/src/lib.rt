@@ -6,7 +6,7 @@ mod double;
 mod field;
 mod form;
 mod integer;
-mod load;
+mod near;
 mod number;
 mod span;
 mod validity;

@@ -41,8 +41,8 @@ pub fn near_be(s: &[u8], at: usize, offset: u32, count: u32) -> u64
     requires { ⌜ (offset < 8) × (1 ≤ count) × (bytesFor offset count ≤ 8) × (at + 8 ≤ length (now s)) ⌝ }
     ensures { λ r. ⌜ r ≡ fieldAt big (now (s .entry)) at offset count ⌝ }
 {
-    let n = (offset + count + 7) / 8;
-    cut(read_u64_be(s, at), 64 - n * 8 + offset, count)
+    let after = (64 - offset - count) / 8 * 8;
+    cut(read_u64_be(s, at), after + offset, count)
 }
 
 // A field in nine bytes, the first the lowest

@@ -1,27 +1,18 @@
--- The field that was found gives the value, and a refusal is handed on.
+-- What is said of validity does not matter to the value.
 use borrow.Author.Needs.{needs}
-use Rattle.decoder.proofs.Values.{looked-for, sound-at, handed-on, valued}
+use mathlib.Core.Path.{sym, _∙_}
+use Rattle.decoder.proofs.Nearby.{value-placed}
 use Rattle.decoder.proofs.decode.decode_channel_value.Statement.{statement}
 use Rattle.decoder.proofs.decode.decode_channel_value.Tie as tie
 
-returns : tie.Need-returns
-returns c =
-    let found = c .before .before .before in
-    let second = found .before in
-    let first = second .before .before in
-    handed-on (found .find-field .ensures) (c .before .enum-told .given .1) (c .refusal .ensures)
-    (looked-for _ _ _ (first .before .before .form-of .ensures) (first .before .is-variable-length .ensures) (first .unless .ensures) (second .unless2 .ensures))
-
-value-at-requires : tie.Need-value-at-requires
-value-at-requires c κs = sound-at (c .before .before .before .find-field .ensures) (c .before .found .given .1)
+near-value-requires : tie.Need-near-value-requires
+near-value-requires c κs =
+    let f = c .before in
+    let near = f .before .before .before in
+    (near .before .is-near .ensures (near .if1 .taken), sym (f .before .before .form-of .ensures) ∙ f .form .given .1)
 
 returns-2 : tie.Need-returns-2
-returns-2 c =
-    let found = c .before .before .before .before in
-    let second = found .before in
-    let first = second .before .before in
-    valued (found .find-field .ensures) (c .before .before .found .given .1) (first .before .before .form-of .ensures) (c .value-at .ensures)
-    (looked-for _ _ _ (first .before .before .form-of .ensures) (first .before .is-variable-length .ensures) (first .unless .ensures) (second .unless2 .ensures))
+returns-2 c = c .far-value .ensures ∙ value-placed _ _ _
 
 pub decode-channel-value-spec : {M : Type 1} → statement M
 decode-channel-value-spec =
@@ -29,13 +20,9 @@ decode-channel-value-spec =
     (tie.spec
     (λ c κs. search needs)
     (λ c κs. search needs)
-    (λ c κs. search needs)
     (λ c. search needs)
-    (λ c κs. search needs)
-    (λ c κs. search needs)
+    near-value-requires
     (λ c. search needs)
     (λ c. search needs)
     (λ c κs. search needs)
-    returns
-    value-at-requires
     returns-2)

@@ -11,12 +11,12 @@ returns : tie.Need-returns
 returns c =
     let told = c .before .enum-told .given .1 in
     ap refused (c .refusal .ensures ∙ ap valueRefusal told)
-    ∙ no-valid-value _ _ _ _ (sym (c .before .before .before .decode-channel-value .ensures) ∙ ap valueReply told)
+    ∙ no-valid-value _ _ _ _ (sym (c .before .before .before .any-value .ensures) ∙ ap valueReply told)
 
 returns-2 : tie.Need-returns-2
 returns-2 c =
     let read = c .before .before in
-    valid-value _ _ _ _ (sym (read .before .before .decode-channel-value .ensures) ∙ ap valueReply (read .read .given .1)) (c .check-value-validity .ensures)
+    valid-value _ _ _ _ (sym (read .before .before .any-value .ensures) ∙ ap valueReply (read .read .given .1)) (c .check-value-validity .ensures)
 
 pub decode-channel-value-with-validity-spec : {M : Type 1} → statement M
 decode-channel-value-with-validity-spec =

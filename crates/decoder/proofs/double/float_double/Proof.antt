@@ -11,8 +11,8 @@ use Rattle.decoder.proofs.double.float_double.Tie as tie
 returns : tie.Need-returns
 returns c = double-refused (c .before .before .find-field .ensures) (c .enum-told .given .1)
 
-load-float-requires : tie.Need-load-float-requires
-load-float-requires c κs =
+number-at-requires : tie.Need-number-at-requires
+number-at-requires c κs =
     let found = c .before .before in
     readable Float _ _ _ _ (sound-at (found .before .before .find-field .ensures) (found .found .given .1))
 
@@ -20,13 +20,13 @@ float-bits-requires : tie.Need-float-bits-requires
 float-bits-requires c κs =
     let found = c .before .before .before in
     narrow
-    (fitting Float (found .before .before .before .before .before .args .big-endian) _ _ _ _ (sound-at (found .before .before .find-field .ensures) (found .found .given .1)) (c .load-float .ensures))
+    (fitting Float (found .before .before .before .before .before .args .big-endian) _ _ _ _ (sound-at (found .before .before .find-field .ensures) (found .found .given .1)) (c .number-at .ensures))
     refl
 
 returns-2 : tie.Need-returns-2
 returns-2 c =
     let found = c .before .before .before .before in
-    double-found (found .before .before .find-field .ensures) (found .found .given .1) (found .before .before .before .before .before .pre) (c .before .load-float .ensures) (c .float-bits .ensures)
+    double-found (found .before .before .find-field .ensures) (found .found .given .1) (found .before .before .before .before .before .pre) (c .before .number-at .ensures) (c .float-bits .ensures)
 
 pub float-double-spec : {M : Type 1} → statement M
 float-double-spec =
@@ -38,6 +38,6 @@ float-double-spec =
     (λ c. search needs)
     returns
     (λ c. search needs)
-    load-float-requires
+    number-at-requires
     float-bits-requires
     returns-2)
