@@ -5,8 +5,8 @@ pub mod Forms
 pub mod Fields
 pub mod ExactIntegers
 pub mod Values
-pub mod Nearby
 pub mod Doubles
+pub mod Nearby
 pub mod Invalidation
 pub mod Types
 pub mod Locality

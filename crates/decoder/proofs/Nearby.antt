@@ -2,23 +2,27 @@
 use mathlib.Core.Path.{_≡_, refl, sym, ap, _∙_}
 use mathlib.Core.Bool.{Bool, true, false, not, _&&_, _||_}
 use mathlib.Core.List.{List}
-use Prim.Native.Nat.{ℕ, _+_, _-_, _≤_, _<_}
+use Prim.Native.Nat.{ℕ, _+_, _-_, _^_, _≤_, _<_}
 use native.Mathlib.Omega.{arith}
 use lib.ListN.{length}
 use lib.Dec.{ltb, leb, eqb}
 use borrow.Author.Tests.{leb-true, leb-false, le-leb, lt-leb, le-ltb, ne-eqb}
 use Rattle.definitions.specs.Reply.{Reply, if_then_else_}
+use Rattle.definitions.specs.Bytes.{span, bytesFor, numberOf, fieldAt}
 use Rattle.definitions.specs.Ieee754.{nanPattern}
 use Rattle.definitions.specs.DataType.{DataType, unsignedInteger, signedInteger, float, complex, string, byteArray, mimeSample, mimeStream, canOpenDate, canOpenTime, unknown, Kind, integer, floating, whole, undecoded, kindOf}
-use Rattle.definitions.specs.Channel.{Channel, Value, variableLength, startOf, bitSpan, spanIn, spanOf, decoded, isNumber, isInteger, isFloating, noValue, valueBy, valueOf, doubleIn, recordDouble}
-use Rattle.decoder.specs.Form.{formOf, placed, numberKind}
-use Rattle.decoder.specs.Found.{Near, Found, valueAt}
+use Rattle.definitions.specs.Channel.{Channel, Value, variableLength, startOf, bitSpan, spanIn, spanOf, floatBits, decoded, isNumber, isInteger, isFloating, noValue, valueBy, valueOf, doubleIn, recordDouble}
+use Rattle.decoder.specs.Form.{orderMeant, formOf, placed, numberKind, numberDouble}
+use Rattle.decoder.specs.Found.{Near, Found, Fitting, valueAt}
 use Rattle.decoder.specs.declared.form.Number as numbers
+use Rattle.decoder.specs.declared.form.Number.the-variants.{Integer, Float}
 use Rattle.decoder.specs.declared.form.Form.the-variants.{Number}
 use Rattle.decoder.specs.declared.field.FieldFound.the-variants.{Field}
 use Rattle.decoder.proofs.Forms.{number-kinds, number-span}
-use Rattle.decoder.proofs.Fields.{tested, value-tested, found, no-float-width}
-use Rattle.decoder.proofs.Values.{looked-for}
+use Rattle.decoder.proofs.Fields.{tested, value-tested, found, fitting, no-float-width}
+use Rattle.decoder.proofs.Values.{looked-for, sound-at}
+use Rattle.decoder.proofs.Doubles.{double-found, double-fixed}
+use Rattle.words.proofs.Bits.{field-below}
 
 -- ---- the test
 
@@ -94,6 +98,36 @@ module _ (s : List ℕ) (idSize : ℕ) (c : Channel) (near : Near (length s) idS
       near-refused f =
           sym by-form ∙ ap (λ (n : ℕ). valueBy (numberKind number) at n s c) (sym (number-span number false (length s) c))
           ∙ no-float-width (numberKind number) at (bitSpan c) s c some low few inside f
+
+-- ---- its double
+
+module _ (s : List ℕ) (idSize : ℕ) (c : Channel) (near : Near (length s) idSize c) where
+  abbrev field : Bool → ℕ
+  field big = fieldAt (orderMeant big) s (idSize + c .byteOffset) (c .bitOffset) (c .bitCount)
+
+  pub field-small : (big : Bool) {x : ℕ} → x ≡ field big → x < 2 ^ (c .bitCount)
+  field-small big e = rw e (field-below (numberOf (orderMeant big) (span s (idSize + c .byteOffset) (bytesFor (c .bitOffset) (c .bitCount)))) (c .bitOffset) (c .bitCount))
+
+  pub integer-fitting : (signed big : Bool) {x : ℕ} → formOf (c .dataType) ≡ Number (Integer signed) big → x ≡ field big → Fitting (Integer signed) (c .bitCount) x
+  integer-fitting signed big e ex = fitting (Integer signed) big s (idSize + c .byteOffset) (bitSpan c) c (sound-at (near-found s idSize c near (Integer signed) big e refl) refl) ex
+
+  number-double : (number : numbers.Number) (big : Bool) {x r : ℕ} → formOf (c .dataType) ≡ Number number big
+      → isFloating (numberKind number) && not (eqb (c .bitCount) 32 || eqb (c .bitCount) 64) ≡ false
+      → x ≡ field big → r ≡ numberDouble number (c .bitCount) x → r ≡ recordDouble s idSize c
+  number-double number big e w ex er =
+      double-found (near-found s idSize c near number big e w) refl e ex er ∙ double-fixed s idSize c (near .fixed)
+
+  pub integer-double : (signed big : Bool) {x r : ℕ} → formOf (c .dataType) ≡ Number (Integer signed) big → x ≡ field big
+      → r ≡ numberDouble (Integer signed) (c .bitCount) x → r ≡ recordDouble s idSize c
+  integer-double signed big e ex er = number-double (Integer signed) big e refl ex er
+
+  pub float-double : (big : Bool) {x r : ℕ} → formOf (c .dataType) ≡ Number Float big → x ≡ field big
+      → r ≡ (if not (eqb (c .bitCount) 32 || eqb (c .bitCount) 64) then nanPattern else floatBits (c .bitCount) x) → r ≡ recordDouble s idSize c
+  float-double big {x} {r} e ex er = go (not (eqb (c .bitCount) 32 || eqb (c .bitCount) 64)) refl er
+    where
+      go : (t : Bool) → not (eqb (c .bitCount) 32 || eqb (c .bitCount) 64) ≡ t → r ≡ (if t then nanPattern else floatBits (c .bitCount) x) → r ≡ recordDouble s idSize c
+      go true w eq = eq ∙ sym (ap doubleIn (near-refused s idSize c near Float big e w)) ∙ double-fixed s idSize c (near .fixed)
+      go false w eq = number-double Float big e w ex eq
 
 -- ---- elsewhere: what is said of validity does not matter
 

@@ -1,24 +1,31 @@
 // A channel's value in a record as the pattern of a double, with no value made on the way.
 ghost use mathlib.Core.Path.{_≡_};
+ghost use mathlib.Core.Bool.{not, _||_};
+ghost use Prim.Native.Nat.{_^_, _<_};
+ghost use lib.Dec.{eqb};
+ghost use Rattle.definitions.specs.Reply.{if_then_else_};
+ghost use Rattle.definitions.specs.Ieee754.{nanPattern};
 ghost use Rattle.definitions.specs.DataType.{integer, floating};
-ghost use Rattle.definitions.specs.Channel.{recordDouble};
+ghost use Rattle.definitions.specs.Channel.{floatBits, recordDouble};
 ghost use Rattle.blocks.specs.Meaning.{typeMeant};
 ghost use Rattle.decoder.specs.Meaning.{channelMeant};
 ghost use lib.ListN.{length};
-ghost use Rattle.decoder.specs.Form.{formOf, numberDouble, placed};
-ghost use Rattle.decoder.specs.Found.{Near, Fitting, doubleAt};
+ghost use Rattle.decoder.specs.Form.{formOf, placed};
+ghost use Rattle.decoder.specs.Found.{Near, doubleAt};
 use crate::channel::Channel;
 use crate::field::FieldFound;
 use crate::field::find_field;
-use crate::field::is_no_float_width;
 use crate::form::Form;
 use crate::form::Number;
 use crate::form::form_of;
 use crate::integer::double_of_integer;
+use crate::integer::signed_double;
+use crate::integer::unsigned_double;
 use crate::near::is_near;
 use crate::number::float_bits;
 use crate::number::number_at;
 use blocks::DataType;
+use doubles::widen;
 use words::near_be;
 use words::near_le;
 
@@ -109,14 +116,18 @@ fn far_double(
     any_double(record, record_id_size, channel)
 }
 
-fn number_double(number: Number, bit_count: u32, x: u64) -> u64
-    requires { ⌜ Fitting number «bit_count» x ⌝ }
-    ensures { λ r. ⌜ r ≡ numberDouble number «bit_count» x ⌝ }
+// A float of another width has no value.
+fn near_float(bit_count: u32, x: u64) -> u64
+    requires { ⌜ x < 2 ^ «bit_count» ⌝ }
+    ensures { λ r. ⌜ r ≡ (if not (eqb «bit_count» 32 || eqb «bit_count» 64) then nanPattern else floatBits «bit_count» x) ⌝ }
 {
-    match number {
-        Number::Integer { signed } => double_of_integer(signed, bit_count, x),
-        Number::Float => float_bits(bit_count, x),
+    if bit_count == 64 {
+        return x;
     }
+    if bit_count == 32 {
+        return widen(x as u32);
+    }
+    NAN
 }
 
 // The double of a field that is near, where it is a number's
@@ -124,22 +135,19 @@ fn near_double(record: &[u8], record_id_size: usize, channel: Channel) -> u64
     requires { ⌜ Near (length (now «record»)) «record_id_size» (channelMeant channel) ⌝ }
     ensures { λ r. ⌜ r ≡ recordDouble (now («record» .entry)) «record_id_size» (channelMeant channel) ⌝ }
 {
-    let data_type = channel.data_type;
-    let form = form_of(data_type);
-    let Form::Number(number, big_endian) = form else {
-        return NAN;
-    };
-    if is_no_float_width(form, channel.bit_count) {
-        return NAN;
-    }
     let at = record_id_size + channel.byte_offset as usize;
-    let bit_offset = channel.bit_offset as u32;
-    let x = if big_endian {
-        near_be(record, at, bit_offset, channel.bit_count)
-    } else {
-        near_le(record, at, bit_offset, channel.bit_count)
-    };
-    number_double(number, channel.bit_count, x)
+    let offset = channel.bit_offset as u32;
+    let count = channel.bit_count;
+    let data_type = channel.data_type;
+    match data_type {
+        DataType::UnsignedIntegerLE => unsigned_double(count, near_le(record, at, offset, count)),
+        DataType::UnsignedIntegerBE => unsigned_double(count, near_be(record, at, offset, count)),
+        DataType::SignedIntegerLE => signed_double(count, near_le(record, at, offset, count)),
+        DataType::SignedIntegerBE => signed_double(count, near_be(record, at, offset, count)),
+        DataType::FloatLE => near_float(count, near_le(record, at, offset, count)),
+        DataType::FloatBE => near_float(count, near_be(record, at, offset, count)),
+        _ => NAN,
+    }
 }
 
 pub fn decode_f64_from_record(record: &[u8], record_id_size: usize, channel: Channel) -> u64

@@ -19,7 +19,7 @@ fn exact_double(n: i64) -> u64
     f64::to_bits(n as f64)
 }
 
-fn unsigned_double(bit_count: u32, x: u64) -> u64
+pub(crate) fn unsigned_double(bit_count: u32, x: u64) -> u64
     requires { ⌜ Fitting (Number.Integer false) «bit_count» x ⌝ }
     ensures { λ r. ⌜ r ≡ numberDouble (Number.Integer false) «bit_count» x ⌝ }
 {
@@ -29,7 +29,7 @@ fn unsigned_double(bit_count: u32, x: u64) -> u64
     double_of(x)
 }
 
-fn signed_double(bit_count: u32, x: u64) -> u64
+pub(crate) fn signed_double(bit_count: u32, x: u64) -> u64
     requires { ⌜ Fitting (Number.Integer true) «bit_count» x ⌝ }
     ensures { λ r. ⌜ r ≡ numberDouble (Number.Integer true) «bit_count» x ⌝ }
 {
