@@ -6,7 +6,7 @@ use Prim.Native.Nat.{ℕ, _+_, _-_, _^_, _≤_, _<_}
 use native.Mathlib.Omega.{arith}
 use lib.ListN.{length}
 use lib.Dec.{ltb, leb, eqb}
-use borrow.Author.Tests.{leb-true, leb-false, le-leb, lt-leb, le-ltb, ne-eqb}
+use borrow.Author.Tests.{leb-true, leb-false, le-leb, lt-leb, le-ltb, lt-ltb, eq-eqb, ne-eqb}
 use Rattle.definitions.specs.Reply.{Reply, if_then_else_}
 use Rattle.definitions.specs.Bytes.{span, bytesFor, numberOf, fieldAt}
 use Rattle.definitions.specs.Ieee754.{nanPattern}
@@ -16,12 +16,13 @@ use Rattle.decoder.specs.Form.{orderMeant, formOf, placed, numberKind, n
 use Rattle.decoder.specs.Found.{Near, Found, Fitting, valueAt}
 use Rattle.decoder.specs.declared.form.Number as numbers
 use Rattle.decoder.specs.declared.form.Number.the-variants.{Integer, Float}
-use Rattle.decoder.specs.declared.form.Form.the-variants.{Number}
+use Rattle.decoder.specs.declared.form.Form.{Form}
+use Rattle.decoder.specs.declared.form.Form.the-variants.{Number, Other}
 use Rattle.decoder.specs.declared.field.FieldFound.the-variants.{Field}
-use Rattle.decoder.proofs.Forms.{number-kinds, number-span}
-use Rattle.decoder.proofs.Fields.{tested, value-tested, found, fitting, no-float-width}
+use Rattle.decoder.proofs.Forms.{number-kinds, number-span, is-number}
+use Rattle.decoder.proofs.Fields.{tested, value-tested, no-bits, past-a-byte, no-float-width, found, fitting}
 use Rattle.decoder.proofs.Values.{looked-for, sound-at}
-use Rattle.decoder.proofs.Doubles.{double-found, double-fixed}
+use Rattle.decoder.proofs.Doubles.{double-found, double-fixed, double-other, double-number}
 use Rattle.words.proofs.Bits.{field-below}
 
 -- ---- the test
@@ -42,17 +43,17 @@ module _ (length skipped offset : ℕ) where
   word-by h = word-test (leb (offset + 8) (length - skipped)) refl h
 
 -- a channel of another type than 1 has no payload
-fixed : (c : Channel) → (c .channelType ≡ 1 → ⊥) → variableLength c ≡ false
-fixed c h = rw (ne-eqb _ _ h)
+pub no-payload : (c : Channel) → (c .channelType ≡ 1 → ⊥) → variableLength c ≡ false
+no-payload c h = rw (ne-eqb _ _ h)
 
-pub near-by : (length skipped : ℕ) (c : Channel) → (c .channelType ≡ 1 → ⊥) → leb (skipped + c .byteOffset + 8) length ≡ true → c .bitOffset ≤ 7
-    → (c .bitCount ≡ 0 → ⊥) → leb (c .bitOffset + c .bitCount) 64 ≡ true → Near length skipped c
-near-by length skipped c t w o z f = record {
-  fixed = fixed c t;
+pub near-by : (length skipped : ℕ) (c : Channel) → variableLength c ≡ false → leb (skipped + c .byteOffset + 8) length ≡ true → c .bitOffset ≤ 7
+    → (c .bitCount ≡ 0 → ⊥) → c .bitOffset + c .bitCount ≤ 64 → Near length skipped c
+near-by length skipped c p w o z f = record {
+  fixed = p;
   word = leb-true _ _ w;
   offset = omega arith;
   some = above z;
-  few = leb-true _ _ f;
+  few = f;
 }
   where
     above : (c .bitCount ≡ 0 → ⊥) → 1 ≤ c .bitCount
@@ -129,44 +130,64 @@ module _ (s : List ℕ) (idSize : ℕ) (c : Channel) (near : Near (length s) idS
       go true w eq = eq ∙ sym (ap doubleIn (near-refused s idSize c near Float big e w)) ∙ double-fixed s idSize c (near .fixed)
       go false w eq = number-double Float big e w ex eq
 
--- ---- elsewhere: what is said of validity does not matter
+-- ---- elsewhere
 
--- the description without its flags
-abbrev bare : Channel → Channel
-bare c = placed (c .dataType) (c .channelType) (c .bitOffset) (c .byteOffset) (c .bitCount) (c .dataLink)
+-- the place of the field, its type, and whether there is a payload, say all of its value
+abbrev alike : Channel → ℕ → ℕ → Channel
+alike c channelType dataLink = placed (c .dataType) channelType (c .bitOffset) (c .byteOffset) (c .bitCount) dataLink
 
-decoded-placed : (type : DataType) (s : List ℕ) (at n : ℕ) (c : Channel)
-    → decoded type s at n (bare c) ≡ decoded type s at n c
+decoded-alike : (type : DataType) (s : List ℕ) (at n : ℕ) (c : Channel) (t d : ℕ) → decoded type s at n (alike c t d) ≡ decoded type s at n c
 unfolding decoded
-decoded-placed (unsignedInteger o) s at n c = refl
-decoded-placed (signedInteger o) s at n c = refl
-decoded-placed (float o) s at n c = refl
-decoded-placed (string e) s at n c = refl
-decoded-placed byteArray s at n c = refl
-decoded-placed mimeSample s at n c = refl
-decoded-placed mimeStream s at n c = refl
-decoded-placed canOpenDate s at n c = refl
-decoded-placed canOpenTime s at n c = refl
-decoded-placed (complex o) s at n c = refl
-decoded-placed unknown s at n c = refl
+decoded-alike (unsignedInteger o) s at n c t d = refl
+decoded-alike (signedInteger o) s at n c t d = refl
+decoded-alike (float o) s at n c t d = refl
+decoded-alike (string e) s at n c t d = refl
+decoded-alike byteArray s at n c t d = refl
+decoded-alike mimeSample s at n c t d = refl
+decoded-alike mimeStream s at n c t d = refl
+decoded-alike canOpenDate s at n c t d = refl
+decoded-alike canOpenTime s at n c t d = refl
+decoded-alike (complex o) s at n c t d = refl
+decoded-alike unknown s at n c t d = refl
 
-module _ (s : List ℕ) (idSize : ℕ) (c : Channel) where
-  by-placed : (k : Kind) (at n : ℕ) → valueBy k at n s (bare c) ≡ valueBy k at n s c
-  by-placed k at n =
-      value-tested k at n s (bare c) ∙ ap (tested k at n (length s) c) (decoded-placed (c .dataType) s at n c) ∙ sym (value-tested k at n s c)
+span-alike : (payload : Bool) (k : Kind) (n : ℕ) (c : Channel) (t d : ℕ) → spanIn payload k n (alike c t d) ≡ spanIn payload k n c
+span-alike payload integer n c t d = refl
+span-alike payload floating n c t d = refl
+span-alike payload whole n c t d = refl
+span-alike payload undecoded n c t d = refl
 
-  span-placed : (payload : Bool) (k : Kind) (n : ℕ) → spanIn payload k n (bare c) ≡ spanIn payload k n c
-  span-placed payload integer n = refl
-  span-placed payload floating n = refl
-  span-placed payload whole n = refl
-  span-placed payload undecoded n = refl
+module _ (s : List ℕ) (idSize : ℕ) (c : Channel) (t d : ℕ) (same : variableLength (alike c t d) ≡ variableLength c) where
+  by-alike : (k : Kind) (at n : ℕ) → valueBy k at n s (alike c t d) ≡ valueBy k at n s c
+  by-alike k at n =
+      value-tested k at n s (alike c t d) ∙ ap (tested k at n (length s) c) (decoded-alike (c .dataType) s at n c t d) ∙ sym (value-tested k at n s c)
 
-  pub value-placed : valueOf s idSize (bare c) ≡ valueOf s idSize c
+  pub value-alike : valueOf s idSize (alike c t d) ≡ valueOf s idSize c
   unfolding valueOf
-  value-placed =
-      ap (λ (n : ℕ). valueBy (kindOf (c .dataType)) (startOf idSize c) n s (bare c)) (span-placed (variableLength c) (kindOf (c .dataType)) (length s))
-      ∙ by-placed (kindOf (c .dataType)) (startOf idSize c) (spanOf s c)
+  value-alike =
+      let k : Kind = kindOf (c .dataType) in
+      ap (λ (p : Bool). valueBy k (if p then 0 else (idSize + c .byteOffset)) (spanIn p k (length s) (alike c t d)) s (alike c t d)) same
+      ∙ ap (λ (n : ℕ). valueBy k (startOf idSize c) n s (alike c t d)) (span-alike (variableLength c) k (length s) c t d)
+      ∙ by-alike k (startOf idSize c) (spanOf s c)
 
-  pub double-placed : recordDouble s idSize (bare c) ≡ recordDouble s idSize c
+  pub double-alike : recordDouble s idSize (alike c t d) ≡ recordDouble s idSize c
   unfolding recordDouble
-  double-placed = ap (λ (r : Reply Value). if variableLength c then nanPattern else doubleIn r) value-placed
+  double-alike =
+      ap (λ (p : Bool). if p then nanPattern else doubleIn (valueOf s idSize (alike c t d))) same
+      ∙ ap (λ (r : Reply Value). if variableLength c then nanPattern else doubleIn r) value-alike
+
+-- a number that no field can be has no double, and what is no number has none either
+module _ (s : List ℕ) (idSize : ℕ) (c : Channel) (fixed : variableLength c ≡ false) where
+  by-refusal : ((k : Kind) (at n : ℕ) → isNumber k ≡ true → valueBy k at n s c ≡ noValue) → nanPattern ≡ recordDouble s idSize c
+  by-refusal h = go (formOf (c .dataType)) refl
+    where
+      go : (f : Form) → formOf (c .dataType) ≡ f → nanPattern ≡ recordDouble s idSize c
+      go (Number number big) e =
+          double-number s idSize c fixed e
+          (sym (ap doubleIn (h (numberKind number) (idSize + c .byteOffset) (spanIn false (numberKind number) (length s) c) (is-number number))))
+      go (Other content) e = double-other s idSize c fixed e
+
+  pub without-bits : c .bitCount ≡ 0 → nanPattern ≡ recordDouble s idSize c
+  without-bits z = by-refusal (λ k at n e. no-bits k at n s c (rw (e, eq-eqb _ _ z)))
+
+  pub past-its-byte : 7 < c .bitOffset → (c .bitCount ≡ 0 → ⊥) → nanPattern ≡ recordDouble s idSize c
+  past-its-byte l z = by-refusal (λ k at n e. past-a-byte k at n s c (rw (e, ne-eqb _ _ z)) (rw (e, lt-ltb _ _ l)))

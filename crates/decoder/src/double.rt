@@ -21,7 +21,7 @@ use crate::form::form_of;
 use crate::integer::double_of_integer;
 use crate::integer::signed_double;
 use crate::integer::unsigned_double;
-use crate::near::is_near;
+use crate::near::has_a_word;
 use crate::number::float_bits;
 use crate::number::number_at;
 use blocks::DataType;
@@ -95,23 +95,21 @@ fn far_double(
     record: &[u8],
     record_id_size: usize,
     data_type: DataType,
-    channel_type: u8,
     bit_offset: u8,
     byte_offset: u32,
     bit_count: u32,
-    data: u64,
 ) -> u64
-    ensures { λ r. ⌜ r ≡ recordDouble (now («record» .entry)) «record_id_size» (placed (typeMeant «data_type») «channel_type» «bit_offset» «byte_offset» «bit_count» «data») ⌝ }
+    ensures { λ r. ⌜ r ≡ recordDouble (now («record» .entry)) «record_id_size» (placed (typeMeant «data_type») 0 «bit_offset» «byte_offset» «bit_count» 0) ⌝ }
 {
     let channel = Channel {
         data_type,
-        channel_type,
+        channel_type: 0,
         bit_offset,
         byte_offset,
         bit_count,
         flags: 0,
         pos_invalidation_bit: 0,
-        data,
+        data: 0,
     };
     any_double(record, record_id_size, channel)
 }
@@ -153,18 +151,37 @@ fn near_double(record: &[u8], record_id_size: usize, channel: Channel) -> u64
 pub fn decode_f64_from_record(record: &[u8], record_id_size: usize, channel: Channel) -> u64
     ensures { λ r. ⌜ r ≡ recordDouble (now («record» .entry)) «record_id_size» (channelMeant channel) ⌝ }
 {
-    if is_near(record.len(), record_id_size, channel) {
-        return near_double(record, record_id_size, channel);
+    if channel.is_variable_length() {
+        return NAN;
     }
     let data_type = channel.data_type;
-    far_double(
-        record,
-        record_id_size,
-        data_type,
-        channel.channel_type,
-        channel.bit_offset,
-        channel.byte_offset,
-        channel.bit_count,
-        channel.data,
-    )
+    let offset = channel.bit_offset;
+    let count = channel.bit_count;
+    if !has_a_word(record.len(), record_id_size, channel.byte_offset) {
+        return far_double(
+            record,
+            record_id_size,
+            data_type,
+            offset,
+            channel.byte_offset,
+            count,
+        );
+    }
+    if count == 0 {
+        return NAN;
+    }
+    if 7 < offset {
+        return NAN;
+    }
+    if 64 < offset as u64 + count as u64 {
+        return far_double(
+            record,
+            record_id_size,
+            data_type,
+            offset,
+            channel.byte_offset,
+            count,
+        );
+    }
+    near_double(record, record_id_size, channel)
 }

@@ -8,7 +8,7 @@ ghost use Rattle.decoder.specs.Found.{Near};
 use crate::channel::Channel;
 
 // By subtraction, since the sum may be past every number that fits.
-fn has_a_word(length: usize, skipped: usize, byte_offset: u32) -> bool
+pub(crate) fn has_a_word(length: usize, skipped: usize, byte_offset: u32) -> bool
     ensures { λ r. ⌜ r ≡ leb (skipped + «byte_offset» + 8) length ⌝ }
 {
     if length < skipped {

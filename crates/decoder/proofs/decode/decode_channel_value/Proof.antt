@@ -1,7 +1,7 @@
 -- What is said of validity does not matter to the value.
 use borrow.Author.Needs.{needs}
-use mathlib.Core.Path.{sym, _∙_}
-use Rattle.decoder.proofs.Nearby.{value-placed}
+use mathlib.Core.Path.{refl, sym, _∙_}
+use Rattle.decoder.proofs.Nearby.{value-alike}
 use Rattle.decoder.proofs.decode.decode_channel_value.Statement.{statement}
 use Rattle.decoder.proofs.decode.decode_channel_value.Tie as tie
 
@@ -12,7 +12,7 @@ near-value-requires c κs =
     (near .before .is-near .ensures (near .if1 .taken), sym (f .before .before .form-of .ensures) ∙ f .form .given .1)
 
 returns-2 : tie.Need-returns-2
-returns-2 c = c .far-value .ensures ∙ value-placed _ _ _
+returns-2 c = c .far-value .ensures ∙ value-alike _ _ _ _ _ refl
 
 pub decode-channel-value-spec : {M : Type 1} → statement M
 decode-channel-value-spec =

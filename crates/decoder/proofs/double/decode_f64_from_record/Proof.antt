@@ -1,17 +1,55 @@
--- What is said of validity does not matter to the double.
+-- A payload has no double, nor has a number that no field can be; else the field is near, or it is elsewhere.
 use borrow.Author.Needs.{needs}
-use mathlib.Core.Path.{_∙_}
-use Rattle.decoder.proofs.Nearby.{double-placed}
+use borrow.Author.Tests.{not-false}
+use mathlib.Core.Path.{_≡_, sym, _∙_}
+use mathlib.Core.Bool.{false}
+use Rattle.definitions.specs.Channel.{variableLength}
+use Rattle.decoder.specs.Meaning.{channelMeant}
+use Rattle.decoder.proofs.Doubles.{double-payload}
+use Rattle.decoder.proofs.Nearby.{near-by, without-bits, past-its-byte, double-alike}
 use Rattle.decoder.proofs.double.decode_f64_from_record.Statement.{statement}
 use Rattle.decoder.proofs.double.decode_f64_from_record.Tie as tie
 
-near-double-requires : tie.Need-near-double-requires
-near-double-requires c κs = c .before .is-near .ensures (c .if1 .taken)
+fixed : (c : tie.Else1) → variableLength (channelMeant (c .before .before .before .args .channel)) ≡ false
+fixed c = sym (c .before .is-variable-length .ensures) ∙ c .if1 .left
+
+returns : tie.Need-returns
+returns c = double-payload _ _ _ (sym (c .before .is-variable-length .ensures) ∙ c .if1 .taken)
 
 returns-2 : tie.Need-returns-2
-returns-2 c = c .far-double .ensures ∙ double-placed _ _ _
+returns-2 c = c .far-double .ensures ∙ double-alike _ _ _ _ _ (sym (fixed (c .before .before .before)))
+
+returns-3 : tie.Need-returns-3
+returns-3 c = without-bits _ _ _ (fixed (c .before .before .before)) (c .if3 .taken)
+
+returns-4 : tie.Need-returns-4
+returns-4 c = past-its-byte _ _ _ (fixed (c .before .before .before .before)) (c .if4 .taken) (c .before .if3 .left)
+
+returns-5 : tie.Need-returns-5
+returns-5 c = c .far-double2 .ensures ∙ double-alike _ _ _ _ _ (sym (fixed (c .before .before .before .before .before .before)))
+
+near-double-requires : tie.Need-near-double-requires
+near-double-requires c κs =
+    let four = c .before in
+    let three = four .before in
+    let two = three .before in
+    near-by _ _ _ (fixed (two .before .before)) (sym (two .before .has-a-word .ensures) ∙ not-false _ (two .if2 .left)) (four .if4 .left) (three .if3 .left) (c .if5 .left)
 
 pub decode-f64-from-record-spec : {M : Type 1} → statement M
 decode-f64-from-record-spec =
     tie.close
-    (tie.spec (λ c κs. search needs) near-double-requires (λ c. search needs) (λ c κs. search needs) returns-2)
+    (tie.spec
+    (λ c κs. search needs)
+    returns
+    (λ c κs. search needs)
+    (λ c κs. search needs)
+    returns-2
+    returns-3
+    returns-4
+    (λ c. search needs)
+    (λ c. search needs)
+    (λ c. search needs)
+    (λ c κs. search needs)
+    returns-5
+    near-double-requires
+    (λ c. search needs))
