@@ -1186,16 +1186,23 @@ static void check_many_fragments(void)
 /* ---- a file of 2^40 bytes --------------------------------------------------------------------------------------- */
 
 /* The address space is reserved and never touched, except for the last bytes, which read as zeros. */
+static uint8_t *reserve(size_t length)
+{
+    uint8_t *file = mmap(NULL, length, PROT_READ, MAP_PRIVATE | MAP_ANONYMOUS | MAP_NORESERVE, -1, 0);
+    if (file != MAP_FAILED)
+        return file;
+    puts("limits: note: 2^40 bytes of address space cannot be had here, reply 7 is not checked");
+    return NULL;
+}
+
 static void check_long_file(void)
 {
     const size_t most = (size_t)1 << 40;
-    uint8_t *file = mmap(NULL, most + 1, PROT_READ, MAP_PRIVATE | MAP_ANONYMOUS | MAP_NORESERVE, -1, 0);
+    uint8_t *file = reserve(most + 1);
     lent buffer = output(8);
     name_case("a file of 2^40 bytes and one more");
-    if (file == MAP_FAILED) {
-        puts("limits: note: 2^40 bytes of address space cannot be had here, reply 7 is not checked");
+    if (file == NULL)
         return;
-    }
     CHECK(fetched_is(mf4_read_record(file, most + 1, 8, 0, 8, buffer.bytes, 8), 7, 0) && is_untouched(buffer));
     CHECK(fetched_is(mf4_read_record(file, most + 1, 0, 0, 8, buffer.bytes, 8), 7, 0) && is_untouched(buffer));
     CHECK(fetched_is(mf4_read_record(file, SIZE_MAX, 8, 0, 8, buffer.bytes, 8), 7, 0) && is_untouched(buffer));
@@ -1223,6 +1230,23 @@ static int valid_value_refused(mf4_valid_value a, uint32_t reply, uint64_t told)
 {
     static const mf4_decoded zero = NO_VALUE;
     return a.reply == reply && a.told == told && decoded_is(a.value, zero) && a.is_valid == 0;
+}
+
+static void check_value_of_long_file(void)
+{
+    static const mf4_channel byte = { MF4_UNSIGNED_LE, 0, 0, 0, 8, 0, 0, 0 };
+    const size_t most = (size_t)1 << 40;
+    uint8_t *file = reserve(most + 1);
+    lent buffer = output(8);
+    name_case("a value in a file of 2^40 bytes and one more");
+    if (file == NULL)
+        return;
+    CHECK(valid_value_refused(mf4_record_value(file, most + 1, 8, 0, 8, 0, 8, byte, buffer.bytes, 8), 7, 0));
+    CHECK(valid_value_refused(mf4_record_value(file, SIZE_MAX, 8, 0, 8, 0, 8, byte, buffer.bytes, 8), 7, 0));
+    CHECK(valid_value_refused(mf4_record_value(file, most + 1, 8, 0, 9, 0, 8, byte, buffer.bytes, 8), 15, 0));
+    CHECK(valid_value_refused(mf4_record_value(file, most, 0, 0, 8, 0, 8, byte, buffer.bytes, 8), 11, 0));
+    CHECK(is_untouched(buffer));
+    munmap(file, most + 1);
 }
 
 /* The records of 3 bytes are 01 02 03 and 04 05 06; with 2 data bytes the last byte holds the invalidation bits. */
@@ -1303,6 +1327,7 @@ static void check_everything(void)
     check_many_lists();
     check_many_fragments();
     check_long_file();
+    check_value_of_long_file();
     check_record_value_answers();
     check_record_value_refusals();
 }

@@ -799,7 +799,11 @@ static void exercise_long_file(query asked, lent buffer)
     size_t claimed = ((size_t)1 << 40) + 1 + (size_t)choose_raw(2);
     mf4_fetched answer = mf4_read_record(asked.file.bytes, claimed, asked.start, asked.number, asked.record_size,
                                          buffer.bytes, buffer.length);
+    mf4_valid_value value = mf4_record_value(asked.file.bytes, claimed, asked.start, asked.number, asked.record_size,
+                                             asked.id_size, asked.data_bytes, asked.channel, buffer.bytes,
+                                             buffer.length);
     check_reply(READ_RECORD, answer.reply, answer.told, REPLY(7) | REPLY(15));
+    MUST(value.reply == answer.reply && value.told == answer.told);
     MUST(unchanged(buffer));
 }
 
