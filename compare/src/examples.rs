@@ -1,12 +1,17 @@
-//! Worked examples, with answers that come neither from the crate nor from the library.
+//! Answers that come neither from the crate nor from the library: those of IEEE 754, of Unicode, and worked examples.
 
 use crate::cases::Case;
 use crate::check::{due, judge, Verdict};
 
-/// The examples whose answer is another one: why.
+/// What `replay` holds the library to. The crate reads no chains, so records are not for it.
+fn lines() -> impl Iterator<Item = &'static str> {
+    let stored = include_str!("../../crates/replay/data/vectors.txt").lines();
+    stored.filter(|line| !line.is_empty() && !line.starts_with('#') && !line.starts_with("record"))
+}
+
+/// Where the answer is another one: why.
 pub fn failures() -> Vec<String> {
-    let lines = include_str!("examples.txt").lines();
-    lines.filter(|line| !line.is_empty() && !line.starts_with('#')).filter_map(failure).collect()
+    lines().filter_map(failure).collect()
 }
 
 fn failure(line: &str) -> Option<String> {

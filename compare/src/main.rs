@@ -38,6 +38,7 @@
 //! gives, places instead of copies, and the one NaN for every NaN but those of 64-bit fields.
 
 mod answers;
+mod c;
 mod cases;
 mod check;
 mod dice;

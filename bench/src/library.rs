@@ -1,0 +1,105 @@
+//! The library's side of each row: its calls through the archive.
+
+use std::hint::black_box;
+
+use crate::c;
+use crate::digest;
+use crate::pieces::{Numbers, Pieces};
+
+pub fn doubles(records: Pieces, channel: &c::Channel) -> u64 {
+    let (channel, id_size) = black_box((*channel, 0));
+    records.sum(|record| unsafe { c::mf4_decode_double(record.as_ptr(), record.len(), id_size, channel) })
+}
+
+pub fn values(records: Pieces, channel: &c::Channel) -> u64 {
+    let (channel, id_size) = black_box((*channel, 0));
+    records.sum(|record| {
+        let answer = unsafe { c::mf4_decode_value(record.as_ptr(), record.len(), id_size, channel) };
+        word_of(record, &answer.value)
+    })
+}
+
+pub fn valid_values(records: Pieces, data_bytes: u32, channel: &c::Channel) -> u64 {
+    let (channel, id_size, data_bytes) = black_box((*channel, 0, data_bytes));
+    records.sum(|record| {
+        let (start, len) = (record.as_ptr(), record.len());
+        let answer = unsafe { c::mf4_decode_valid_value(start, len, id_size, data_bytes, channel) };
+        word_of(record, &answer.value).wrapping_add(u64::from(answer.is_valid))
+    })
+}
+
+/// A refusal's kind is 0.
+fn word_of(record: &[u8], value: &c::Decoded) -> u64 {
+    match value.kind {
+        1 => value.unsigned_value,
+        2 => value.signed_value as u64,
+        3 => value.double_bits,
+        4..=7 => digest::of_bytes(&record[value.at as usize..][..value.length as usize]),
+        _ => 0,
+    }
+}
+
+pub type TextCall = unsafe extern "C" fn(*const u8, usize, *mut u8, usize) -> c::Text;
+
+/// No text takes more bytes than twice its own as UTF-8.
+#[inline(always)]
+pub fn texts(call: TextCall, texts: Pieces) -> u64 {
+    let mut out = vec![0; 2 * texts.size];
+    texts.sum(|text| {
+        let answer = unsafe { call(text.as_ptr(), text.len(), out.as_mut_ptr(), out.len()) };
+        digest::of_bytes(&out[..answer.count as usize])
+    })
+}
+
+pub fn headers_read(headers: Pieces) -> u64 {
+    headers.sum(|bytes| {
+        let answer = unsafe { c::mf4_read_header(bytes.as_ptr(), bytes.len()) };
+        let header = &answer.header;
+        digest::of_bytes(&header.id.to_le_bytes()).wrapping_add(header.block_len ^ header.links_nr)
+    })
+}
+
+pub fn headers_written(headers: &[c::BlockHeader], count: usize) -> u64 {
+    let headers = black_box(headers);
+    let mut out = vec![0; 24];
+    digest::sum(headers.iter().cycle().take(count).map(|header| {
+        let answer = unsafe { c::mf4_write_header(*header, out.as_mut_ptr(), out.len()) };
+        digest::of_bytes(&out[..answer.count as usize])
+    }))
+}
+
+/// The library tells where the numbers stand; they are read there.
+pub fn lists_read(lists: Pieces) -> u64 {
+    lists.sum(|bytes| {
+        let list = unsafe { c::mf4_read_list(bytes.as_ptr(), bytes.len()) };
+        let links = &bytes[list.links_at as usize..][..8 * list.links as usize];
+        let rest = &bytes[list.rest_at as usize..][..8 * list.rest as usize];
+        digest::of_number_bytes(links).wrapping_add(list.next ^ digest::of_number_bytes(rest))
+    })
+}
+
+pub fn lists_written_equal(numbers: &Numbers, count: usize) -> u64 {
+    let mut out = vec![0; list_size(numbers.links.len(), 1)];
+    digest::sum((0..count).map(|_| {
+        let Numbers { next, links, length, .. } = black_box(numbers);
+        let (to, room) = (out.as_mut_ptr(), out.len());
+        let answer = unsafe { c::mf4_write_list_equal(to, room, *next, links.as_ptr(), links.len(), *length) };
+        digest::of_bytes(&out[..answer.count as usize])
+    }))
+}
+
+pub fn lists_written_variable(numbers: &Numbers, count: usize) -> u64 {
+    let mut out = vec![0; list_size(numbers.links.len(), numbers.offsets.len())];
+    digest::sum((0..count).map(|_| {
+        let Numbers { next, links, offsets, .. } = black_box(numbers);
+        let (to, room) = (out.as_mut_ptr(), out.len());
+        let (link, offset) = (links.as_ptr(), offsets.as_ptr());
+        let answer = unsafe { c::mf4_write_list_variable(to, room, *next, link, links.len(), offset, offsets.len()) };
+        digest::of_bytes(&out[..answer.count as usize])
+    }))
+}
+
+/// The bytes of a list with so many links, and so many numbers behind its count.
+pub fn list_size(links: usize, rest: usize) -> usize {
+    40 + 8 * links + 8 * rest
+}

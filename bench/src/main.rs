@@ -1,0 +1,42 @@
+//! The speed of the library and of mf4-rs 3.8.0, on the same input, in the same loops.
+//!
+//!     bench count          makes the passes that callgrind counts, and prints a line for each
+//!     bench table COUNTS   measures times and prints the table; the file COUNTS has those lines, each with its count
+//!
+//! A row has up to four sides: the library through its archive; the crate at the same kind of border, where each call is
+//! that of a function compiled apart; the crate inlined, compiled together with its loop; and a copy of the bytes that
+//! the row reads. Before a row is measured, the answers of the first three must be the same.
+
+mod border;
+#[path = "../../compare/src/c.rs"]
+mod c;
+#[allow(dead_code)]
+#[path = "../../compare/src/dice.rs"]
+mod dice;
+mod digest;
+mod inlined;
+mod library;
+mod measure;
+mod pieces;
+mod row;
+mod rows;
+mod table;
+
+// The crate's files name each other from the root of their crate, which is this one where they are inlined.
+use inlined::{blocks, error, index, parsing};
+
+use std::process::ExitCode;
+
+fn main() -> ExitCode {
+    let words: Vec<String> = std::env::args().skip(1).collect();
+    let done = match words.iter().map(String::as_str).collect::<Vec<_>>()[..] {
+        ["count"] => measure::count(&rows::all()),
+        ["table", counts] => table::print(&rows::all(), counts),
+        _ => Err("usage: bench count | bench table COUNTS".to_string()),
+    };
+    if let Err(said) = done {
+        eprintln!("bench: {said}");
+        return ExitCode::FAILURE;
+    }
+    ExitCode::SUCCESS
+}

@@ -1,0 +1,97 @@
+//! Records through a chain. The crate has no such call, so the library stands beside the copy of a record's bytes alone.
+
+use std::cell::RefCell;
+use std::hint::black_box;
+use std::ops::Range;
+use std::rc::Rc;
+
+use super::channel;
+use super::lists::{header_bytes, HEADER_SIZE};
+use crate::c;
+use crate::dice::Dice;
+use crate::digest;
+use crate::library::list_size;
+use crate::row::{Pass, Plan, Row};
+
+/// The joined data is the same however many fragments it has, and some records lie over two fragments.
+const DATA: usize = 4 << 20;
+const SIZE: usize = 24;
+
+/// A file, where its chain starts, and the joined data.
+struct Chain {
+    file: Vec<u8>,
+    start: u64,
+    joined: Vec<u8>,
+}
+
+type Fetch = fn(&Chain, u64, &mut [u8]) -> u64;
+
+pub fn plans() -> Vec<Plan> {
+    vec![
+        Plan::new("record through 1 fragment", 200_000, 200, |_| row(1, fetched, copied)),
+        Plan::new("record through 64 fragments", 20_000, 50, |_| row(64, fetched, copied)),
+        Plan::new("record through 4,096 fragments", 500, 2, |_| row(4_096, fetched, copied)),
+        Plan::new("value in a record through 64 fragments", 20_000, 50, |_| row(64, value_fetched, value_copied)),
+    ]
+}
+
+fn row(fragments: usize, ours: Fetch, copy: Fetch) -> Row {
+    let chain = Rc::new(chain(fragments));
+    let [ours, copy] = [ours, copy].map(|fetch| {
+        let chain = chain.clone();
+        let buffer = RefCell::new(vec![0; SIZE]);
+        Box::new(move |items| over_records(&chain, items, &mut buffer.borrow_mut(), fetch)) as Pass
+    });
+    assert_eq!(ours(0..10), copy(0..10), "the records are not those of the joined data");
+    Row { ours, border: None, inlined: None, copy }
+}
+
+/// Records from all over the data.
+fn over_records(chain: &Chain, items: Range<usize>, buffer: &mut [u8], fetch: Fetch) -> u64 {
+    let records = DATA / SIZE;
+    digest::sum(items.map(|item| fetch(chain, (item * 7_919 % records) as u64, buffer)))
+}
+
+fn fetched(chain: &Chain, number: u64, buffer: &mut [u8]) -> u64 {
+    let (file, len, size) = (chain.file.as_ptr(), chain.file.len(), SIZE as u64);
+    unsafe { c::mf4_read_record(file, len, chain.start, number, size, buffer.as_mut_ptr(), buffer.len()) };
+    digest::word(buffer)
+}
+
+fn copied(chain: &Chain, number: u64, buffer: &mut [u8]) -> u64 {
+    buffer.copy_from_slice(&chain.joined[number as usize * SIZE..][..black_box(SIZE)]);
+    digest::word(buffer)
+}
+
+/// The second four bytes, and a bit of the last one for their validity.
+fn value_fetched(chain: &Chain, number: u64, buffer: &mut [u8]) -> u64 {
+    let (file, len, size) = (chain.file.as_ptr(), chain.file.len(), SIZE as u64);
+    let (out, room) = (buffer.as_mut_ptr(), buffer.len());
+    let field = c::Channel { flags: 2, pos_invalidation_bit: 3, ..channel(0, 4, 32) };
+    let answer = unsafe { c::mf4_record_value(file, len, chain.start, number, size, 0, 23, field, out, room) };
+    answer.value.unsigned_value
+}
+
+fn value_copied(chain: &Chain, number: u64, buffer: &mut [u8]) -> u64 {
+    copied(chain, number, buffer) >> 32
+}
+
+/// Data blocks of one length, and then the list of them.
+fn chain(fragments: usize) -> Chain {
+    let joined = Dice::new(1).bytes(DATA);
+    let mut file = vec![0; 64];
+    let mut links = Vec::new();
+    for data in joined.chunks(DATA / fragments) {
+        links.push(file.len() as u64);
+        let block_len = (HEADER_SIZE + data.len()) as u64;
+        let header = c::BlockHeader { id: u32::from_le_bytes(*b"##DT"), reserved0: 0, block_len, links_nr: 0 };
+        file.extend(header_bytes(&header));
+        file.extend(data);
+    }
+    let start = file.len() as u64;
+    let mut list = vec![0; list_size(fragments, 1)];
+    let length = (DATA / fragments) as u64;
+    unsafe { c::mf4_write_list_equal(list.as_mut_ptr(), list.len(), 0, links.as_ptr(), links.len(), length) };
+    file.extend(list);
+    Chain { file, start, joined }
+}

@@ -1,0 +1,72 @@
+//! The table, as Markdown.
+
+use std::collections::HashMap;
+use std::fs;
+
+use crate::measure;
+use crate::row::Plan;
+
+const HEAD: &str = "\
+| What | ours ns | crate ns | inlined ns | copy ns | ours / crate | ours / inlined | ours instr. | crate instr. | inlined instr. |
+|---|--:|--:|--:|--:|--:|--:|--:|--:|--:|";
+
+/// The instructions an item takes, by row and side.
+type Counts = HashMap<(String, String), f64>;
+
+pub fn print(plans: &[Plan], counts: &str) -> Result<(), String> {
+    let text = fs::read_to_string(counts).map_err(|said| format!("{counts}: {said}"))?;
+    let counts = text.lines().map(counted).collect::<Option<Counts>>().ok_or(format!("{counts}: a strange line"))?;
+    println!("{HEAD}");
+    for plan in plans {
+        println!("{}", line(plan, &counts, &measure::times(plan)?));
+    }
+    Ok(())
+}
+
+/// A line of the row, the side, the items, and the instructions of so many and of twice as many.
+fn counted(line: &str) -> Option<((String, String), f64)> {
+    let words: Vec<&str> = line.split('\t').collect();
+    let [row, side, items, once, twice] = words[..] else {
+        return None;
+    };
+    let [items, once, twice] = [items, once, twice].map(|word| word.parse::<f64>().ok());
+    Some(((row.to_string(), side.to_string()), (twice? - once?) / items?))
+}
+
+fn line(plan: &Plan, counts: &Counts, times: &[f64]) -> String {
+    let instructions = |side: &str| counts.get(&(plan.name.clone(), side.to_string())).copied();
+    let (ours, border, inlined, copy) = match *times {
+        [ours, border, inlined, copy] => (ours, Some(border), Some(inlined), copy),
+        [ours, copy] => (ours, None, None, copy),
+        _ => panic!("a row with another number of sides"),
+    };
+    let cells = [
+        number(Some(ours)),
+        number(border),
+        number(inlined),
+        number(Some(copy)),
+        ratio(ours, border),
+        ratio(ours, inlined),
+        whole(instructions("ours")),
+        whole(instructions("border")),
+        whole(instructions("inlined")),
+    ];
+    format!("| {} | {} |", plan.name, cells.join(" | "))
+}
+
+/// Three digits, more or less: a time of a few nanoseconds has two places.
+fn number(time: Option<f64>) -> String {
+    match time {
+        None => "-".to_string(),
+        Some(time) if time < 100.0 => format!("{time:.2}"),
+        Some(time) => format!("{time:.0}"),
+    }
+}
+
+fn ratio(ours: f64, theirs: Option<f64>) -> String {
+    theirs.map_or("-".to_string(), |theirs| format!("{:.2}", ours / theirs))
+}
+
+fn whole(instructions: Option<f64>) -> String {
+    instructions.map_or("-".to_string(), |count| format!("{count:.0}"))
+}

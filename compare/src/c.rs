@@ -1,0 +1,167 @@
+//! The library's calls as include/mf4.h declares them, for every program here that links the archive.
+// Each of those programs leaves some calls out.
+#![allow(dead_code)]
+
+#[repr(C)]
+#[derive(Clone, Copy)]
+pub struct BlockHeader {
+    pub id: u32,
+    pub reserved0: u32,
+    pub block_len: u64,
+    pub links_nr: u64,
+}
+
+#[repr(C)]
+#[derive(Clone, Copy)]
+pub struct Header {
+    pub reply: u32,
+    pub told: u64,
+    pub header: BlockHeader,
+}
+
+#[repr(C)]
+#[derive(Clone, Copy)]
+pub struct Written {
+    pub reply: u32,
+    pub told: u64,
+    pub count: u64,
+}
+
+#[repr(C)]
+#[derive(Clone, Copy)]
+pub struct List {
+    pub reply: u32,
+    pub told: u64,
+    pub header: BlockHeader,
+    pub next: u64,
+    pub links_at: u64,
+    pub links: u64,
+    pub flags: u8,
+    pub reserved1: u32,
+    pub data_block_nr: u32,
+    pub rest_at: u64,
+    pub rest: u64,
+}
+
+#[repr(C)]
+#[derive(Clone, Copy)]
+pub struct Channel {
+    pub data_type: u8,
+    pub channel_type: u8,
+    pub bit_offset: u8,
+    pub byte_offset: u32,
+    pub bit_count: u32,
+    pub flags: u32,
+    pub pos_invalidation_bit: u32,
+    pub data: u64,
+}
+
+#[repr(C)]
+#[derive(Clone, Copy)]
+pub struct Decoded {
+    pub kind: u32,
+    pub unsigned_value: u64,
+    pub signed_value: i64,
+    pub double_bits: u64,
+    pub at: u64,
+    pub length: u64,
+}
+
+#[repr(C)]
+#[derive(Clone, Copy)]
+pub struct Value {
+    pub reply: u32,
+    pub told: u64,
+    pub value: Decoded,
+}
+
+#[repr(C)]
+#[derive(Clone, Copy)]
+pub struct ValidValue {
+    pub reply: u32,
+    pub told: u64,
+    pub value: Decoded,
+    pub is_valid: u8,
+}
+
+#[repr(C)]
+#[derive(Clone, Copy)]
+pub struct Text {
+    pub reply: u32,
+    pub told: u64,
+    pub count: u64,
+    pub damaged: u8,
+}
+
+#[repr(C)]
+#[derive(Clone, Copy)]
+pub struct Fetched {
+    pub reply: u32,
+    pub told: u64,
+}
+
+extern "C" {
+    pub fn mf4_read_header(bytes: *const u8, bytes_len: usize) -> Header;
+    pub fn mf4_write_header(header: BlockHeader, out: *mut u8, out_len: usize) -> Written;
+    pub fn mf4_type_code(code: u8) -> u8;
+    pub fn mf4_default_bits(code: u8) -> u32;
+    pub fn mf4_read_list(bytes: *const u8, bytes_len: usize) -> List;
+    pub fn mf4_write_list_equal(
+        out: *mut u8,
+        out_len: usize,
+        next: u64,
+        links: *const u64,
+        links_len: usize,
+        length: u64,
+    ) -> Written;
+    pub fn mf4_write_list_variable(
+        out: *mut u8,
+        out_len: usize,
+        next: u64,
+        links: *const u64,
+        links_len: usize,
+        offsets: *const u64,
+        offsets_len: usize,
+    ) -> Written;
+    pub fn mf4_decode_value(record: *const u8, record_len: usize, record_id_size: u64, channel: Channel) -> Value;
+    pub fn mf4_check_validity(
+        record: *const u8,
+        record_len: usize,
+        record_id_size: u64,
+        data_bytes: u32,
+        channel: Channel,
+    ) -> u8;
+    pub fn mf4_decode_valid_value(
+        record: *const u8,
+        record_len: usize,
+        record_id_size: u64,
+        data_bytes: u32,
+        channel: Channel,
+    ) -> ValidValue;
+    pub fn mf4_decode_double(record: *const u8, record_len: usize, record_id_size: u64, channel: Channel) -> u64;
+    pub fn mf4_text_latin1(bytes: *const u8, bytes_len: usize, out: *mut u8, out_len: usize) -> Text;
+    pub fn mf4_text_utf8(bytes: *const u8, bytes_len: usize, out: *mut u8, out_len: usize) -> Text;
+    pub fn mf4_text_utf16_le(bytes: *const u8, bytes_len: usize, out: *mut u8, out_len: usize) -> Text;
+    pub fn mf4_text_utf16_be(bytes: *const u8, bytes_len: usize, out: *mut u8, out_len: usize) -> Text;
+    pub fn mf4_read_record(
+        file: *const u8,
+        file_len: usize,
+        start: u64,
+        number: u64,
+        record_size: u64,
+        buffer: *mut u8,
+        buffer_len: usize,
+    ) -> Fetched;
+    pub fn mf4_record_value(
+        file: *const u8,
+        file_len: usize,
+        start: u64,
+        number: u64,
+        record_size: u64,
+        record_id_size: u64,
+        data_bytes: u32,
+        channel: Channel,
+        buffer: *mut u8,
+        buffer_len: usize,
+    ) -> ValidValue;
+}
