@@ -7,10 +7,12 @@ pub mod FirstChar
 pub mod Stopping
 pub mod Copying
 pub mod Walk
-pub mod Result
+pub mod Units
 pub mod Reading
 pub mod Wellformed
 pub mod Texts
 pub mod Verbatim
+pub mod Bytewise
+pub mod Result
 pub mod Behind
 pub mod Back

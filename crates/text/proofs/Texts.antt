@@ -30,12 +30,15 @@ from-sound e xs cs (g, v) = rw (g, as-utf8 xs, v)
 
 -- ---- Latin-1: every byte is its scalar value
 
-latin1-sound : (s : List ℕ) → (allSound (chars latin1 0 s) ≡ true) × (values (chars latin1 0 s) ≡ s)
+pub latin1-sound : (s : List ℕ) → (allSound (chars latin1 0 s) ≡ true) × (values (chars latin1 0 s) ≡ s)
 unfolding chars
 latin1-sound [] = (refl, refl)
 latin1-sound (c ∷ s) =
     let w = latin1-sound s in
     (ap allSound (latin1-read c s) ∙ w .0, ap values (latin1-read c s) ∙ ap (λ (l : List ℕ). c ∷ l) (w .1))
+
+pub latin1-utf8 : (s : List ℕ) → charsUtf8 (chars latin1 0 s) ≡ encodedAll utf8 s
+latin1-utf8 s = as-utf8 (chars latin1 0 s) ∙ ap (encodedAll utf8) (latin1-sound s .1)
 
 pub latin1-text : (s : List ℕ) → textOf latin1 s ≡ soundText (beforeNul s)
 unfolding textOf stopped

@@ -15,9 +15,12 @@ if-undamaged : (t : Bool) (a b : List ℕ)
 if-undamaged true a b h = (refl, refl)
 if-undamaged false a b h = absurd (let z : _≡_ {A = ℕ} 0 1 = cc in omega arith)
 
+pub utf8-whole : (s : List ℕ) → allSound (chars utf8 0 s) ≡ true → charsUtf8 (chars utf8 0 s) ≡ s
+utf8-whole s h = as-utf8 (chars utf8 0 s) ∙ sym (utf8-spells s h .bytes)
+
 pub utf8-verbatim : (s : List ℕ) → textOf utf8 s .damaged ≡ false → textOf utf8 s .bytes ≡ beforeNul s
 unfolding textOf stopped
 utf8-verbatim s h =
     let xs : List Character = chars utf8 0 (beforeNul s) in
     let f = if-undamaged (allSound xs) (charsUtf8 xs) (placeholder utf8) h in
-    f .1 ∙ as-utf8 xs ∙ sym (utf8-spells (beforeNul s) (f .0) .bytes)
+    f .1 ∙ utf8-whole (beforeNul s) (f .0)

@@ -1,6 +1,7 @@
--- The characters of a text, one after the other, as the two passes go over them.
+-- The characters of a text, one after the other, as the passes go over them.
 use mathlib.Core.Path.{_≡_, refl, sym, ap, _∙_}
 use mathlib.Core.List.{List, [], _∷_}
+use mathlib.Core.Bool.{true, false}
 use Prim.Native.Nat.{ℕ, zero, suc, _+_, _-_, _*_, _≤_, _<_}
 use native.Mathlib.Nat.{add-zero, zero-add}
 use native.Mathlib.Omega.{arith}
@@ -11,7 +12,7 @@ use Rattle.text.specs.Meaning.{charMeant}
 use Rattle.text.specs.Parts.{Modest, CharRead, sizeOf}
 use Rattle.text.specs.declared.character.Char.{Char}
 use Rattle.text.specs.declared.character.Char.the-variants.{Scalar, Damage}
-use Rattle.text.specs.declared.passes.Size.the-variants.{Sound, Damaged}
+use Rattle.text.specs.declared.utf16.Size.the-variants.{Sound, Damaged}
 use Rattle.text.proofs.Tests.{inside-back}
 use Rattle.definitions.proofs.Stores.{sets-append}
 
@@ -41,7 +42,7 @@ rest-end : (e : Encoding) (s : List ℕ) (at : ℕ) → length s ≤ at → rest
 unfolding chars
 rest-end e s at h = ap (chars e 0) (drop-of-length-le s h)
 
--- what a turn of either pass knows of the character that it read
+-- what a turn of any pass knows of the character that it read
 pub record Turn (e : Encoding) (s : List ℕ) (at c m : ℕ) : Type 0 where
   pub inside : at + 1 + m ≤ length s
   pub below : c < 0x110000
@@ -68,37 +69,52 @@ pub damage-here : (e : Encoding) (s : List ℕ) (at : ℕ) (r : Char) → at < l
 damage-here e s at r h q read =
     rest-step e s at damage h (sym (ap charMeant q) ∙ read .same) ∙ ap (λ (k : ℕ). damage ∷ rest e s k) (add-zero (at + 1))
 
--- the first pass: n bytes are counted of what stands before at
-pub record Measured (e : Encoding) (s : List ℕ) (at n : ℕ) : Type 0 where
+-- a pass that looks for damage: there is none before at
+pub record Checked (e : Encoding) (s : List ℕ) (at : ℕ) : Type 0 where
   pub within : at ≤ length s
-  pub bound : n ≤ 2 * at
-  pub count : n + length (charsUtf8 (rest e s at)) ≡ length (charsUtf8 (chars e 0 s))
   pub same : allSound (rest e s at) ≡ allSound (chars e 0 s)
 
+pub checked-start : (e : Encoding) (s : List ℕ) → Checked e s 0
+checked-start e s = record { within = omega arith; same = refl }
+
+pub checked-turn : (e : Encoding) (s : List ℕ) (at c m : ℕ) → Checked e s at → Turn e s at c m → Checked e s (at + 1 + m)
+checked-turn e s at c m i t = record { within = t .inside; same = sym (ap allSound (t .step)) ∙ i .same }
+
+pub checked-sound : (e : Encoding) (s : List ℕ) (at : ℕ) → Checked e s at → length s ≤ at → true ≡ allSound (chars e 0 s)
+checked-sound e s at i h = sym (ap allSound (rest-end e s at h)) ∙ i .same
+
+pub checked-damage : (e : Encoding) (s : List ℕ) (at : ℕ) → Checked e s at → rest e s at ≡ damage ∷ rest e s (at + 1) → false ≡ allSound (chars e 0 s)
+checked-damage e s at i q = sym (ap allSound q) ∙ i .same
+
+-- a pass that measures: n bytes are counted of what stands before at
+pub record Measured (e : Encoding) (s : List ℕ) (at n : ℕ) : Type 0 where
+  pub checked : Checked e s at
+  pub bound : n ≤ 2 * at
+  pub count : n + length (charsUtf8 (rest e s at)) ≡ length (charsUtf8 (chars e 0 s))
+
 pub measured-start : (e : Encoding) (s : List ℕ) → Measured e s 0 0
-measured-start e s = record { within = omega arith; bound = omega arith; count = zero-add _; same = refl }
+measured-start e s = record { checked = checked-start e s; bound = omega arith; count = zero-add _ }
 
 pub measured-turn : (e : Encoding) (s : List ℕ) (at n c m w : ℕ) → Measured e s at n → Turn e s at c m → w ≡ length (utf8Of c) → Measured e s (at + 1 + m) (n + w)
 measured-turn e s at n c m w i t p =
     record {
-      within = t .inside;
+      checked = checked-turn e s at c m (i .checked) t;
       bound = omega (arith, i .bound, t .grows);
       count = omega (arith, i .count, t .size);
-      same = sym (ap allSound (t .step)) ∙ i .same;
     }
+
+pub measured-size : (e : Encoding) (s : List ℕ) (at n : ℕ) → Measured e s at n → length s ≤ at → n ≡ length (charsUtf8 (chars e 0 s))
+measured-size e s at n i h = omega (arith, i .count, ap length (ap charsUtf8 (rest-end e s at h)))
 
 pub measured-sound : (e : Encoding) (s : List ℕ) (at n : ℕ) → Measured e s at n → length s ≤ at → Sound n ≡ sizeOf (chars e 0 s)
 unfolding sizeOf
-measured-sound e s at n i h =
-    let r : rest e s at ≡ [] = rest-end e s at h in
-    let k : n ≡ length (charsUtf8 (chars e 0 s)) = omega (arith, i .count, ap length (ap charsUtf8 r)) in
-    simp (sym (i .same) ∙ ap allSound r, k)
+measured-sound e s at n i h = simp (sym (checked-sound e s at (i .checked) h), measured-size e s at n i h)
 
 pub measured-damage : (e : Encoding) (s : List ℕ) (at n : ℕ) → Measured e s at n → rest e s at ≡ damage ∷ rest e s (at + 1) → Damaged ≡ sizeOf (chars e 0 s)
 unfolding sizeOf
-measured-damage e s at n i q = simp (sym (i .same) ∙ ap allSound q)
+measured-damage e s at n i q = simp (sym (checked-damage e s at (i .checked) q))
 
--- the second pass: writing what is left at n makes the buffer what the whole text makes of it
+-- a pass that writes: writing what is left at n makes the buffer what the whole text makes of it
 pub record Wrote (e : Encoding) (s out₀ out : List ℕ) (at n : ℕ) : Type 0 where
   pub within : at ≤ length s
   pub long : length out ≡ length out₀

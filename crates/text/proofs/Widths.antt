@@ -68,6 +68,34 @@ width-low c l =
     (λ g h. absurd (omega arith))
     (λ g. absurd (omega arith))
 
+pub width-some : (c : ℕ) → 1 ≤ length (utf8Of c)
+width-some c =
+    of-width (λ c. 1 ≤ length (utf8Of c)) c
+    (λ h. omega (arith, width-1 c h))
+    (λ g h. omega (arith, width-2 c g h))
+    (λ g h. omega (arith, width-3 c g h))
+    (λ g. omega (arith, width-4 c g))
+
+-- only ASCII takes one byte, and it is that byte
+pub width-one : (c : ℕ) → length (utf8Of c) ≡ 1 → utf8Of c ≡ c ∷ []
+width-one c e =
+    of-width (λ c. length (utf8Of c) ≡ 1 → utf8Of c ≡ c ∷ []) c
+    (λ h e. utf8-1 c h)
+    (λ g h e. absurd (omega (arith, width-2 c g h)))
+    (λ g h e. absurd (omega (arith, width-3 c g h)))
+    (λ g e. absurd (omega (arith, width-4 c g)))
+    e
+
+-- what was a byte takes one or two
+pub width-byte : (c : ℕ) → c < 256 → 1 + c / 128 ≡ length (utf8Of c)
+width-byte c l =
+    of-width (λ c. c < 256 → 1 + c / 128 ≡ length (utf8Of c)) c
+    (λ h l. omega (arith, width-1 c h))
+    (λ g h l. omega (arith, width-2 c g h))
+    (λ g h l. absurd (omega arith))
+    (λ g l. absurd (omega arith))
+    l
+
 -- stores at a place and behind it are the run of stores of a scalar value's bytes
 pub put-2 : (l : List ℕ) (i c : ℕ) → 0x80 ≤ c → c < 0x800 → set (set l i (0xC0 + c / 64)) (i + 1) (0x80 + c % 64) ≡ sets l i (utf8Of c)
 put-2 l i c g h = rw (utf8-2 c g h, add-one)

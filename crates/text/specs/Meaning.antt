@@ -1,8 +1,9 @@
 -- What the code's own types mean in the definitions.
 use Prim.Native.Nat.{ℕ}
+use mathlib.Core.Bool.{Bool, true, false}
 use mathlib.Core.List.{List}
 use Rattle.definitions.specs.Reply.{Reply, Outcome, answer}
-use Rattle.definitions.specs.Bytes.{little, big}
+use Rattle.definitions.specs.Bytes.{Order, little, big}
 use Rattle.definitions.specs.Unicode.{Encoding as Encoded, latin1, utf8, utf16, Char as Character, scalar, damage, TextWritten}
 use Rattle.refusals.specs.Meaning.{refused}
 use Rattle.text.specs.declared.encoding.Encoding.{Encoding}
@@ -17,6 +18,11 @@ encodingOf Latin1 = latin1
 encodingOf Utf8 = utf8
 encodingOf Utf16Le = utf16 little
 encodingOf Utf16Be = utf16 big
+
+-- the byte order, told as a flag
+abbrev pub orderOf : Bool → Order
+orderOf true = big
+orderOf false = little
 
 abbrev pub charMeant : Char → Character
 charMeant (Scalar c more) = scalar c more

@@ -2,11 +2,11 @@
 mod answer;
 mod character;
 mod damaged;
-mod decode;
 mod encode;
 mod encoding;
-mod passes;
+mod latin1;
 mod stop;
+mod unchanged;
 mod utf16;
 mod utf8;
 mod write;

@@ -1,9 +1,15 @@
-// One character read as UTF-8, from its bytes as numbers.
+// UTF-8: its characters, read from their bytes as numbers, and a text that is sound, which comes out as it is.
 ghost use mathlib.Core.Path.{_≡_};
 ghost use Prim.Native.Nat.{_≤_, _<_};
-ghost use Rattle.definitions.specs.Unicode.{sixBits, isScalar, utf8Two, utf8Three, utf8Four, utf8Char};
-ghost use Rattle.text.specs.Meaning.{charMeant};
+ghost use lib.ListN.{length, getD, drop};
+ghost use Rattle.definitions.specs.Unicode.{utf8, sixBits, isScalar, utf8Two, utf8Three, utf8Four, utf8Char, chars, allSound, writtenText};
+ghost use Rattle.text.specs.Meaning.{charMeant, wrote};
+ghost use Rattle.text.specs.Parts.{CharRead, wholeText};
+use crate::answer::TextWrite;
 use crate::character::Char;
+use crate::character::within;
+use crate::damaged::write_damaged_utf8;
+use crate::unchanged::write_unchanged;
 
 // 64 for a byte that continues nothing, so that no sum below wants a guard
 fn six_bits(byte: u32) -> u32
@@ -95,7 +101,7 @@ fn four_bytes(a: u32, b: u32, c: u32, d: u32) -> Char
     }
 }
 
-pub fn utf8_char(a: u32, b: u32, c: u32, d: u32) -> Char
+fn utf8_char(a: u32, b: u32, c: u32, d: u32) -> Char
     ensures { λ r. ⌜ charMeant r ≡ utf8Char a b c d ⌝ }
 {
     if a < 0x80 {
@@ -110,5 +116,53 @@ pub fn utf8_char(a: u32, b: u32, c: u32, d: u32) -> Char
         four_bytes(a, b, c, d)
     } else {
         Char::Damage
+    }
+}
+
+// the byte at a place, and 0 past the end
+fn byte_at(text: &[u8], at: usize) -> u32
+    ensures { λ r. ⌜ r ≡ getD (now (text .entry)) at 0 ⌝ }
+{
+    if at < text.len() { text[at] as u32 } else { 0 }
+}
+
+// by four bytes, which is as long as a character can be
+fn char_at(text: &[u8], at: usize) -> Char
+    requires { ⌜ at < length (now text) ⌝ }
+    ensures { λ r. ⌜ CharRead utf8 (drop at (now (text .entry))) r ⌝ }
+{
+    let a = byte_at(text, at);
+    let b = byte_at(text, at + 1);
+    let c = byte_at(text, at + 2);
+    let d = byte_at(text, at + 3);
+    within(utf8_char(a, b, c, d), text.len() - at)
+}
+
+// an ASCII byte decides alone
+fn is_sound(text: &[u8]) -> bool
+    ensures { λ r. ⌜ r ≡ allSound (chars utf8 0 (now (text .entry))) ⌝ }
+{
+    let mut at: usize = 0;
+    while at < text.len() {
+        if text[at] < 0x80 {
+            at += 1;
+        } else {
+            let Char::Scalar { value: _, more } = char_at(text, at) else {
+                return false;
+            };
+            at = at + 1 + more;
+        }
+    }
+    true
+}
+
+// UTF-8 that is sound is its own bytes, so nothing is encoded anew
+pub fn write_utf8(text: &[u8], out: &mut [u8]) -> TextWrite
+    ensures { λ r. ⌜ wrote r (now (out .exit)) ≡ writtenText (now (out .entry)) (wholeText utf8 (now (text .entry))) ⌝ }
+{
+    if is_sound(text) {
+        write_unchanged(text, false, out)
+    } else {
+        write_damaged_utf8(out)
     }
 }

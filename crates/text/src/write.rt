@@ -3,29 +3,21 @@ ghost use mathlib.Core.Path.{_≡_};
 ghost use Rattle.definitions.specs.Unicode.{textWritten};
 ghost use Rattle.text.specs.Meaning.{encodingOf, wrote};
 use crate::answer::TextWrite;
-use crate::damaged::write_placeholder;
 use crate::encoding::Encoding;
-use crate::passes::Size;
-use crate::passes::measure;
-use crate::passes::write_chars;
+use crate::latin1::write_latin1;
 use crate::stop::text_end;
-use refusals::Refusal;
+use crate::utf8::write_utf8;
+use crate::utf16::write_utf16;
 
 pub fn write_text(encoding: Encoding, bytes: &[u8], out: &mut [u8]) -> TextWrite
     ensures { λ r. ⌜ wrote r (now (out .exit)) ≡ textWritten (now (out .entry)) (encodingOf encoding) (now (bytes .entry)) ⌝ }
 {
     let end = text_end(encoding, bytes);
     let text = &bytes[..end];
-    let Size::Sound(size) = measure(encoding, text) else {
-        return write_placeholder(encoding, out);
-    };
-    let count = size as u64;
-    if out.len() < size {
-        return TextWrite::Refused(Refusal::NoRoom(count));
-    }
-    write_chars(encoding, text, out);
-    TextWrite::Written {
-        count,
-        damaged: false,
+    match encoding {
+        Encoding::Latin1 => write_latin1(text, out),
+        Encoding::Utf8 => write_utf8(text, out),
+        Encoding::Utf16Le => write_utf16(text, false, out),
+        Encoding::Utf16Be => write_utf16(text, true, out),
     }
 }
