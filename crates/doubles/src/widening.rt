@@ -1,6 +1,6 @@
 // 32-bit floats as doubles: a double holds the value of every one.
 ghost use mathlib.Core.Path.{_≡_};
-ghost use Prim.Native.Nat.{_≤_};
+ghost use Prim.Native.Nat.{_<_};
 ghost use Rattle.definitions.specs.Ieee754.{widened};
 use crate::patterns::INFINITY;
 use crate::patterns::NAN;
@@ -23,21 +23,15 @@ const SUBNORMAL_EXPONENT: u64 = 149 << 52;
 // The fields of the two formats count their exponents from -1023 and from -127.
 const BIAS_GAP: u64 = (1023 - 127) << 52;
 
-// The widened pattern of one whose sign is clear, and that is no NaN's.
-fn widen_magnitude(magnitude: u32) -> u64
-    requires { ⌜ magnitude ≤ 0x7f80_0000 ⌝ }
+// The widened pattern of one below the normal ones, whose sign is clear.
+fn widen_subnormal(magnitude: u32) -> u64
+    requires { ⌜ magnitude < 0x0080_0000 ⌝ }
     ensures { λ r. ⌜ r ≡ widened magnitude ⌝ }
 {
     if magnitude == 0 {
         return 0;
     }
-    if magnitude < LEAST_NORMAL_32 {
-        return double_of(magnitude as u64) - SUBNORMAL_EXPONENT;
-    }
-    if magnitude == INFINITY_32 {
-        return INFINITY;
-    }
-    ((magnitude as u64) << MORE_DIGITS) + BIAS_GAP
+    double_of(magnitude as u64) - SUBNORMAL_EXPONENT
 }
 
 // The pattern of the double with the value of a 32-bit pattern; any NaN becomes one NaN, its sign clear.
@@ -45,8 +39,15 @@ pub fn widen(bits: u32) -> u64
     ensures { λ r. ⌜ r ≡ widened bits ⌝ }
 {
     let magnitude = bits & ALL_BUT_SIGN_32;
-    if magnitude > INFINITY_32 {
-        return NAN;
+    let negative = bits >= SIGN_32;
+    if magnitude < LEAST_NORMAL_32 {
+        return with_sign(negative, widen_subnormal(magnitude));
     }
-    with_sign(bits >= SIGN_32, widen_magnitude(magnitude))
+    if magnitude < INFINITY_32 {
+        return with_sign(negative, ((magnitude as u64) << MORE_DIGITS) + BIAS_GAP);
+    }
+    if magnitude == INFINITY_32 {
+        return with_sign(negative, INFINITY);
+    }
+    NAN
 }

@@ -1,24 +1,56 @@
--- `widening::widen` meets its contract: a NaN's pattern, or the sign and the pattern without it.
+-- `widening::widen` meets its contract: the sign and the pattern without it, or a NaN's pattern.
 use borrow.Author.Needs.{needs}
+use mathlib.Core.Path.{sym, ap, _∙_}
 use native.Mathlib.Omega.{arith}
 use lib.Bits.{bitAnd}
+use Rattle.definitions.specs.Ieee754.{widened}
 use Rattle.doubles.proofs.Widened.{masked-nan, widened-clear, masked-with-sign}
+use Rattle.doubles.proofs.WidenedCases.{infinity-widened, normal-widened}
 use Rattle.doubles.proofs.widening.widen.Statement.{statement}
 use Rattle.doubles.proofs.widening.widen.Tie as tie
 
-returns : tie.Need-returns
-returns c = masked-nan (c .before .args .bits) (c .if1 .taken)
-
 with-sign-requires : tie.Need-with-sign-requires
 with-sign-requires c κs =
-    let magnitude = bitAnd (c .before .before .args .bits) 0x7fff_ffff in
-    omega (arith, c .widen-magnitude .ensures, widened-clear magnitude (c .before .if1 .left))
+    let m = bitAnd (c .before .before .args .bits) 0x7fff_ffff in
+    omega (arith, c .widen-subnormal .ensures, widened-clear m (omega (arith, c .before .if1 .taken)))
+
+returns : tie.Need-returns
+returns c =
+    let one = c .before .before in
+    masked-with-sign (one .before .args .bits) _ _ (omega (arith, one .if1 .taken)) (c .before .widen-subnormal .ensures) (c .with-sign .ensures)
 
 returns-2 : tie.Need-returns-2
 returns-2 c =
-    let b = c .before .before .before .args .bits in
-    let w = c .before .widen-magnitude in
-    masked-with-sign b (w .result) (c .with-sign .result) (c .before .before .if1 .left) (w .ensures) (c .with-sign .ensures)
+    let two = c .before in
+    let one = two .before in
+    let b = one .before .args .bits in
+    let n = normal-widened (bitAnd b 0x7fff_ffff) (one .if1 .left) (two .if2 .taken) in
+    masked-with-sign b _ _ (omega (arith, two .if2 .taken)) (omega (arith, n)) (c .with-sign2 .ensures)
+
+returns-3 : tie.Need-returns-3
+returns-3 c =
+    let three = c .before in
+    let b = three .before .before .before .args .bits in
+    masked-with-sign b _ _ (omega (arith, three .if3 .taken)) (sym (ap widened (three .if3 .taken) ∙ infinity-widened)) (c .with-sign3 .ensures)
+
+returns-4 : tie.Need-returns-4
+returns-4 c =
+    let two = c .before in
+    masked-nan (two .before .before .args .bits) (omega (arith, two .if2 .left, c .if3 .left))
 
 pub widen-spec : {M : Type 1} → statement M
-widen-spec = tie.close (tie.spec returns (λ c κs. search needs) with-sign-requires returns-2)
+widen-spec =
+    tie.close
+    (tie.spec
+    (λ c κs. search needs)
+    with-sign-requires
+    returns
+    (λ c. search needs)
+    (λ c. search needs)
+    (λ c. search needs)
+    (λ c. search needs)
+    (λ c κs. search needs)
+    returns-2
+    (λ c κs. search needs)
+    returns-3
+    returns-4)
