@@ -9,5 +9,6 @@ pub mod Steps
 pub mod Chains
 pub mod Walks
 pub mod Laying
+pub mod Begun
 pub mod Records
 pub mod Back

@@ -55,7 +55,8 @@ fn lay(data: &[u8], position: DataPosition, from: DataPosition, out: &mut [u8])
     copy_over(&data[start..], out, gap as usize);
 }
 
-// The bytes of the joined data from `from` on, as far as `out` goes. Of each fragment only what falls into the window is read.
+// The bytes of the joined data from `from` on, as far as `out` goes. Of each fragment only what falls into the window is read,
+// and none behind it.
 pub fn window(file: &[u8], start: FileAddress, id: &[u8; 4], from: DataPosition, out: &mut [u8])
     requires { ⌜ ((blocks : List Block) × (chainOf (now id) (now file) (start .0) ≡ answer blocks)) ⌝ }
     ensures { λ _. ⌜ now (out .exit) ≡ laid (now (out .entry)) (from .0) 0 (joinedOf (now (id .entry)) (now (file .entry)) (start .0)) ⌝ }
@@ -77,6 +78,9 @@ pub fn window(file: &[u8], start: FileAddress, id: &[u8; 4], from: DataPosition,
                 let data = data_of(file, block);
                 let position = place.position;
                 lay(data, position, from, out);
+                if next.position.is_behind(from, out.len() as u64) {
+                    return;
+                }
                 place = next;
             }
         }

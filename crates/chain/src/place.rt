@@ -2,7 +2,7 @@
 ghost use mathlib.Core.Path.{_≡_};
 ghost use Prim.Native.Nat.{_+_, _≤_, _<_};
 ghost use lib.ListN.{length, drop};
-ghost use lib.Dec.{ltb};
+ghost use lib.Dec.{ltb, leb};
 ghost use Rattle.definitions.specs.Chain.{hasHeader};
 ghost use Rattle.chain.specs.Walk.{startAt, further, behind, nextList};
 
@@ -68,6 +68,16 @@ impl DataPosition {
         ensures { λ r. ⌜ r ≡ ltb 9223372036854775807 (self .0 + size) ⌝ }
     {
         sum_passes(self.0, size, 9223372036854775807)
+    }
+
+    // whether so many bytes from another position on all stand before this one
+    pub(crate) fn is_behind(self, from: DataPosition, size: u64) -> bool
+        ensures { λ r. ⌜ r ≡ leb (from .0 + size) (self .0) ⌝ }
+    {
+        if self.0 < from.0 {
+            return false;
+        }
+        size <= self.0 - from.0
     }
 
     pub(crate) fn further(self, size: u64) -> DataPosition

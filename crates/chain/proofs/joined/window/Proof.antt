@@ -1,15 +1,19 @@
 -- The loop keeps where it stands in the chain, and has laid the data of the blocks so far into the window.
 use mathlib.Core.Path.{_≡_, refl, sym, ap, _∙_}
 use mathlib.Core.List.{List, [], _∷_, _++_}
-use Prim.Native.Nat.{_<_}
+use Prim.Native.Nat.{_+_, _<_}
 use native.Mathlib.Omega.{arith}
 use lib.ListN.{length}
 use borrow.Author.Needs.{needs}
-use Rattle.definitions.specs.Chain.{Block, joined}
+use borrow.Author.Tests.{leb-true}
+use Rattle.definitions.specs.Chain.{Block, joined, chainOf}
 use Rattle.blocks.proofs.Headers.{apart}
 use Rattle.chain.specs.Meaning.{blockMeant}
 use Rattle.chain.specs.Walk.{stepReply}
 use Rattle.chain.specs.Window.{laid}
+use Rattle.chain.specs.declared.place.Place.{Place}
+use Rattle.chain.proofs.Chains.{joined-length}
+use Rattle.chain.proofs.Begun.{lay-full}
 use Rattle.chain.proofs.Fragments.{Taken}
 use Rattle.chain.proofs.Walks.{At, left, at-start, placed, at-refused, at-end, at-moved, at-data}
 use Rattle.chain.proofs.Laying.{lay-start, lay-turn, lay-end}
@@ -80,20 +84,51 @@ behind c =
 data-of-requires : tie.Need-data-of-requires Inv-loop μ-loop
 data-of-requires c κs = behind c .2 .inside
 
-loop-less-2 : tie.Need-loop-less-2 Inv-loop μ-loop
-loop-less-2 c = behind (c .before .before .before .before .before .before) .1
-
-loop-again-2 : tie.Need-loop-again-2 Inv-loop μ-loop
-loop-again-2 c =
-    let laying = c .before .before in
+-- the window as it is behind that fragment
+turned : (c : tie.After-is-behind Inv-loop μ-loop) →
+    let laying = c .before .before .before in
+    let told = laying .before .before .before .before in
+    let l = told .before .before .before .before in
+    let a = l .before .before .before .before .args in
+    (length (laying .lay .last .1 .1 .1 .0) ≡ length (a .out .now))
+    × (laying .lay .last .1 .1 .1 .0 ≡ laid (a .out .now) (a .from .0) 0 (joined (a .file .now) (l .loop .inv .1 ++ (blockMeant (told .before .step2 .given .0 .0) ∷ []))))
+turned c =
+    let laying = c .before .before .before in
     let found = laying .before .before .before in
     let told = found .before in
     let l = told .before .before .before .before in (
       omega (arith, laying .lay .kept, l .loop .inv .0),
-      _,
-      behind told .0,
       lay-turn _ _ _ _ _ _ _ _ _ (l .loop .inv .2 .stand .inside) (l .loop .inv .2 .size) (l .loop .inv .3) (found .data-of .ensures) (laying .lay .ensures),
     )
+
+same-length-3 : tie.Need-same-length-3 Inv-loop μ-loop
+same-length-3 c = turned (c .before) .0
+
+returns-3 : tie.Need-returns-3 Inv-loop μ-loop
+returns-3 c =
+    let step = c .before in
+    let told = step .before .before .before .before .before .before .before in
+    let l = told .before .before .before .before in
+    let begin = l .before in
+    let start = begin .before .before .before in
+    let a = start .args in
+    let at = behind told .0 in
+    let done = turned step in
+    let blocks : List Block = l .loop .inv .1 ++ (blockMeant (told .before .step2 .given .0 .0) ∷ []) in
+    let whole = joined-length (a .file .now) blocks (at .stand .inside) in
+    let now = step .before .before .before .lay .last .1 .1 .1 .0 in
+    let reached = leb-true (a .from .0 + length now) (told .before .step2 .given .0 .1 .0 .position .0) (sym (step .is-behind .ensures) ∙ c .if1 .taken) in
+    lay-full (a .out .now) (a .from .0) (a .id .now) (a .file .now) (a .start .0) _ _ _ _ blocks (start .pre .0) _ (start .pre .1)
+    (ap (λ (p : Place). chainOf (a .id .now) (a .file .now) (p .list .0)) (sym (begin .start .ensures)) ∙ at .rest)
+    (omega (arith, reached, whole, at .size, done .0)) (done .1)
+
+loop-less-2 : tie.Need-loop-less-2 Inv-loop μ-loop
+loop-less-2 c = behind (c .before .before .before .before .before .before .before .before) .1
+
+loop-again-2 : tie.Need-loop-again-2 Inv-loop μ-loop
+loop-again-2 c =
+    let done = turned (c .before) in
+    (done .0, _, behind (c .before .before .before .before .before .before .before .before) .0, done .1)
 
 pub window-spec : {M : Type 1} → statement M
 window-spec =
@@ -116,5 +151,8 @@ window-spec =
     (λ c. search needs)
     data-of-requires
     (λ c κs. search needs)
+    (λ c κs. search needs)
+    same-length-3
+    returns-3
     loop-less-2
     loop-again-2)

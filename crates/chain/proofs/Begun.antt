@@ -1,0 +1,85 @@
+-- The blocks that a walk has met are the first ones of its chain, and a window that they fill is full.
+use mathlib.Core.Path.{_≡_, refl, sym, ap, _∙_}
+use mathlib.Core.Bool.{Bool, true, false}
+use mathlib.Core.List.{List, [], _∷_, _++_, append-assoc, append-nil}
+use Prim.Native.Nat.{ℕ, zero, suc, _+_, _-_, _≤_}
+use native.Mathlib.Omega.{arith}
+use lib.ListN.{length, take, drop, length-append, length-drop}
+use lib.Seq.{take-append-le, drop-append-le}
+use lib.Dec.{eqb}
+use Rattle.definitions.specs.Reply.{answer, if_then_else_}
+use Rattle.definitions.specs.DataList.{DataList}
+use Rattle.definitions.specs.Chain.{Block, joined, fragmentOf, fragments, listAt, lists, chainOf}
+use Rattle.chain.specs.Walk.{listsFrom}
+use Rattle.chain.specs.Window.{laid, joinedOf}
+use Rattle.blocks.proofs.Headers.{apart}
+use Rattle.chain.proofs.Answers.{followed, answered}
+use Rattle.chain.proofs.Laying.{laid-whole, lay-end}
+
+-- `all` begins with `before`
+abbrev Begins : List Block → List Block → Type 0
+Begins before all = (rest : List Block) × (all ≡ before ++ rest)
+
+longer : (before new all : List Block) → Begins (before ++ new) all → Begins before all
+longer before new all h = (new ++ h .0, h .1 ∙ append-assoc before new (h .0))
+
+module _ (id f : List ℕ) where
+  fragments-begin : (s : List ℕ) (d : DataList) (i n : ℕ) (before all : List Block) → fragments id f s d i n before ≡ answer all → Begins before all
+  unfolding fragments
+  fragments-begin s d i zero before all e = ([], sym (answered e) ∙ sym (append-nil before))
+  fragments-begin s d i (suc n) before all e =
+      let g = followed (fragmentOf id f s d i _) (λ b. fragments id f s d (i + 1) n (before ++ (b ∷ []))) all e in
+      longer before (g .0 ∷ []) all (fragments-begin s d (i + 1) n (before ++ (g .0 ∷ [])) all (g .2))
+
+  joint : (before bs all : List Block) → Begins before bs → Begins bs all → Begins before all
+  joint before bs all h g = (h .0 ++ g .0, g .1 ∙ ap (λ (xs : List Block). xs ++ g .0) (h .1) ∙ append-assoc before (h .0) (g .0))
+
+  -- behind the fragments of a list
+  on-begin : (k a : ℕ) (t : Bool) (bs all : List Block) → (lists id f k a bs ≡ answer all → Begins bs all)
+      → (if t then answer bs else lists id f k a bs) ≡ answer all → Begins bs all
+  on-begin k a true bs all go h = ([], sym (answered h) ∙ sym (append-nil bs))
+  on-begin k a false bs all go h = go h
+
+  lists-begin : (k a : ℕ) (before all : List Block) → lists id f k a before ≡ answer all → Begins before all
+  unfolding lists
+  lists-begin zero a before all e = apart all 8 0 e
+  lists-begin (suc k) a before all e =
+      let l = followed (listAt f (length before) a) _ all e in
+      let d : DataList = l .0 in
+      let g = followed (fragments id f (drop a f) d 0 (d .links) before) _ all (l .2) in
+      joint before (g .0) all (fragments-begin (drop a f) d 0 (d .links) before (g .0) (g .1))
+      (on-begin k (d .next) (eqb (d .next) 0) (g .0) all (lists-begin k (d .next) (g .0) all) (g .2))
+
+  -- from any place of the walk on
+  from-begin : (k a n i : ℕ) (before all : List Block) → listsFrom id f k a n i before ≡ answer all → Begins before all
+  unfolding listsFrom
+  from-begin zero a n i before all e = apart all 8 0 e
+  from-begin (suc k) a n i before all e =
+      let l = followed (listAt f n a) _ all e in
+      let d : DataList = l .0 in
+      let g = followed (fragments id f (drop a f) d i (d .links - i) before) _ all (l .2) in
+      joint before (g .0) all (fragments-begin (drop a f) d i (d .links - i) before (g .0) (g .1))
+      (on-begin k (d .next) (eqb (d .next) 0) (g .0) all (lists-begin k (d .next) (g .0) all) (g .2))
+
+joined-append : (f : List ℕ) (bs cs : List Block) → joined f (bs ++ cs) ≡ joined f bs ++ joined f cs
+unfolding joined
+joined-append f [] cs = refl
+joined-append f (b ∷ bs) cs = rw (joined-append f bs cs, append-assoc)
+
+-- what comes behind a window does not matter to it
+laid-front : (d : List ℕ) (from : ℕ) (xs ys : List ℕ) → from + length d ≤ length xs → laid d from 0 (xs ++ ys) ≡ laid d from 0 xs
+laid-front d from xs ys h =
+    let more : from + length d ≤ length (xs ++ ys) = omega (arith, length-append xs ys) in
+    let low : from ≤ length xs = omega arith in
+    let room : length d ≤ length (drop from xs) = omega (arith, length-drop from xs) in
+    laid-whole d from (xs ++ ys) more
+    ∙ ap (take (length d)) (drop-append-le from xs ys low) ∙ take-append-le (length d) (drop from xs) ys room
+    ∙ sym (laid-whole d from xs h)
+
+pub lay-full : (d : List ℕ) (from : ℕ) (id f : List ℕ) (start k a n i : ℕ) (bs all : List Block) (out : List ℕ)
+    → chainOf id f start ≡ answer all → chainOf id f start ≡ listsFrom id f k a n i bs
+    → from + length d ≤ length (joined f bs) → out ≡ laid d from 0 (joined f bs) → out ≡ laid d from 0 (joinedOf id f start)
+lay-full d from id f start k a n i bs all out e r full so =
+    let g = from-begin id f k a n i bs all (sym r ∙ e) in
+    lay-end d from id f start all out e
+    (so ∙ sym (ap (λ (xs : List Block). laid d from 0 (joined f xs)) (g .1) ∙ ap (laid d from 0) (joined-append f bs (g .0)) ∙ laid-front d from (joined f bs) (joined f (g .0)) full))
