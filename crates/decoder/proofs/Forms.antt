@@ -1,5 +1,5 @@
 -- A type's kind, values and doubles, by its form.
-use mathlib.Core.Path.{_≡_, refl, ap, _∙_}
+use mathlib.Core.Path.{_≡_, refl}
 use mathlib.Core.Bool.{Bool, true, false, _&&_}
 use mathlib.Core.List.{List}
 use Prim.Native.Nat.{ℕ}
@@ -100,6 +100,3 @@ module _ {form : Form} (t : Bool) where
 
   pub number-tested : {number : Number} {order : Bool} → form ≡ numbered number order → t ≡ isNumber (formKind form) && t
   number-tested {number} e = rw e (number-kinds (λ k. t ≡ isNumber k && t) refl refl number)
-
-pub same-form : {form : Form} {number m : Number} {order : Bool} → form ≡ numbered number order → number ≡ m → form ≡ numbered m order
-same-form {order = order} e h = e ∙ ap (λ (k : Number). numbered k order) h

@@ -5,13 +5,12 @@ ghost use Prim.Native.Nat.{_^_, _<_};
 ghost use lib.Dec.{eqb};
 ghost use Rattle.definitions.specs.Reply.{if_then_else_};
 ghost use Rattle.definitions.specs.Ieee754.{nanPattern};
-ghost use Rattle.definitions.specs.DataType.{integer, floating};
 ghost use Rattle.definitions.specs.Channel.{floatBits, recordDouble};
 ghost use Rattle.blocks.specs.Meaning.{typeMeant};
 ghost use Rattle.decoder.specs.Meaning.{channelMeant};
 ghost use lib.ListN.{length};
-ghost use Rattle.decoder.specs.Form.{formOf, placed};
-ghost use Rattle.decoder.specs.Found.{Near, doubleAt};
+ghost use Rattle.decoder.specs.Form.{numberDouble, placed};
+ghost use Rattle.decoder.specs.Found.{Near, Fitting};
 use crate::channel::Channel;
 use crate::field::FieldFound;
 use crate::field::find_field;
@@ -32,42 +31,14 @@ use words::near_le;
 // What stands for no value
 const NAN: u64 = 0x7ff8_0000_0000_0000;
 
-fn integer_double(
-    record: &[u8],
-    record_id_size: usize,
-    signed: bool,
-    big_endian: bool,
-    channel: Channel,
-) -> u64
-    requires { ⌜ formOf (typeMeant (channel .«data_type»)) ≡ Form.Number (Number.Integer signed) «big_endian» ⌝ }
-    ensures { λ r. ⌜ r ≡ doubleAt integer (now («record» .entry)) «record_id_size» (channelMeant channel) ⌝ }
+fn number_double(number: Number, bit_count: u32, x: u64) -> u64
+    requires { ⌜ Fitting number «bit_count» x ⌝ }
+    ensures { λ r. ⌜ r ≡ numberDouble number «bit_count» x ⌝ }
 {
-    let byte_offset = channel.byte_offset as usize;
-    let number = Number::Integer { signed };
-    let form = Form::Number(number, big_endian);
-    let found = find_field(record, record_id_size, byte_offset, false, form, channel);
-    let FieldFound::Field { at, length } = found else {
-        return NAN;
-    };
-    let bit_offset = channel.bit_offset as u32;
-    let x = number_at(record, at, big_endian, bit_offset, channel.bit_count);
-    double_of_integer(signed, channel.bit_count, x)
-}
-
-fn float_double(record: &[u8], record_id_size: usize, big_endian: bool, channel: Channel) -> u64
-    requires { ⌜ formOf (typeMeant (channel .«data_type»)) ≡ Form.Number Number.Float «big_endian» ⌝ }
-    ensures { λ r. ⌜ r ≡ doubleAt floating (now («record» .entry)) «record_id_size» (channelMeant channel) ⌝ }
-{
-    let byte_offset = channel.byte_offset as usize;
-    let number = Number::Float;
-    let form = Form::Number(number, big_endian);
-    let found = find_field(record, record_id_size, byte_offset, false, form, channel);
-    let FieldFound::Field { at, length } = found else {
-        return NAN;
-    };
-    let bit_offset = channel.bit_offset as u32;
-    let x = number_at(record, at, big_endian, bit_offset, channel.bit_count);
-    float_bits(channel.bit_count, x)
+    match number {
+        Number::Integer { signed } => double_of_integer(signed, bit_count, x),
+        Number::Float => float_bits(bit_count, x),
+    }
 }
 
 // The double of any field
@@ -82,12 +53,14 @@ fn any_double(record: &[u8], record_id_size: usize, channel: Channel) -> u64
     let Form::Number(number, big_endian) = form else {
         return NAN;
     };
-    match number {
-        Number::Integer { signed } => {
-            integer_double(record, record_id_size, signed, big_endian, channel)
-        }
-        Number::Float => float_double(record, record_id_size, big_endian, channel),
-    }
+    let byte_offset = channel.byte_offset as usize;
+    let found = find_field(record, record_id_size, byte_offset, false, form, channel);
+    let FieldFound::Field { at, length: _ } = found else {
+        return NAN;
+    };
+    let bit_offset = channel.bit_offset as u32;
+    let x = number_at(record, at, big_endian, bit_offset, channel.bit_count);
+    number_double(number, channel.bit_count, x)
 }
 
 // It takes numbers and not the channel: that would have to lie in memory for it, and every near field would wait for that.

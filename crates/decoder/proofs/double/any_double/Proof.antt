@@ -1,14 +1,18 @@
--- Each form by itself.
+-- The field that was found gives the double, and NaN stands for a refusal.
 use borrow.Author.Needs.{needs}
-use mathlib.Core.Path.{_≡_, sym, _∙_}
+use mathlib.Core.Path.{_≡_, refl, sym, ap, _∙_}
 use mathlib.Core.Bool.{false}
-use Rattle.definitions.specs.Channel.{variableLength}
+use Prim.Native.Nat.{_+_}
+use denote.Ref.{now}
+use Rattle.definitions.specs.Channel.{variableLength, valueOf, doubleIn}
 use Rattle.blocks.specs.Meaning.{typeMeant}
 use Rattle.decoder.specs.Meaning.{channelMeant}
-use Rattle.decoder.specs.Form.{formOf}
+use Rattle.decoder.specs.Form.{formOf, numberKind}
+use Rattle.decoder.specs.Found.{valueAt}
 use Rattle.decoder.specs.declared.form.Form.the-variants.{Number}
-use Rattle.decoder.proofs.Forms.{same-form}
-use Rattle.decoder.proofs.Doubles.{double-payload, double-other, double-number}
+use Rattle.decoder.proofs.Fields.{readable, fitting}
+use Rattle.decoder.proofs.Values.{looked-for, sound-at}
+use Rattle.decoder.proofs.Doubles.{double-refused, double-found, double-payload, double-fixed, double-other}
 use Rattle.decoder.proofs.double.any_double.Statement.{statement}
 use Rattle.decoder.proofs.double.any_double.Tie as tie
 
@@ -24,21 +28,43 @@ returns c = double-payload _ _ _ (sym (c .before .is-variable-length .ensures) �
 returns-2 : tie.Need-returns-2
 returns-2 c = double-other _ _ _ (fixed (c .before .before .before)) (sym (c .before .before .form-of .ensures) ∙ c .enum-told .given .1)
 
-integer-double-requires : tie.Need-integer-double-requires
-integer-double-requires c κs = same-form (form (c .before .before .before .before)) (c .before .number .given .1)
-
-float-double-requires : tie.Need-float-double-requires
-float-double-requires c κs = same-form (form (c .before .before .before)) (c .enum-told2 .given .1)
+-- what was looked for is the value
+value : (c : tie.After-find-field) →
+    let f = c .before .before .before in
+    let a = f .before .before .before .before .before .before .args in
+    doubleIn (valueAt (numberKind (f .form .given .0 .0)) false (now (a .«record»)) (a .record-id-size + a .channel .«byte_offset») (channelMeant (a .channel)))
+    ≡ doubleIn (valueOf (now (a .«record»)) (a .record-id-size) (channelMeant (a .channel)))
+value c =
+    let f = c .before .before .before in
+    ap doubleIn (looked-for _ _ _ {form = Number (f .form .given .0 .0) (f .form .given .0 .1 .0)} {payload = false} (sym (form f)) (sym (fixed (f .before .before .before))) refl refl)
 
 returns-3 : tie.Need-returns-3
 returns-3 c =
-    let f = c .before .before .before .before .before in
-    double-number _ _ _ (fixed (f .before .before .before)) (same-form (form f) (c .before .before .number .given .1)) (c .integer-double .ensures)
+    let find = c .before .before in
+    let f = find .before .before .before in
+    double-refused (find .find-field .ensures) (c .enum-told2 .given .1) ∙ value find ∙ double-fixed _ _ _ (fixed (f .before .before .before))
+
+number-at-requires : tie.Need-number-at-requires
+number-at-requires c κs =
+    let told = c .before in
+    let find = told .before .before .before in
+    let f = find .before .before .before in
+    readable (f .form .given .0 .0) _ _ _ _ (sound-at (find .find-field .ensures) (told .before .found .given .1))
+
+number-double-requires : tie.Need-number-double-requires
+number-double-requires c κs =
+    let told = c .before .before in
+    let find = told .before .before .before in
+    let f = find .before .before .before in
+    fitting (f .form .given .0 .0) (f .form .given .0 .1 .0) _ _ _ _ (sound-at (find .find-field .ensures) (told .before .found .given .1)) (c .number-at .ensures)
 
 returns-4 : tie.Need-returns-4
 returns-4 c =
-    let f = c .before .before .before .before in
-    double-number _ _ _ (fixed (f .before .before .before)) (same-form (form f) (c .before .enum-told2 .given .1)) (c .float-double .ensures)
+    let told = c .before .before .before in
+    let find = told .before .before .before in
+    let f = find .before .before .before in
+    double-found (find .find-field .ensures) (told .before .found .given .1) (form f) (c .before .number-at .ensures) (c .number-double .ensures)
+    ∙ value find ∙ double-fixed _ _ _ (fixed (f .before .before .before))
 
 pub any-double-spec : {M : Type 1} → statement M
 any-double-spec =
@@ -51,8 +77,11 @@ any-double-spec =
     (λ c. search needs)
     returns-2
     (λ c. search needs)
-    integer-double-requires
+    (λ c κs. search needs)
     (λ c. search needs)
-    float-double-requires
+    (λ c. search needs)
     returns-3
+    (λ c. search needs)
+    number-at-requires
+    number-double-requires
     returns-4)

@@ -1,7 +1,7 @@
 -- A field of 64 bits is a pattern already, and one of 32 widens.
 use borrow.Author.Needs.{needs}
-use borrow.Author.Tests.{eq-eqb, ne-eqb}
-use mathlib.Core.Path.{_≡_, ap, subst, _∙_}
+use borrow.Author.Tests.{ne-eqb}
+use mathlib.Core.Path.{subst}
 use Prim.Native.Nat.{ℕ, _^_, _<_}
 use Rattle.decoder.proofs.double.near_float.Statement.{statement}
 use Rattle.decoder.proofs.double.near_float.Tie as tie
