@@ -5,13 +5,12 @@ use mathlib.Core.Logic.{_⊎_, inl, inr}
 use mathlib.Core.List.{List}
 use Prim.Native.Nat.{ℕ}
 use contract.Lifetimes.{Lfts}
-use denote.Ref.{RefT}
 use Rattle.definitions.specs.Reply.{Reply, Outcome, answer, refusal}
 use Rattle.definitions.specs.Bytes.{little, big}
 use Rattle.definitions.specs.Unicode.{Encoding, latin1, utf8, utf16, textWritten}
 use Rattle.definitions.specs.DataList.{equal, variable}
 use Rattle.definitions.specs.Chain.{fetched}
-use Rattle.theorems.specs.Sole.{Allows}
+use Rattle.theorems.specs.Sole.{Slice, Allows}
 use Rattle.theorems.proofs.LeftAlone.{LeftAlone, header-left, list-left, text-left, fetch-left, fetched-or-left, value-left}
 use Rattle.blocks.specs.Meaning.{headerMeant, writtenReply}
 use Rattle.blocks.specs.declared.header.BlockHeader.{BlockHeader}
@@ -60,10 +59,6 @@ use Rattle.mf4.proofs.mf4_read_record.Kinds as mf4-read-record-kinds
 use Rattle.mf4.proofs.mf4_read_record.Reads as mf4-read-record
 use Rattle.mf4.proofs.mf4_record_value.Kinds as mf4-record-value-kinds
 use Rattle.mf4.proofs.mf4_record_value.Reads as mf4-record-value
-
--- a lent slice: `now` is what it holds
-abbrev Slice : Type 0
-Slice = RefT (List ℕ)
 
 abbrev Refused : {A : Type 0} → Reply A → Type 0
 Refused r = (n : ℕ) × (t : ℕ) × (r ≡ refusal n t)

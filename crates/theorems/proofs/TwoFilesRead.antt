@@ -5,7 +5,6 @@ use mathlib.Core.Path.{_≡_, sym, ap, _∙_}
 use mathlib.Core.List.{List}
 use Prim.Native.Nat.{ℕ}
 use contract.Lifetimes.{Lfts}
-use denote.Ref.{RefT}
 use Rattle.definitions.specs.Reply.{Outcome}
 use Rattle.definitions.specs.Channel.{ValidValue}
 use Rattle.chain.specs.Meaning.{fetchedBy}
@@ -30,12 +29,8 @@ use Rattle.mf4.proofs.mf4_read_record.Kinds as record-c-kinds
 use Rattle.mf4.proofs.mf4_read_record.Reads as record-c-reads
 use Rattle.mf4.proofs.mf4_record_value.Kinds as value-c-kinds
 use Rattle.mf4.proofs.mf4_record_value.Reads as value-c-reads
-use Rattle.theorems.specs.Sole.{Allows}
+use Rattle.theorems.specs.Sole.{Slice, Allows}
 use Rattle.theorems.proofs.TwoFiles.{Joins, recordIn, valueIn, record-of-joined, value-of-joined}
-
--- a lent slice: `now` is what it holds
-abbrev Slice : Type 0
-Slice = RefT (List ℕ)
 
 -- Of a call that is given a file, a start and a buffer, with all else fixed: `Says` is its clause, of a result and of what
 -- the buffer holds afterwards; `meaning` is what those two mean, and `given` what the definitions give on the joined bytes

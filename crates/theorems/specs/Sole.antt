@@ -6,10 +6,15 @@ use mathlib.Core.Path.{_≡_}
 use mathlib.Core.List.{List}
 use contract.Lifetimes.{Lfts}
 use contract.Monad.{fact}
+use denote.Ref.{RefT}
 use denote.Triple.Clauses.{Lasts, AtExit, atExit}
 use borrow.Fn.Kind.{PK, RK}
 use borrow.Fn.Kinds.{In, Out, Dens, resT, endedOf}
 use borrow.Fn.World.{World, Pr}
+
+-- a lent slice: `now` is what it holds
+abbrev pub Slice : Type 0
+Slice = RefT (List ℕ)
 
 -- a call with n lent references, parameters ps and result r
 module _ (n : ℕ) (ps : List (PK n)) (r : RK n) where
