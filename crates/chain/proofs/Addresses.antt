@@ -8,7 +8,7 @@ use native.Mathlib.Nat.{add-zero}
 use lib.ListN.{length, take, drop, length-drop}
 use lib.Seq.{take-all, drop-drop, getD-drop}
 use lib.Dec.{leb, ltb, eqb}
-use borrow.Author.Tests.{eq-eqb, ne-eqb, lt-leb, le-leb, lt-ltb, le-ltb, leb-true, leb-false, ltb-true, ltb-false, eqb-false, not-true}
+use borrow.Author.Tests.{eq-eqb, ne-eqb, lt-leb, le-leb, lt-ltb, le-ltb, leb-true, ltb-true, ltb-false, eqb-false, not-true}
 use Rattle.definitions.specs.Bytes.{span, idAt}
 use Rattle.definitions.specs.Chain.{hasHeader}
 use Rattle.definitions.proofs.Replies.{both}
@@ -29,23 +29,6 @@ module _ (at size len : ℕ) where
 
   pub past-by : size ≤ len → ltb (len - size) at ≡ ltb len (at + size)
   past-by l = past-test (ltb (len - size) at) refl l
-
--- ---- a start
-
-module _ (at from size : ℕ) where
-  pub behind-none : at < from → false ≡ leb (from + size) at
-  behind-none l = let h : at < from + size = omega arith in sym (lt-leb _ _ h)
-
-  behind-test : (t : Bool) → leb size (at - from) ≡ t → from ≤ at → t ≡ leb (from + size) at
-  behind-test true e l =
-      let h : from + size ≤ at = omega (arith, leb-true size (at - from) e) in
-      sym (le-leb _ _ h)
-  behind-test false e l =
-      let h : at < from + size = omega (arith, leb-false size (at - from) e) in
-      sym (lt-leb _ _ h)
-
-  pub behind-by : from ≤ at → leb size (at - from) ≡ leb (from + size) at
-  behind-by l = behind-test (leb size (at - from)) refl l
 
 -- ---- an address
 

@@ -6,7 +6,7 @@ use Prim.Native.Nat.{ℕ, _+_, _-_, _^_, _≤_, _<_}
 use native.Mathlib.Omega.{arith}
 use lib.ListN.{length}
 use lib.Dec.{ltb, leb, eqb}
-use borrow.Author.Tests.{leb-true, leb-false, le-leb, lt-leb, le-ltb, lt-ltb, eq-eqb, ne-eqb}
+use borrow.Author.Tests.{leb-true, le-ltb, lt-ltb, eq-eqb, ne-eqb}
 use Rattle.definitions.specs.Reply.{Reply, if_then_else_}
 use Rattle.definitions.specs.Bytes.{span, bytesFor, numberOf, fieldAt}
 use Rattle.definitions.specs.Ieee754.{nanPattern}
@@ -27,30 +27,15 @@ use Rattle.words.proofs.Bits.{field-below}
 
 -- ---- the test
 
-module _ (length skipped offset : ℕ) where
-  pub no-word : length < skipped → false ≡ leb (skipped + offset + 8) length
-  no-word h = let l : length < skipped + offset + 8 = omega arith in sym (lt-leb _ _ l)
-
-  word-test : (t : Bool) → leb (offset + 8) (length - skipped) ≡ t → skipped ≤ length → t ≡ leb (skipped + offset + 8) length
-  word-test true e h =
-      let l : skipped + offset + 8 ≤ length = omega (arith, leb-true (offset + 8) (length - skipped) e) in
-      sym (le-leb _ _ l)
-  word-test false e h =
-      let l : length < skipped + offset + 8 = omega (arith, leb-false (offset + 8) (length - skipped) e) in
-      sym (lt-leb _ _ l)
-
-  pub word-by : skipped ≤ length → leb (offset + 8) (length - skipped) ≡ leb (skipped + offset + 8) length
-  word-by h = word-test (leb (offset + 8) (length - skipped)) refl h
-
 -- a channel of another type than 1 has no payload
 pub no-payload : (c : Channel) → (c .channelType ≡ 1 → ⊥) → variableLength c ≡ false
 no-payload c h = rw (ne-eqb _ _ h)
 
-pub near-by : (length skipped : ℕ) (c : Channel) → variableLength c ≡ false → leb (skipped + c .byteOffset + 8) length ≡ true → c .bitOffset ≤ 7
+pub near-by : (length skipped : ℕ) (c : Channel) → variableLength c ≡ false → leb (skipped + (c .byteOffset + 8)) length ≡ true → c .bitOffset ≤ 7
     → (c .bitCount ≡ 0 → ⊥) → c .bitOffset + c .bitCount ≤ 64 → Near length skipped c
 near-by length skipped c p w o z f = record {
   fixed = p;
-  word = leb-true _ _ w;
+  word = omega (arith, leb-true (skipped + (c .byteOffset + 8)) length w);
   offset = omega arith;
   some = above z;
   few = f;

@@ -9,7 +9,7 @@ use crate::channel::Channel;
 
 // By subtraction, since the sum may be past every number that fits.
 pub(crate) fn has_a_word(length: usize, skipped: usize, byte_offset: u32) -> bool
-    ensures { λ r. ⌜ r ≡ leb (skipped + «byte_offset» + 8) length ⌝ }
+    ensures { λ r. ⌜ r ≡ leb (skipped + («byte_offset» + 8)) length ⌝ }
 {
     if length < skipped {
         return false;

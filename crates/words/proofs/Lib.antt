@@ -8,3 +8,4 @@ pub mod Shifts
 pub mod Ways
 pub mod Signs
 pub mod Ids
+pub mod Ends

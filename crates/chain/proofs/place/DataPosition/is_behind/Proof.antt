@@ -1,13 +1,13 @@
 use borrow.Author.Needs.{needs}
-use Rattle.chain.proofs.Addresses.{behind-none, behind-by}
+use Rattle.words.proofs.Ends.{front-outside, fits-behind}
 use Rattle.chain.proofs.place.DataPosition.is_behind.Statement.{statement}
 use Rattle.chain.proofs.place.DataPosition.is_behind.Tie as tie
 
 returns : tie.Need-returns
-returns c = behind-none _ _ _ (c .if1 .taken)
+returns c = front-outside _ _ _ (c .if1 .taken)
 
 returns-2 : tie.Need-returns-2
-returns-2 c = let e = c .before .before in behind-by _ _ _ (e .if1 .left)
+returns-2 c = let e = c .before .before in fits-behind _ _ _ (e .if1 .left)
 
 pub is-behind-spec : {M : Type 1} → statement M
 is-behind-spec = tie.close (tie.spec returns returns-2)
