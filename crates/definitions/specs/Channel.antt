@@ -98,7 +98,7 @@ isFloating undecoded = false
 abbrev pub isNumber : Kind → Bool
 isNumber k = isInteger k || isFloating k
 
--- 1
+-- 1: the field stands for nothing
 abbrev pub noValue : {A : Type 0} → Reply A
 noValue = refusal 1 0
 
@@ -136,7 +136,7 @@ recordDouble s idSize c = if variableLength c then nanPattern else doubleIn (val
 
 -- ---- validity
 
--- flag 0: never valid. Without flag 1: always. With it, where the invalidation bit is clear; bits beyond the slice are
+-- flag 0: never. Without flag 1: always. With it, where the invalidation bit is clear, as one beyond the slice counts
 unfoldable pub validOf : List ℕ → ℕ → ℕ → Channel → Bool
 validOf s idSize dataBytes c =
     if eqb (bit (c .flags) 0) 1 then false
