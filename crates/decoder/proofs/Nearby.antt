@@ -6,14 +6,15 @@ use Prim.Native.Nat.{ℕ, _+_, _-_, _^_, _≤_, _<_}
 use native.Mathlib.Omega.{arith}
 use lib.ListN.{length}
 use lib.Dec.{ltb, leb, eqb}
-use borrow.Author.Tests.{leb-true, le-ltb, lt-ltb, eq-eqb, ne-eqb}
+use borrow.Author.Tests.{leb-true, le-ltb, lt-ltb, eq-eqb, ne-eqb, eqb-false, not-true}
 use Rattle.definitions.specs.Reply.{Reply, if_then_else_}
 use Rattle.definitions.specs.Bytes.{span, bytesFor, numberOf, fieldAt}
 use Rattle.definitions.specs.Ieee754.{nanPattern}
 use Rattle.definitions.specs.DataType.{DataType, unsignedInteger, signedInteger, float, complex, string, byteArray, mimeSample, mimeStream, canOpenDate, canOpenTime, unknown, Kind, integer, floating, whole, undecoded, kindOf}
 use Rattle.definitions.specs.Channel.{Channel, Value, variableLength, startOf, bitSpan, spanIn, spanOf, floatBits, decoded, isNumber, isInteger, isFloating, noValue, valueBy, valueOf, doubleIn, recordDouble}
+use Rattle.definitions.proofs.Replies.{both}
 use Rattle.decoder.specs.Form.{orderMeant, formOf, placed, numberKind, numberDouble}
-use Rattle.decoder.specs.Found.{Near, Found, Fitting, valueAt}
+use Rattle.decoder.specs.Found.{Near, isNear, Found, Fitting, valueAt}
 use Rattle.decoder.specs.declared.form.Number as numbers
 use Rattle.decoder.specs.declared.form.Number.the-variants.{Integer, Float}
 use Rattle.decoder.specs.declared.form.Form.{Form}
@@ -43,6 +44,18 @@ near-by length skipped c p w o z f = record {
   where
     above : (c .bitCount ≡ 0 → ⊥) → 1 ≤ c .bitCount
     above h = omega arith
+
+pub near-of : (length skipped : ℕ) (c : Channel) → isNear length skipped c ≡ true → Near length skipped c
+near-of length skipped c h =
+    let type = not (eqb (c .channelType) 1) in
+    let word = leb (skipped + (c .byteOffset + 8)) length in
+    let low = leb (c .bitOffset) 7 in
+    let some = not (eqb (c .bitCount) 0) in
+    let p = both (type && word && low && some) (leb (c .bitOffset + c .bitCount) 64) h in
+    let q = both (type && word && low) some (p .0) in
+    let r = both (type && word) low (q .0) in
+    let t = both type word (r .0) in
+    near-by length skipped c (no-payload c (eqb-false _ _ (not-true _ (t .0)))) (t .1) (leb-true _ _ (r .1)) (eqb-false _ _ (not-true _ (q .1))) (leb-true _ _ (p .1))
 
 -- ---- what it gives
 

@@ -9,6 +9,7 @@ use Rattle.definitions.specs.Unicode.{latin1, utf8, utf16, stopped}
 use Rattle.definitions.specs.Ieee754.{doubleOf}
 use Rattle.definitions.specs.DataType.{DataType, unsignedInteger, signedInteger, float, complex, string, byteArray, mimeSample, mimeStream, canOpenDate, canOpenTime, unknown, Kind, integer, floating, whole, undecoded}
 use Rattle.definitions.specs.Channel.{Channel, Value, unsigned, signed, text, bytes, sample, stream, unknownValue, doubleValue, floatBits, numberIn}
+pub use Rattle.text.specs.Meaning.{orderMeant}
 use Rattle.text.specs.Meaning.{encodingOf}
 use Rattle.text.specs.declared.encoding.Encoding.the-variants.{Latin1, Utf8, Utf16Le, Utf16Be}
 use Rattle.decoder.specs.declared.form.Number as numbers
@@ -21,10 +22,6 @@ use Rattle.decoder.specs.declared.form.Content.the-variants.{Text, ByteA
 abbrev pub isBig : Order → Bool
 isBig little = false
 isBig big = true
-
-abbrev pub orderMeant : Bool → Order
-orderMeant false = little
-orderMeant true = big
 
 abbrev pub formOf : DataType → Form
 formOf (unsignedInteger o) = Number (Integer false) (isBig o)
@@ -69,9 +66,6 @@ placed type channelType bitOffset byteOffset bitCount dataLink = record {
   invalidationBit = 0;
   dataLink = dataLink;
 }
-
-abbrev pub numbered : numbers.Number → Bool → Form
-numbered = Number
 
 -- what the field x of a number stands for, and as a double
 abbrev pub numberValue : numbers.Number → ℕ → ℕ → Value

@@ -1,9 +1,10 @@
 -- What is known of a field that was found, and of one that was refused.
 use mathlib.Core.Path.{_≡_}
-use mathlib.Core.Bool.{Bool, true, false}
+use mathlib.Core.Bool.{Bool, true, false, not, _&&_}
 use mathlib.Core.List.{List}
 use Prim.Native.Nat.{ℕ, _+_, _^_, _≤_, _<_}
 use lib.ListN.{length}
+use lib.Dec.{leb, eqb}
 use Rattle.definitions.specs.Reply.{Reply, answer}
 use Rattle.definitions.specs.Bytes.{bytesFor}
 use Rattle.definitions.specs.DataType.{Kind}
@@ -37,6 +38,12 @@ pub record Near (length idSize : ℕ) (c : Channel) : Type 0 where
   pub offset : c .bitOffset < 8
   pub some : 1 ≤ c .bitCount
   pub few : c .bitOffset + c .bitCount ≤ 64
+
+-- as a test, which leaves every channel of type 1 to the general way
+abbrev pub isNear : ℕ → ℕ → Channel → Bool
+isNear length idSize c =
+    not (eqb (c .channelType) 1) && leb (idSize + (c .byteOffset + 8)) length && leb (c .bitOffset) 7
+    && not (eqb (c .bitCount) 0) && leb (c .bitOffset + c .bitCount) 64
 
 -- n bytes at `at` are the channel's field, of kind k
 pub record Sound (k : Kind) (s : List ℕ) (at n : ℕ) (c : Channel) : Type 0 where

@@ -5,7 +5,7 @@ ghost use Rattle.definitions.specs.Channel.{valueOf, validValueOf};
 ghost use Rattle.decoder.specs.Meaning.{channelMeant, valueMeant, valueReply, validValueReply};
 ghost use lib.ListN.{length};
 ghost use Rattle.blocks.specs.Meaning.{typeMeant};
-ghost use Rattle.decoder.specs.Form.{numbered, formOf, formKind, formValue, placed};
+ghost use Rattle.decoder.specs.Form.{formOf, formKind, formValue, placed};
 ghost use Rattle.decoder.specs.Found.{Near, Sound};
 use crate::channel::Channel;
 use crate::content::content_at;
@@ -99,7 +99,7 @@ fn near_value(
     big_endian: bool,
     channel: Channel,
 ) -> ValueRead
-    requires { ⌜ Near (length (now «record»)) «record_id_size» (channelMeant channel) × (formOf (typeMeant (channel .«data_type»)) ≡ numbered number «big_endian») ⌝ }
+    requires { ⌜ Near (length (now «record»)) «record_id_size» (channelMeant channel) × (formOf (typeMeant (channel .«data_type»)) ≡ Form.Number number «big_endian») ⌝ }
     ensures { λ r. ⌜ valueReply r ≡ valueOf (now («record» .entry)) «record_id_size» (channelMeant channel) ⌝ }
 {
     let form = Form::Number(number, big_endian);

@@ -1,10 +1,9 @@
 // Fields that the eight bytes from their first one on hold. Nearly all are so, and one load reads them.
 ghost use mathlib.Core.Path.{_≡_};
-ghost use mathlib.Core.Bool.{true};
 ghost use Prim.Native.Nat.{_+_};
 ghost use lib.Dec.{leb};
 ghost use Rattle.decoder.specs.Meaning.{channelMeant};
-ghost use Rattle.decoder.specs.Found.{Near};
+ghost use Rattle.decoder.specs.Found.{isNear};
 use crate::channel::Channel;
 
 // By subtraction, since the sum may be past every number that fits.
@@ -19,7 +18,7 @@ pub(crate) fn has_a_word(length: usize, skipped: usize, byte_offset: u32) -> boo
 
 // Whether a number of that description can be read so. What is not near may still be a field.
 pub(crate) fn is_near(length: usize, skipped: usize, channel: Channel) -> bool
-    ensures { λ r. ⌜ (r ≡ true → Near length skipped (channelMeant channel)) ⌝ }
+    ensures { λ r. ⌜ r ≡ isNear length skipped (channelMeant channel) ⌝ }
 {
     if channel.channel_type == 1 {
         return false;

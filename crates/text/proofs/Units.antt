@@ -11,7 +11,7 @@ use lib.ListN.{length, getD, drop}
 use lib.Seq.{sets}
 use Rattle.definitions.specs.Bytes.{Order}
 use Rattle.definitions.specs.Unicode.{utf16, unitOf, utf8Of, damage, chars, charsUtf8}
-use Rattle.text.specs.Meaning.{orderOf}
+use Rattle.text.specs.Meaning.{orderMeant}
 use Rattle.text.specs.Parts.{highByte, CharRead}
 use Rattle.text.specs.declared.character.Char.{Char}
 use Rattle.text.specs.declared.character.Char.the-variants.{Scalar, Damage}
@@ -19,7 +19,7 @@ use Rattle.text.proofs.FirstChar.{Bytes, read-unit, read-half}
 use Rattle.text.proofs.Walk.{rest, Turn, turn, damage-here, Measured, measured-turn, Wrote, wrote-turn, wrote-damage, wrote-end}
 
 -- the unit at a place by its high byte and its low one
-pub unit-placed : (big : Bool) (s : List ℕ) (at h : ℕ) → h ≡ highByte big → getD s (at + h) 0 * 256 + getD s (at + (1 - h)) 0 ≡ unitOf (orderOf big) (getD s at 0) (getD s (at + 1) 0)
+pub unit-placed : (big : Bool) (s : List ℕ) (at h : ℕ) → h ≡ highByte big → getD s (at + h) 0 * 256 + getD s (at + (1 - h)) 0 ≡ unitOf (orderMeant big) (getD s at 0) (getD s (at + 1) 0)
 unit-placed true s at h e = rw (e, add-zero at)
 unit-placed false s at h e = rw (e, add-zero at) (omega arith)
 

@@ -20,9 +20,9 @@ encodingOf Utf16Le = utf16 little
 encodingOf Utf16Be = utf16 big
 
 -- the byte order, told as a flag
-abbrev pub orderOf : Bool → Order
-orderOf true = big
-orderOf false = little
+abbrev pub orderMeant : Bool → Order
+orderMeant true = big
+orderMeant false = little
 
 abbrev pub charMeant : Char → Character
 charMeant (Scalar c more) = scalar c more

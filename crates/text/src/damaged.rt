@@ -2,7 +2,7 @@
 ghost use mathlib.Core.Path.{_≡_};
 ghost use mathlib.Core.Bool.{true};
 ghost use Rattle.definitions.specs.Unicode.{utf8, utf16, placeholder, writtenText};
-ghost use Rattle.text.specs.Meaning.{orderOf, wrote};
+ghost use Rattle.text.specs.Meaning.{orderMeant, wrote};
 ghost use Rattle.text.specs.Parts.{asIs};
 use crate::answer::TextWrite;
 use crate::unchanged::write_unchanged;
@@ -14,7 +14,7 @@ pub fn write_damaged_utf8(out: &mut [u8]) -> TextWrite
 }
 
 pub fn write_damaged_utf16(big_endian: bool, out: &mut [u8]) -> TextWrite
-    ensures { λ r. ⌜ wrote r (now (out .exit)) ≡ writtenText (now (out .entry)) (asIs (placeholder (utf16 (orderOf «big_endian»))) true) ⌝ }
+    ensures { λ r. ⌜ wrote r (now (out .exit)) ≡ writtenText (now (out .entry)) (asIs (placeholder (utf16 (orderMeant «big_endian»))) true) ⌝ }
 {
     if big_endian {
         write_unchanged(b"<Invalid UTF16BE>", true, out)

@@ -4,7 +4,7 @@ ghost use Prim.Native.Nat.{_+_, _≤_, _<_};
 ghost use lib.ListN.{length, getD, drop};
 ghost use lib.Seq.{sets};
 ghost use Rattle.definitions.specs.Unicode.{utf16, unitOf, utf16Char, chars, charsUtf8, writtenText};
-ghost use Rattle.text.specs.Meaning.{orderOf, charMeant, wrote};
+ghost use Rattle.text.specs.Meaning.{orderMeant, charMeant, wrote};
 ghost use Rattle.text.specs.Parts.{highByte, CharRead, sizeOf, wholeText};
 use crate::answer::TextWrite;
 use crate::character::Char;
@@ -54,7 +54,7 @@ fn high_byte(big_endian: bool) -> usize
 
 fn unit_at(text: &[u8], at: usize, big_endian: bool) -> u32
     requires { ⌜ at + 1 < length (now text) ⌝ }
-    ensures { λ r. ⌜ r ≡ unitOf (orderOf «big_endian») (getD (now (text .entry)) at 0) (getD (now (text .entry)) (at + 1) 0) ⌝ }
+    ensures { λ r. ⌜ r ≡ unitOf (orderMeant «big_endian») (getD (now (text .entry)) at 0) (getD (now (text .entry)) (at + 1) 0) ⌝ }
 {
     let high = high_byte(big_endian);
     let low = 1 - high;
@@ -64,7 +64,7 @@ fn unit_at(text: &[u8], at: usize, big_endian: bool) -> u32
 // by two units, which is as long as a character can be: in fewer than four bytes the second does not matter
 fn char_at(text: &[u8], at: usize, big_endian: bool) -> Char
     requires { ⌜ at + 1 < length (now text) ⌝ }
-    ensures { λ r. ⌜ CharRead (utf16 (orderOf «big_endian»)) (drop at (now (text .entry))) r ⌝ }
+    ensures { λ r. ⌜ CharRead (utf16 (orderMeant «big_endian»)) (drop at (now (text .entry))) r ⌝ }
 {
     let unit = unit_at(text, at, big_endian);
     let left = text.len() - at;
@@ -82,7 +82,7 @@ pub enum Size {
 
 // a unit below the surrogates decides alone; half a unit at the end is damage
 fn measure(text: &[u8], big_endian: bool) -> Size
-    ensures { λ r. ⌜ r ≡ sizeOf (chars (utf16 (orderOf «big_endian»)) 0 (now (text .entry))) ⌝ }
+    ensures { λ r. ⌜ r ≡ sizeOf (chars (utf16 (orderMeant «big_endian»)) 0 (now (text .entry))) ⌝ }
 {
     let mut at: usize = 0;
     let mut size: usize = 0;
@@ -107,8 +107,8 @@ fn measure(text: &[u8], big_endian: bool) -> Size
 
 // damage writes nothing, and there is none where the text was measured
 fn put_utf16(text: &[u8], big_endian: bool, out: &mut [u8])
-    requires { ⌜ length (charsUtf8 (chars (utf16 (orderOf «big_endian»)) 0 (now text))) ≤ length (now out) ⌝ }
-    ensures { λ _. ⌜ now (out .exit) ≡ sets (now (out .entry)) 0 (charsUtf8 (chars (utf16 (orderOf «big_endian»)) 0 (now (text .entry)))) ⌝ }
+    requires { ⌜ length (charsUtf8 (chars (utf16 (orderMeant «big_endian»)) 0 (now text))) ≤ length (now out) ⌝ }
+    ensures { λ _. ⌜ now (out .exit) ≡ sets (now (out .entry)) 0 (charsUtf8 (chars (utf16 (orderMeant «big_endian»)) 0 (now (text .entry)))) ⌝ }
 {
     let mut at: usize = 0;
     let mut end: usize = 0;
@@ -133,7 +133,7 @@ fn put_utf16(text: &[u8], big_endian: bool, out: &mut [u8])
 }
 
 pub fn write_utf16(text: &[u8], big_endian: bool, out: &mut [u8]) -> TextWrite
-    ensures { λ r. ⌜ wrote r (now (out .exit)) ≡ writtenText (now (out .entry)) (wholeText (utf16 (orderOf «big_endian»)) (now (text .entry))) ⌝ }
+    ensures { λ r. ⌜ wrote r (now (out .exit)) ≡ writtenText (now (out .entry)) (wholeText (utf16 (orderMeant «big_endian»)) (now (text .entry))) ⌝ }
 {
     let Size::Sound(size) = measure(text, big_endian) else {
         return write_damaged_utf16(big_endian, out);

@@ -1,6 +1,6 @@
 use borrow.Author.Needs.{needs}
 use native.Mathlib.Omega.{arith}
-use Rattle.text.specs.Meaning.{orderOf}
+use Rattle.text.specs.Meaning.{orderMeant}
 use Rattle.text.proofs.FirstChar.{read-short, read-pair}
 use Rattle.text.proofs.utf16.char_at.Statement.{statement}
 use Rattle.text.proofs.utf16.char_at.Tie as tie
@@ -10,7 +10,7 @@ returns c =
     let q = c .before in
     let u = q .before .before in
     let s = u .before .before .args in
-    read-short (orderOf (s .big-endian)) (s .text .now) (s .at) _ _ (q .utf16-char .result) (c .within .result)
+    read-short (orderMeant (s .big-endian)) (s .text .now) (s .at) _ _ (q .utf16-char .result) (c .within .result)
     (λ i. omega (arith, u .before .shared-slice-known .given i)) (q .before .if1 .taken) (u .unit-at .ensures) (q .utf16-char .ensures) (c .within .ensures)
 
 returns-2 : tie.Need-returns-2
@@ -19,7 +19,7 @@ returns-2 c =
     let n = q .before in
     let u = n .before .before in
     let s = u .before .before .args in
-    read-pair (orderOf (s .big-endian)) (s .text .now) (s .at) _ _ (q .utf16-char2 .result) (c .within2 .result)
+    read-pair (orderMeant (s .big-endian)) (s .text .now) (s .at) _ _ (q .utf16-char2 .result) (c .within2 .result)
     (λ i. omega (arith, u .before .shared-slice-known .given i)) (u .unit-at .ensures) (n .unit-at2 .ensures) (q .utf16-char2 .ensures) (c .within2 .ensures)
 
 pub char-at-spec : {M : Type 1} → statement M

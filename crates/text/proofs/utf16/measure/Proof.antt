@@ -3,14 +3,14 @@ use native.Mathlib.Omega.{arith}
 use Prim.Native.Nat.{_-_}
 use lib.ListN.{length}
 use Rattle.definitions.specs.Unicode.{utf16}
-use Rattle.text.specs.Meaning.{orderOf}
+use Rattle.text.specs.Meaning.{orderMeant}
 use Rattle.text.proofs.Walk.{Measured, measured-start, measured-turn, measured-sound, measured-damage}
 use Rattle.text.proofs.Units.{unit-turn, low-turn, low-measured, unit-damage, half-left}
 use Rattle.text.proofs.utf16.measure.Statement.{statement}
 use Rattle.text.proofs.utf16.measure.Tie as tie
 
 abbrev Inv-loop : tie.InvT-loop
-Inv-loop text big at₀ size₀ at size = Measured (utf16 (orderOf big)) text at size
+Inv-loop text big at₀ size₀ at size = Measured (utf16 (orderMeant big)) text at size
 
 abbrev μ-loop : tie.MeasureT-loop
 μ-loop text big at₀ size₀ at size = length text - at
@@ -25,7 +25,7 @@ add-size c =
     let l = u .before .before in
     let s = l .before in
     let a = s .before .args in
-    let t = low-turn (orderOf (a .big-endian)) (a .text .now) _ _ (λ i. omega (arith, s .shared-slice-known .given i)) (u .before .loop-test .taken) (u .unit-at .ensures) (c .before .if1 .taken) in
+    let t = low-turn (orderMeant (a .big-endian)) (a .text .now) _ _ (λ i. omega (arith, s .shared-slice-known .given i)) (u .before .loop-test .taken) (u .unit-at .ensures) (c .before .if1 .taken) in
     omega (arith, c .utf8-width .ensures)
 
 loop-again : tie.Need-loop-again Inv-loop μ-loop
@@ -34,7 +34,7 @@ loop-again c =
     let l = u .before .before in
     let s = l .before in
     let a = s .before .args in
-    let t = low-turn (orderOf (a .big-endian)) (a .text .now) _ _ (λ i. omega (arith, s .shared-slice-known .given i)) (u .before .loop-test .taken) (u .unit-at .ensures) (c .before .if1 .taken) in
+    let t = low-turn (orderMeant (a .big-endian)) (a .text .now) _ _ (λ i. omega (arith, s .shared-slice-known .given i)) (u .before .loop-test .taken) (u .unit-at .ensures) (c .before .if1 .taken) in
     low-measured _ _ _ _ _ _ (l .loop .inv) t (c .utf8-width .ensures)
 
 -- any other

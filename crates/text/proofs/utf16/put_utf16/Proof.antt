@@ -3,14 +3,14 @@ use native.Mathlib.Omega.{arith}
 use Prim.Native.Nat.{_-_}
 use lib.ListN.{length}
 use Rattle.definitions.specs.Unicode.{utf16}
-use Rattle.text.specs.Meaning.{orderOf}
+use Rattle.text.specs.Meaning.{orderMeant}
 use Rattle.text.proofs.Walk.{Wrote, wrote-start, wrote-room, wrote-turn, wrote-damage}
 use Rattle.text.proofs.Units.{unit-turn, low-turn, low-wrote, unit-damage, units-end}
 use Rattle.text.proofs.utf16.put_utf16.Statement.{statement}
 use Rattle.text.proofs.utf16.put_utf16.Tie as tie
 
 abbrev Inv-loop : tie.InvT-loop
-Inv-loop text big out₀ at₀ end₀ out at end = Wrote (utf16 (orderOf big)) text out₀ out at end
+Inv-loop text big out₀ at₀ end₀ out at end = Wrote (utf16 (orderMeant big)) text out₀ out at end
 
 abbrev μ-loop : tie.MeasureT-loop
 μ-loop text big out₀ at₀ end₀ out at end = length text - at
