@@ -11,17 +11,13 @@ use borrow.Author.Tests.{ltb-false}
 use Rattle.definitions.specs.Reply.{Reply, answer, refusal, if_then_else_, needing, told}
 use Rattle.definitions.specs.Bytes.{u32At, u64At, le}
 use Rattle.definitions.specs.Header.{Header, headerIn, headerOf, headerBytes, headerWritten}
-use Rattle.definitions.proofs.Replies.{needing-short, needing-met, writing-short, writing-met}
+use Rattle.definitions.proofs.Replies.{not-answered, needing-short, needing-met, writing-short, writing-met}
 use Rattle.definitions.proofs.Stores.{stored-then}
 use Rattle.words.proofs.Numbers.{length-le}
 
--- a reply is an answer or a refusal
-pub apart : {A B : Type 0} (a : A) (n t : ℕ) → refusal n t ≡ answer a → B
-apart a n t h = let z : _≡_ {A = ℕ} 0 1 = cc in let no : ⊥ = omega arith in absurd no
-
 module _ {A : Type 0} (s : List ℕ) (n : ℕ) (r : Reply A) (a : A) where
   by-test : (b : Bool) → ltb (length s) n ≡ b → (if b then refusal 2 (told n) else r) ≡ answer a → (n ≤ length s) × (r ≡ answer a)
-  by-test true e h = apart a _ _ h
+  by-test true e h = not-answered a _ _ h
   by-test false e h = (ltb-false _ _ e, h)
 
   -- an answer tells that the bytes are there

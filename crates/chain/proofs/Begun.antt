@@ -12,7 +12,7 @@ use Rattle.definitions.specs.DataList.{DataList}
 use Rattle.definitions.specs.Chain.{Block, joined, fragmentOf, fragments, listAt, lists, chainOf}
 use Rattle.chain.specs.Walk.{listsFrom}
 use Rattle.chain.specs.Window.{laid, joinedOf}
-use Rattle.blocks.proofs.Headers.{apart}
+use Rattle.definitions.proofs.Replies.{not-answered}
 use Rattle.chain.proofs.Answers.{followed, answered}
 use Rattle.chain.proofs.Laying.{laid-whole, lay-end}
 
@@ -42,7 +42,7 @@ module _ (id f : List ℕ) where
 
   lists-begin : (k a : ℕ) (before all : List Block) → lists id f k a before ≡ answer all → Begins before all
   unfolding lists
-  lists-begin zero a before all e = apart all 8 0 e
+  lists-begin zero a before all e = not-answered all 8 0 e
   lists-begin (suc k) a before all e =
       let l = followed (listAt f (length before) a) _ all e in
       let d : DataList = l .0 in
@@ -53,7 +53,7 @@ module _ (id f : List ℕ) where
   -- from any place of the walk on
   from-begin : (k a n i : ℕ) (before all : List Block) → listsFrom id f k a n i before ≡ answer all → Begins before all
   unfolding listsFrom
-  from-begin zero a n i before all e = apart all 8 0 e
+  from-begin zero a n i before all e = not-answered all 8 0 e
   from-begin (suc k) a n i before all e =
       let l = followed (listAt f n a) _ all e in
       let d : DataList = l .0 in

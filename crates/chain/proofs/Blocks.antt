@@ -12,7 +12,8 @@ use Rattle.definitions.specs.Reply.{answer, refusal}
 use Rattle.definitions.specs.Bytes.{u64At, idAt}
 use Rattle.definitions.specs.Header.{Header, headerOf, headerIn}
 use Rattle.definitions.specs.Chain.{Block, hasHeader, blockAt}
-use Rattle.blocks.proofs.Headers.{apart, header-met, header-answered}
+use Rattle.definitions.proofs.Replies.{not-answered}
+use Rattle.blocks.proofs.Headers.{header-met, header-answered}
 use Rattle.definitions.specs.Accepted.{BlockStands}
 use Rattle.chain.proofs.Addresses.{header-there}
 use Rattle.chain.proofs.Answers.{passed, answered}
@@ -26,7 +27,7 @@ module _ (id f : List ℕ) (a : ℕ) where
     -- its header is not refused
     pub header-stands : {B : Type 0} (n t : ℕ) → headerOf (drop a f) ≡ refusal n t → B
     header-stands n t h =
-        apart (headerIn (drop a f)) n t (sym h ∙ header-met (drop a f) (omega (arith, length-drop a f, header-there f a there)))
+        not-answered (headerIn (drop a f)) n t (sym h ∙ header-met (drop a f) (omega (arith, length-drop a f, header-there f a there)))
 
     pub block-other : idAt f a id ≡ false → refusal 12 0 ≡ blockAt id f a
     unfolding blockAt

@@ -9,7 +9,7 @@ use lib.Dec.{eqb}
 use Rattle.definitions.specs.Reply.{Reply, answer, if_then_else_}
 use Rattle.definitions.specs.DataList.{DataList}
 use Rattle.definitions.specs.Chain.{Block, dataOf, joined, total, fragmentOf, fragments, listAt, lists, chainOf}
-use Rattle.blocks.proofs.Headers.{apart}
+use Rattle.definitions.proofs.Replies.{not-answered}
 use Rattle.words.proofs.Spans.{length-span}
 use Rattle.chain.proofs.Answers.{followed, answered}
 use Rattle.chain.proofs.Lists.{list-stands}
@@ -77,7 +77,7 @@ module _ (id f : List ℕ) where
 
   lists-stand : (k a : ℕ) (before bs : List Block) → Stand f before → lists id f k a before ≡ answer bs → Stand f bs
   unfolding lists
-  lists-stand zero a before bs h e = apart bs 8 0 e
+  lists-stand zero a before bs h e = not-answered bs 8 0 e
   lists-stand (suc k) a before bs h e =
       let listed = followed (listAt f (length before) a) _ bs e in
       let d = listed .0 in

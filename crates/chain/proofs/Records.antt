@@ -11,8 +11,7 @@ use lib.Dec.{eqb, leb, ltb}
 use borrow.Author.Tests.{eq-eqb, ne-eqb, lt-ltb, le-ltb, le-leb, lt-leb, ltb-true, ltb-false, eqb-false}
 use Rattle.definitions.specs.Reply.{answer, refusal}
 use Rattle.definitions.specs.Bytes.{span}
-use Rattle.definitions.specs.Chain.{Block, idDT, joined, chainOf, badSize, recordOf, fetched}
-use Rattle.chain.specs.Meaning.{totalOf}
+use Rattle.definitions.specs.Chain.{Block, idDT, joined, chainOf, totalOf, badSize, recordOf, fetched}
 use Rattle.chain.specs.Window.{laid, joinedOf}
 use Rattle.chain.proofs.Answers.{followed, answered, unfollowed}
 use Rattle.chain.proofs.Chains.{joined-length, chain-stands}

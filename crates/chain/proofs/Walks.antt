@@ -5,8 +5,7 @@ use Prim.Native.Nat.{ℕ, _+_, _-_, _*_, _≤_, _<_}
 use native.Mathlib.Omega.{arith}
 use lib.ListN.{length, length-append}
 use Rattle.definitions.specs.Reply.{Reply, answer, refusal, andThen}
-use Rattle.definitions.specs.Chain.{Block, total, chainOf}
-use Rattle.chain.specs.Meaning.{totalOf}
+use Rattle.definitions.specs.Chain.{Block, total, chainOf, totalOf}
 use Rattle.chain.specs.Walk.{startAt, Found, aBlock, aList, theEnd, stepOf, chainFrom, goOn}
 use Rattle.chain.specs.declared.place.FileAddress.{FileAddress}
 use Rattle.chain.specs.declared.place.Place.{Place}

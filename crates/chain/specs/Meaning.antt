@@ -1,8 +1,8 @@
 -- What each struct and each case of an answer means in the definitions.
 use Prim.Native.Nat.{ℕ}
 use mathlib.Core.List.{List}
-use Rattle.definitions.specs.Reply.{Reply, Outcome, answer, andThen}
-use Rattle.definitions.specs.Chain.{Block, total, chainOf}
+use Rattle.definitions.specs.Reply.{Reply, Outcome, answer}
+use Rattle.definitions.specs.Chain.{Block}
 use Rattle.refusals.specs.Meaning.{refused}
 use Rattle.refusals.specs.declared.Refusal.{Refusal}
 use Rattle.refusals.specs.declared.Refusal.the-variants.{BadDataBlock, NoSuchRecord}
@@ -29,10 +29,6 @@ blockRefusal (ABlock b) = BadDataBlock
 blockRefusal (NoBlock r) = r
 
 -- ---- the chain
-
--- the length of the joined data of a chain that is accepted
-unfoldable pub totalOf : List ℕ → List ℕ → ℕ → Reply ℕ
-totalOf id f start = andThen (chainOf id f start) (λ bs. answer (total bs))
 
 abbrev pub chainReply : ChainRead → Reply ℕ
 chainReply (Whole q) = answer (q .0)

@@ -1,6 +1,7 @@
 // The first reader of a chain: is it accepted, and how much data does it join?
 ghost use mathlib.Core.Path.{_≡_};
-ghost use Rattle.chain.specs.Meaning.{chainReply, chainRefusal, totalOf};
+ghost use Rattle.definitions.specs.Chain.{totalOf};
+ghost use Rattle.chain.specs.Meaning.{chainReply, chainRefusal};
 use crate::place::DataPosition;
 use crate::place::FileAddress;
 use crate::place::Place;

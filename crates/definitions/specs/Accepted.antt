@@ -7,7 +7,7 @@ use lib.ListN.{length, drop}
 use Rattle.definitions.specs.Reply.{answer}
 use Rattle.definitions.specs.Bytes.{u64At, idAt}
 use Rattle.definitions.specs.DataList.{DataList, listOf}
-use Rattle.definitions.specs.Chain.{Block, total, declared}
+use Rattle.definitions.specs.Chain.{Block, total, declared, listLimit, fragmentLimit, dataLimit}
 
 -- P holds of each element of a list, with those before it and those after it
 unfoldable pub Each : {A : Type 0} → (List A → A → List A → Type 0) → List A → List A → Type 0
@@ -64,6 +64,6 @@ pub record Accepted (id f : List ℕ) (start : ℕ) (blocks : List Block) : Type
   pub each : Each (PartStands id f) [] parts
   -- their blocks are these
   pub together : blocks ≡ blocksOf parts
-  pub fewLists : length parts ≤ 256
-  pub fewBlocks : length blocks ≤ 4096
-  pub bounded : total blocks ≤ 9223372036854775807
+  pub fewLists : length parts ≤ listLimit
+  pub fewBlocks : length blocks ≤ fragmentLimit
+  pub bounded : total blocks ≤ dataLimit

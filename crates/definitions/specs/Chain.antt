@@ -14,6 +14,24 @@ use Rattle.definitions.specs.Channel.{Channel, ValidValue, validValueOf}
 abbrev pub idDT : List ℕ
 idDT = 35 ∷ 35 ∷ 68 ∷ 84 ∷ []
 
+-- ---- the limits
+
+-- a file has at most 2^40 bytes, the joined data at most 2^63-1
+abbrev pub fileLimit : ℕ
+fileLimit = 1099511627776
+
+abbrev pub dataLimit : ℕ
+dataLimit = 9223372036854775807
+
+abbrev pub listLimit : ℕ
+listLimit = 256
+
+abbrev pub fragmentLimit : ℕ
+fragmentLimit = 4096
+
+abbrev pub recordLimit : ℕ
+recordLimit = 16384
+
 -- ---- a data block
 
 -- an address in the file that is not 0 and has 24 bytes from it on, else 11
@@ -61,7 +79,7 @@ declared s d i p size =
 -- 14: more than 2^63-1 bytes with this block; 13: the list declares it falsely
 abbrev pub judged : List ℕ → DataList → ℕ → ℕ → Block → Reply Block
 judged s d i p b =
-    if ltb 9223372036854775807 (p + b .size) then refusal 14 0
+    if ltb dataLimit (p + b .size) then refusal 14 0
     else if not (declared s d i p (b .size)) then refusal 13 0
     else answer b
 
@@ -84,7 +102,7 @@ agrees d = eqb (d .count) (d .links) && leb (d .restAt + d .rest * 8) (d .header
 abbrev pub admitted : ℕ → DataList → Reply DataList
 admitted n d =
     if not (agrees d) then refusal 10 0
-    else if ltb 4096 (n + d .links) then refusal 9 0
+    else if ltb fragmentLimit (n + d .links) then refusal 9 0
     else answer d
 
 -- the list has all bytes of the file from its address on
@@ -102,13 +120,21 @@ lists id f (suc k) a before =
     (λ bs. if eqb (d .next) 0 then answer bs else lists id f k (d .next) bs))
 
 unfoldable pub chainOf : List ℕ → List ℕ → ℕ → Reply (List Block)
-chainOf id f start = lists id f 256 start []
+chainOf id f start = lists id f listLimit start []
+
+-- the length of the joined data
+unfoldable pub totalOf : List ℕ → List ℕ → ℕ → Reply ℕ
+totalOf id f start = andThen (chainOf id f start) (λ bs. answer (total bs))
+
+-- 7 for a file that is too long, then the chain's own
+unfoldable pub dataLength : List ℕ → ℕ → Reply ℕ
+dataLength f start = if ltb fileLimit (length f) then refusal 7 0 else totalOf idDT f start
 
 -- ---- a record
 
 -- 15: a size that is not from 1 to 16,384, or that the buffer does not hold
 abbrev pub badSize : ℕ → ℕ → Bool
-badSize size room = eqb size 0 || ltb 16384 size || ltb room size
+badSize size room = eqb size 0 || ltb recordLimit size || ltb room size
 
 -- record k of the joined data j into the buffer; 16: j ends before it does
 unfoldable pub recordOf : List ℕ → ℕ → ℕ → List ℕ → Outcome (Unit {0})
@@ -126,7 +152,7 @@ onBlocks (refusal n t) f out = record { reply = refusal n t; buffer = out }
 unfoldable pub fetched : List ℕ → ℕ → ℕ → ℕ → List ℕ → Outcome (Unit {0})
 fetched f start k size out =
     if badSize size (length out) then record { reply = refusal 15 0; buffer = out }
-    else if ltb 1099511627776 (length f) then record { reply = refusal 7 0; buffer = out }
+    else if ltb fileLimit (length f) then record { reply = refusal 7 0; buffer = out }
     else onBlocks (chainOf idDT f start) (λ bs. recordOf (joined f bs) k size out) out
 
 -- the record, then its field from those bytes alone; a refused field leaves the record in the buffer

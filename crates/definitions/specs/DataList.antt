@@ -14,6 +14,10 @@ use Rattle.definitions.specs.Header.{Header, headerOf, headerBytes}
 abbrev pub idDL : List ℕ
 idDL = 35 ∷ 35 ∷ 68 ∷ 76 ∷ []
 
+-- a list that is written has at most so many data links
+abbrev pub linkLimit : ℕ
+linkLimit = 4096
+
 -- ---- read
 
 pub record DataList : Type 0 where
@@ -101,8 +105,8 @@ restFor (variable ns) = ns
 
 -- 5: over 4,096 data links, or offsets of another number
 abbrev pub unwritable : ℕ → Lengths → Bool
-unwritable n (equal k) = ltb 4096 n
-unwritable n (variable ns) = ltb 4096 n || not (eqb n (length ns))
+unwritable n (equal k) = ltb linkLimit n
+unwritable n (variable ns) = ltb linkLimit n || not (eqb n (length ns))
 
 -- 5 comes before 6
 unfoldable pub listWritten : List ℕ → ℕ → List ℕ → Lengths → Outcome ℕ

@@ -3,7 +3,7 @@ use mathlib.Core.Path.{_≡_, sym, ap, ap₂, _∙_}
 use mathlib.Core.List.{List}
 use Prim.Native.Nat.{ℕ}
 use Rattle.definitions.specs.Reply.{Reply, Outcome, refusal}
-use Rattle.refusals.specs.Meaning.{numberOf, toldOf, refused}
+use Rattle.refusals.specs.Meaning.{refusalNumber, toldOf, refused}
 use Rattle.refusals.specs.declared.Refusal.{Refusal}
 use Rattle.mf4.specs.Replies.{left}
 
@@ -25,5 +25,5 @@ module _ {R A C : Type 0} (toC : Reply A → C) (meant : R → Reply A) where
       ap (λ (x : C). left x out) er ∙ ap (λ (o : Outcome A). left (toC (o .reply)) (o .buffer)) eo
 
 -- a refusal by its number and what it tells
-pub by-numbers : {A C : Type 0} (toC : Reply A → C) (q : Refusal) {n t : ℕ} → n ≡ numberOf q → t ≡ toldOf q → toC (refusal n t) ≡ toC (refused q)
+pub by-numbers : {A C : Type 0} (toC : Reply A → C) (q : Refusal) {n t : ℕ} → n ≡ refusalNumber q → t ≡ toldOf q → toC (refusal n t) ≡ toC (refused q)
 by-numbers toC q en et = ap₂ (λ (n t : ℕ). toC (refusal n t)) en et

@@ -3,7 +3,7 @@ use mathlib.Core.Path.{_≡_, refl, sym, ap₂, _∙_}
 use mathlib.Core.List.{List, [], _∷_}
 use Prim.Native.Nat.{ℕ}
 use lib.ListN.{getD}
-use Rattle.refusals.specs.Meaning.{numberOf, toldOf}
+use Rattle.refusals.specs.Meaning.{refusalNumber, toldOf}
 use Rattle.refusals.specs.declared.Refusal.{Refusal}
 use Rattle.refusals.specs.declared.Refusal.the-variants.{NoValue, TooFewBytes, OtherId, NoLinks, UnwritableList, NoRoom, FileTooLong, TooManyLists, TooManyFragments, ListDisagrees, NoBlockThere, BadDataBlock, UntrueDeclaration, DataTooLong, BadRecordSize, NoSuchRecord}
 
@@ -17,7 +17,7 @@ numbered t =
 abbrev pub refusalOf : ℕ → ℕ → Refusal
 refusalOf n t = getD (numbered t) n NoValue
 
-pub back : (r : Refusal) → refusalOf (numberOf r) (toldOf r) ≡ r
+pub back : (r : Refusal) → refusalOf (refusalNumber r) (toldOf r) ≡ r
 back NoValue = refl
 back (TooFewBytes n) = refl
 back OtherId = refl
@@ -35,5 +35,5 @@ back DataTooLong = refl
 back BadRecordSize = refl
 back NoSuchRecord = refl
 
-pub one : (a b : Refusal) → numberOf a ≡ numberOf b → toldOf a ≡ toldOf b → a ≡ b
+pub one : (a b : Refusal) → refusalNumber a ≡ refusalNumber b → toldOf a ≡ toldOf b → a ≡ b
 one a b p q = sym (back a) ∙ ap₂ refusalOf p q ∙ back b

@@ -4,23 +4,23 @@ use Rattle.definitions.specs.Reply.{Reply, refusal}
 use Rattle.refusals.specs.declared.Refusal.{Refusal}
 use Rattle.refusals.specs.declared.Refusal.the-variants.{NoValue, TooFewBytes, OtherId, NoLinks, UnwritableList, NoRoom, FileTooLong, TooManyLists, TooManyFragments, ListDisagrees, NoBlockThere, BadDataBlock, UntrueDeclaration, DataTooLong, BadRecordSize, NoSuchRecord}
 
-abbrev pub numberOf : Refusal → ℕ
-numberOf NoValue = 1
-numberOf (TooFewBytes n) = 2
-numberOf OtherId = 3
-numberOf NoLinks = 4
-numberOf UnwritableList = 5
-numberOf (NoRoom n) = 6
-numberOf FileTooLong = 7
-numberOf TooManyLists = 8
-numberOf TooManyFragments = 9
-numberOf ListDisagrees = 10
-numberOf NoBlockThere = 11
-numberOf BadDataBlock = 12
-numberOf UntrueDeclaration = 13
-numberOf DataTooLong = 14
-numberOf BadRecordSize = 15
-numberOf NoSuchRecord = 16
+abbrev pub refusalNumber : Refusal → ℕ
+refusalNumber NoValue = 1
+refusalNumber (TooFewBytes n) = 2
+refusalNumber OtherId = 3
+refusalNumber NoLinks = 4
+refusalNumber UnwritableList = 5
+refusalNumber (NoRoom n) = 6
+refusalNumber FileTooLong = 7
+refusalNumber TooManyLists = 8
+refusalNumber TooManyFragments = 9
+refusalNumber ListDisagrees = 10
+refusalNumber NoBlockThere = 11
+refusalNumber BadDataBlock = 12
+refusalNumber UntrueDeclaration = 13
+refusalNumber DataTooLong = 14
+refusalNumber BadRecordSize = 15
+refusalNumber NoSuchRecord = 16
 
 abbrev pub toldOf : Refusal → ℕ
 toldOf NoValue = 0
@@ -41,4 +41,4 @@ toldOf BadRecordSize = 0
 toldOf NoSuchRecord = 0
 
 abbrev pub refused : {A : Type 0} → Refusal → Reply A
-refused r = refusal (numberOf r) (toldOf r)
+refused r = refusal (refusalNumber r) (toldOf r)

@@ -1,6 +1,6 @@
 // The numbered refusals, as one enum that every crate's answers share.
 ghost use mathlib.Core.Path.{_≡_};
-ghost use Rattle.refusals.specs.Meaning.{numberOf, toldOf};
+ghost use Rattle.refusals.specs.Meaning.{refusalNumber, toldOf};
 
 pub enum Refusal {
     // 1
@@ -39,7 +39,7 @@ pub enum Refusal {
 
 impl Refusal {
     pub fn number(self) -> u32
-        ensures { λ r. ⌜ r ≡ numberOf self ⌝ }
+        ensures { λ r. ⌜ r ≡ refusalNumber self ⌝ }
     {
         match self {
             Refusal::NoValue => 1,

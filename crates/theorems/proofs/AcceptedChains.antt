@@ -11,7 +11,7 @@ use Rattle.definitions.specs.Reply.{answer, if_then_else_}
 use Rattle.definitions.specs.DataList.{DataList}
 use Rattle.definitions.specs.Chain.{Block, total, declared, fragmentOf, fragments, listAt, lists, chainOf}
 use Rattle.definitions.specs.Accepted.{Each, Part, blocksOf, linkTo, BlockListed, PartStands, Accepted}
-use Rattle.blocks.proofs.Headers.{apart}
+use Rattle.definitions.proofs.Replies.{not-answered}
 use Rattle.chain.proofs.Answers.{followed}
 use Rattle.theorems.proofs.BlocksStand.{fragment-stands, fragment-taken, list-there, list-taken}
 
@@ -165,7 +165,7 @@ module _ (id f : List ℕ) where
   lists-stand : (k a : ℕ) (ps : List Part) (all : List Block) → total (blocksOf ps) ≤ 9223372036854775807
       → lists id f k a (blocksOf ps) ≡ answer all → Chained k a ps all
   unfolding lists
-  lists-stand zero a ps all t h = apart all 8 0 h
+  lists-stand zero a ps all t h = not-answered all 8 0 h
   lists-stand (suc k) a ps all t h =
       let g = followed (listAt f (length (blocksOf ps)) a) _ all h in
       let d : DataList = g .0 in

@@ -15,7 +15,8 @@ use Rattle.definitions.specs.DataType.{Kind, integer, floating, whole, undecode
 use Rattle.definitions.specs.DataList.{Lengths, equal, variable, listOf, listBytes, listSize, flagsFor, restFor, unwritable, listWritten}
 use Rattle.definitions.specs.Channel.{Channel, Value, startOf, spanOf, valueBy, valueOf, validValueOf}
 use Rattle.definitions.specs.Chain.{Block, idDT, joined, chainOf, badSize, onBlocks, recordOf, fetched, valueFetched}
-use Rattle.blocks.proofs.Headers.{apart, length-header}
+use Rattle.definitions.proofs.Replies.{not-answered}
+use Rattle.blocks.proofs.Headers.{length-header}
 use Rattle.blocks.proofs.Writes.{length-list}
 use Rattle.chain.proofs.Answers.{answered}
 use Rattle.theorems.proofs.ListAnswers.{above-zero, list-answered, list-stands}
@@ -44,7 +45,7 @@ module _ {A : Type 0} where
       → Exactly (P × Q) (if t then refusal n m else r)
   passing true n m r to from h = record {
     answers = λ pq. absurd (true≢false (to (pq .0)));
-    only = λ a e. apart a n m e;
+    only = λ a e. not-answered a n m e;
   }
   passing false n m r to from h = record {
     answers = λ pq. h .answers (pq .1);
@@ -64,8 +65,8 @@ module _ {A : Type 0} where
 pub going-on : {A B P Q : Type 0} (r : Reply A) (g : A → Reply B) → Exactly P r → ((a : A) → Exactly Q (g a)) → Exactly (P × Q) (andThen r g)
 going-on (answer a) g h i = record { answers = λ pq. i a .answers (pq .1); only = λ b e. (h .only a refl, i a .only b e) }
 going-on (refusal n m) g h i = record {
-  answers = λ pq. let z = h .answers (pq .0) in apart (z .0) n m (z .1);
-  only = λ b e. apart b n m e;
+  answers = λ pq. let z = h .answers (pq .0) in not-answered (z .0) n m (z .1);
+  only = λ b e. not-answered b n m e;
 }
 
 -- ---- headers
@@ -201,8 +202,8 @@ module _ (f : List ℕ) (start k size : ℕ) (out : List ℕ) where
   on-blocks (answer bs) =
       same (λ p. let e : bs ≡ p .0 = answered (p .1) in rw e (p .2)) (λ p. (bs, refl, p)) (record-exactly (joined f bs))
   on-blocks (refusal n m) = record {
-    answers = λ p. apart (p .0) n m (p .1);
-    only = λ a e. apart a n m e;
+    answers = λ p. not-answered (p .0) n m (p .1);
+    only = λ a e. not-answered a n m e;
   }
 
   pub fetched-exactly : Exactly (Fetchable f start k size out) (fetched f start k size out .reply)

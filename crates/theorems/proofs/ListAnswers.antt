@@ -12,9 +12,9 @@ use Rattle.definitions.specs.Bytes.{u64At, idAt}
 use Rattle.definitions.specs.Header.{Header, headerOf, headerIn}
 use Rattle.definitions.specs.DataList.{DataList, idDL, listOf, linksOf, restOf, listIn, restIn, flagsAt}
 use Rattle.theorems.specs.Exactly.{ListStands}
-use Rattle.blocks.proofs.Headers.{apart, needed, header-met, header-answered}
+use Rattle.blocks.proofs.Headers.{needed, header-met, header-answered}
 use Rattle.blocks.proofs.Lists.{list-linked}
-use Rattle.definitions.proofs.Replies.{needing-met}
+use Rattle.definitions.proofs.Replies.{not-answered, needing-met}
 
 pub above-zero : (n : ℕ) → (n ≡ 0 → ⊥) → 0 < n
 above-zero n h = omega arith
@@ -31,8 +31,8 @@ module _ (s : List ℕ) where
   by-tests : (x : Header) (d : DataList) (i k : Bool) → idAt s 0 idDL ≡ i → eqb (x .linkCount) 0 ≡ k
       → (if not i then refusal 3 0 else if k then refusal 4 0 else needing s (flagsAt (x .linkCount) + 8) (restOf s x)) ≡ answer d
       → (idAt s 0 idDL ≡ true) × (x .linkCount ≡ 0 → ⊥) × (restOf s x ≡ answer d)
-  by-tests x d false k e f h = apart d _ _ h
-  by-tests x d true true e f h = apart d _ _ h
+  by-tests x d false k e f h = not-answered d _ _ h
+  by-tests x d true true e f h = not-answered d _ _ h
   by-tests x d true false e f h = (e, eqb-false _ _ f, needed s _ _ d h .1)
 
   linked : (x : Header) (d : DataList) → linksOf s x ≡ answer d → (idAt s 0 idDL ≡ true) × (x .linkCount ≡ 0 → ⊥) × (restOf s x ≡ answer d)
@@ -40,7 +40,7 @@ module _ (s : List ℕ) where
   linked x d h = by-tests x d (idAt s 0 idDL) (eqb (x .linkCount) 0) refl refl h
 
   by-header : (d : DataList) (r : Reply Header) → headerOf s ≡ r → andThen r (linksOf s) ≡ answer d → linksOf s (headerIn s) ≡ answer d
-  by-header d (refusal n t) e h = apart d _ _ h
+  by-header d (refusal n t) e h = not-answered d _ _ h
   by-header d (answer x) e h = ap (linksOf s) (sym (header-answered s x e .1)) ∙ h
 
   headed : (d : DataList) → listOf s ≡ answer d → linksOf s (headerIn s) ≡ answer d

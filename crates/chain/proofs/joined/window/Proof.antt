@@ -7,7 +7,7 @@ use lib.ListN.{length}
 use borrow.Author.Needs.{needs}
 use borrow.Author.Tests.{leb-true}
 use Rattle.definitions.specs.Chain.{Block, joined, chainOf}
-use Rattle.blocks.proofs.Headers.{apart}
+use Rattle.definitions.proofs.Replies.{not-answered}
 use Rattle.chain.specs.Meaning.{blockMeant}
 use Rattle.chain.specs.Walk.{stepReply}
 use Rattle.chain.specs.Window.{laid}
@@ -44,7 +44,7 @@ returns c =
     let taken = c .before .before in
     let l = taken .before in
     let begin = l .before in
-    apart _ _ _
+    not-answered _ _ _
     (sym (at-refused _ _ _ _ _ (l .loop .inv .2) _ (begin .start .ensures) _ _ (sym (taken .advance .ensures) ∙ ap stepReply (c .enum-told .given .1)))
     ∙ begin .before .before .before .pre .1)
 

@@ -8,10 +8,10 @@ use lib.Dec.{ltb}
 use borrow.Author.Needs.{needs}
 use borrow.Author.Tests.{ltb-false}
 use Rattle.definitions.specs.Reply.{answer, refusal}
-use Rattle.definitions.specs.Chain.{idDT, badSize}
+use Rattle.definitions.specs.Chain.{idDT, badSize, totalOf}
 use Rattle.refusals.specs.Meaning.{refused}
 use Rattle.refusals.specs.declared.Refusal.{Refusal}
-use Rattle.chain.specs.Meaning.{chainReply, chainRefusal, totalOf}
+use Rattle.chain.specs.Meaning.{chainReply, chainRefusal}
 use Rattle.chain.proofs.Records.{size-good, whole, fetch-bad, fetch-long, fetch-refused, fetch-behind, fetch-record}
 use Rattle.chain.proofs.record.read_record.Statement.{statement}
 use Rattle.chain.proofs.record.read_record.Tie as tie
