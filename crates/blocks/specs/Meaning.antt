@@ -8,8 +8,6 @@ use Rattle.definitions.specs.DataType as types
 use Rattle.definitions.specs.Header.{Header}
 use Rattle.definitions.specs.DataList.{DataList}
 use Rattle.refusals.specs.Meaning.{refused}
-use Rattle.refusals.specs.declared.Refusal.{Refusal}
-use Rattle.refusals.specs.declared.Refusal.the-variants.{OtherId}
 use Rattle.blocks.specs.declared.written.Written.{Written}
 use Rattle.blocks.specs.declared.written.Written.the-variants.{Bytes, Refused as NotWritten}
 use Rattle.blocks.specs.declared.header.BlockHeader.{BlockHeader}
@@ -39,11 +37,6 @@ headerMeant h = record { id = h .id; reserved = h .reserved0; blockLength = h .�
 abbrev pub headerReply : HeaderRead → Reply Header
 headerReply (Headed h) = answer (headerMeant h)
 headerReply (NoHeader r) = refused r
-
--- what is handed on where there is no header
-abbrev pub headerRefusal : HeaderRead → Refusal
-headerRefusal (Headed h) = OtherId
-headerRefusal (NoHeader r) = r
 
 -- ---- data types
 
@@ -85,7 +78,3 @@ listMeant d = record {
 abbrev pub listReply : ListRead → Reply DataList
 listReply (Listed d) = answer (listMeant d)
 listReply (NoList r) = refused r
-
-abbrev pub listRefusal : ListRead → Refusal
-listRefusal (Listed d) = OtherId
-listRefusal (NoList r) = r

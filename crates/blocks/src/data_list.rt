@@ -5,7 +5,7 @@ ghost use lib.ListN.{length};
 ghost use lib.Seq.{sets};
 ghost use Rattle.definitions.specs.Reply.{told, writing};
 ghost use Rattle.definitions.specs.DataList.{listOf, restOf, restCount, headerFor, listBytes, listSize, listWritten, equal, variable};
-ghost use Rattle.blocks.specs.Meaning.{headerMeant, listReply, listRefusal, wrote};
+ghost use Rattle.blocks.specs.Meaning.{headerMeant, listReply, wrote};
 use crate::header::BlockHeader;
 use crate::header::HeaderRead;
 use crate::header::put_header;
@@ -108,18 +108,18 @@ impl DataListBlock {
     }
 
     // A list with one length for every fragment
-    pub fn write_equal(out: &mut [u8], next: u64, links: &[u64], length: u64) -> Written
+    pub fn write_equal(next: u64, links: &[u64], length: u64, out: &mut [u8]) -> Written
         ensures { λ r. ⌜ wrote r (now (out .exit)) ≡ listWritten (now (out .entry)) next (now (links .entry)) (equal length) ⌝ }
     {
         if 4096 < links.len() {
             return Written::Refused(Refusal::UnwritableList);
         }
         let rest = [length];
-        write_fields(out, next, links, 1, &rest)
+        write_fields(next, links, 1, &rest, out)
     }
 
     // A list with an offset for each fragment
-    pub fn write_variable(out: &mut [u8], next: u64, links: &[u64], offsets: &[u64]) -> Written
+    pub fn write_variable(next: u64, links: &[u64], offsets: &[u64], out: &mut [u8]) -> Written
         ensures { λ r. ⌜ wrote r (now (out .exit)) ≡ listWritten (now (out .entry)) next (now (links .entry)) (variable (now (offsets .entry))) ⌝ }
     {
         if 4096 < links.len() {
@@ -128,12 +128,12 @@ impl DataListBlock {
         if links.len() != offsets.len() {
             return Written::Refused(Refusal::UnwritableList);
         }
-        write_fields(out, next, links, 0, offsets)
+        write_fields(next, links, 0, offsets, out)
     }
 }
 
 // The fields of a list, or the bytes that they need
-fn write_fields(out: &mut [u8], next: u64, links: &[u64], flags: u8, rest: &[u64]) -> Written
+fn write_fields(next: u64, links: &[u64], flags: u8, rest: &[u64], out: &mut [u8]) -> Written
     requires { ⌜ (length (now links) ≤ 4096) × (length (now rest) ≤ 4096) ⌝ }
     ensures { λ r. ⌜ wrote r (now (out .exit)) ≡ writing (now (out .entry)) (listBytes next (now (links .entry)) flags (now (rest .entry))) (listSize (length (now (links .entry))) (length (now (rest .entry)))) ⌝ }
 {
@@ -173,12 +173,13 @@ fn list_header(links: u64, rest: u64) -> BlockHeader
 }
 
 impl ListRead {
-    // what is handed on where the list was refused
+    // Why the list was refused. Only a refusal is asked, so the second arm is never taken.
     pub fn refusal(self) -> Refusal
-        ensures { λ r. ⌜ r ≡ listRefusal self ⌝ }
+        requires { ⌜ ((why : Refusal) × (self ≡ ListRead.Refused why)) ⌝ }
+        ensures { λ r. ⌜ self ≡ ListRead.Refused r ⌝ }
     {
         match self {
-            ListRead::Refused(r) => r,
+            ListRead::Refused(why) => why,
             ListRead::List(_) => Refusal::OtherId,
         }
     }

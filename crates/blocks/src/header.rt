@@ -4,7 +4,7 @@ ghost use Prim.Native.Nat.{_≤_};
 ghost use lib.ListN.{length};
 ghost use lib.Seq.{sets};
 ghost use Rattle.definitions.specs.Header.{headerOf, headerBytes, headerWritten};
-ghost use Rattle.blocks.specs.Meaning.{headerMeant, headerReply, headerRefusal, wrote};
+ghost use Rattle.blocks.specs.Meaning.{headerMeant, headerReply, wrote};
 use crate::written::Written;
 use refusals::Refusal;
 use words::put_u32_le;
@@ -63,12 +63,13 @@ pub(crate) fn put_header(out: &mut [u8], header: BlockHeader)
 }
 
 impl HeaderRead {
-    // what is handed on where the header was refused
+    // Why the header was refused. Only a refusal is asked, so the second arm is never taken.
     pub fn refusal(self) -> Refusal
-        ensures { λ r. ⌜ r ≡ headerRefusal self ⌝ }
+        requires { ⌜ ((why : Refusal) × (self ≡ HeaderRead.Refused why)) ⌝ }
+        ensures { λ r. ⌜ self ≡ HeaderRead.Refused r ⌝ }
     {
         match self {
-            HeaderRead::Refused(r) => r,
+            HeaderRead::Refused(why) => why,
             HeaderRead::Header(_) => Refusal::OtherId,
         }
     }

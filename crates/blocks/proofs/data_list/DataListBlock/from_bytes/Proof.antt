@@ -8,7 +8,7 @@ use Rattle.definitions.specs.Bytes.{idAt}
 use Rattle.definitions.specs.Header.{headerOf}
 use Rattle.definitions.specs.DataList.{idDL}
 use Rattle.refusals.specs.Meaning.{refused}
-use Rattle.blocks.specs.Meaning.{headerMeant, headerReply, headerRefusal}
+use Rattle.blocks.specs.Meaning.{headerMeant, headerReply}
 use Rattle.blocks.proofs.Headers.{header-answered}
 use Rattle.blocks.proofs.Lists.{list-unheaded, list-other, list-none, list-cut, list-linked}
 use borrow.Author.Needs.{needs}
@@ -18,9 +18,7 @@ use Rattle.blocks.proofs.data_list.DataListBlock.from_bytes.Tie as tie
 -- a refused header is handed on
 returns : tie.Need-returns
 returns c =
-    let told = c .before .enum-told .given .1 in
-    ap refused (c .refusal .ensures ∙ ap headerRefusal told)
-    ∙ sym (list-unheaded _ _ _ (sym (c .before .before .before .from-bytes .ensures) ∙ ap headerReply told))
+    sym (list-unheaded _ _ _ (sym (c .before .before .before .from-bytes .ensures) ∙ ap headerReply (c .refusal .ensures)))
 
 -- the header that was read
 headed : (c : tie.After-known-told) → headerOf (now (c .before .before .before .before .before .args .bytes)) ≡ answer (headerMeant (c .before .read .given .0 .0))
