@@ -19,9 +19,9 @@ use Rattle.mf4.specs.declared.header.Mf4BlockHeader.{Mf4BlockHeader}
 use Rattle.mf4.specs.declared.header.Mf4Header.{Mf4Header}
 use Rattle.mf4.specs.declared.list.Mf4List.{Mf4List}
 use Rattle.mf4.specs.declared.texts.Mf4Text.{Mf4Text}
-use Rattle.mf4.specs.declared.values.Mf4Channel.{Mf4Channel}
+use Rattle.mf4.specs.declared.channel.Mf4Channel.{Mf4Channel}
 use Rattle.mf4.specs.declared.values.Mf4Value.{Mf4Value}
-use Rattle.mf4.specs.declared.values.Mf4ValidValue.{Mf4ValidValue}
+use Rattle.mf4.specs.declared.valid_values.Mf4ValidValue.{Mf4ValidValue}
 use Rattle.mf4.specs.declared.fetches.Mf4Length.{Mf4Length}
 use Rattle.mf4.specs.declared.fetches.Mf4Fetched.{Mf4Fetched}
 use Rattle.mf4.proofs.written.Mf4Written as mf4-written
@@ -29,9 +29,9 @@ use Rattle.mf4.proofs.header.Mf4BlockHeader as mf4-block-header
 use Rattle.mf4.proofs.header.Mf4Header as mf4-header
 use Rattle.mf4.proofs.list.Mf4List as mf4-list
 use Rattle.mf4.proofs.texts.Mf4Text as mf4-text
-use Rattle.mf4.proofs.values.Mf4Channel as mf4-channel
+use Rattle.mf4.proofs.channel.Mf4Channel as mf4-channel
 use Rattle.mf4.proofs.values.Mf4Value as mf4-value
-use Rattle.mf4.proofs.values.Mf4ValidValue as mf4-valid-value
+use Rattle.mf4.proofs.valid_values.Mf4ValidValue as mf4-valid-value
 use Rattle.mf4.proofs.fetches.Mf4Length as mf4-length
 use Rattle.mf4.proofs.fetches.Mf4Fetched as mf4-fetched
 use Rattle.mf4.proofs.mf4_read_header.Kinds as mf4-read-header-kinds
