@@ -3,7 +3,7 @@ ghost use mathlib.Core.Path.{_≡_};
 ghost use Prim.Native.Nat.{_+_, _*_, _<_};
 ghost use lib.Dec.{ltb};
 ghost use Rattle.definitions.specs.Chain.{badSize, fetched};
-ghost use Rattle.chain.specs.Meaning.{fetchedBy, recordRefusal};
+ghost use Rattle.chain.specs.Meaning.{fetchedBy};
 use crate::acceptance::ChainRead;
 use crate::acceptance::accept;
 use crate::block::DataBlock;
@@ -69,13 +69,14 @@ pub fn read_record(
 }
 
 impl RecordRead {
-    // what is handed on where the record was refused
+    // Why the record was refused. Only a refusal is asked, so the second arm is never taken.
     pub fn refusal(self) -> Refusal
-        ensures { λ r. ⌜ r ≡ recordRefusal self ⌝ }
+        requires { ⌜ ((why : Refusal) × (self ≡ RecordRead.Refused why)) ⌝ }
+        ensures { λ r. ⌜ self ≡ RecordRead.Refused r ⌝ }
     {
         match self {
-            RecordRead::Refused(r) => r,
-            _ => Refusal::NoSuchRecord,
+            RecordRead::Refused(why) => why,
+            RecordRead::Record => Refusal::NoSuchRecord,
         }
     }
 }

@@ -7,11 +7,9 @@ use lib.Seq.{length-take-le}
 use lib.Dec.{ltb}
 use borrow.Author.Needs.{needs}
 use borrow.Author.Tests.{ltb-false}
-use Rattle.definitions.specs.Reply.{answer, refusal}
+use Rattle.definitions.specs.Reply.{answer}
 use Rattle.definitions.specs.Chain.{idDT, badSize, totalOf}
-use Rattle.refusals.specs.Meaning.{refused}
-use Rattle.refusals.specs.declared.Refusal.{Refusal}
-use Rattle.chain.specs.Meaning.{chainReply, chainRefusal}
+use Rattle.chain.specs.Meaning.{chainReply}
 use Rattle.chain.proofs.Records.{size-good, whole, fetch-bad, fetch-long, fetch-refused, fetch-behind, fetch-record}
 use Rattle.chain.proofs.record.read_record.Statement.{statement}
 use Rattle.chain.proofs.record.read_record.Tie as tie
@@ -34,11 +32,9 @@ returns-2 c = fetch-long _ _ _ _ _ (good (c .before)) (c .if2 .taken)
 -- a refused chain is handed on
 returns-3 : tie.Need-returns-3
 returns-3 c =
-    let told = c .before in
-    let chain = told .before .before in
+    let chain = c .before .before .before in
     let two = chain .before .before in
-    ap (λ (r : Refusal). record { reply = refused r; buffer = two .before .before .before .before .before .args .buffer .now }) (c .refusal .ensures ∙ ap chainRefusal (told .enum-told .given .1))
-    ∙ fetch-refused _ _ _ _ _ (good (two .before)) (two .if2 .left) _ _ (sym (chain .accept .ensures) ∙ ap chainReply (told .enum-told .given .1))
+    fetch-refused _ _ _ _ _ (good (two .before)) (two .if2 .left) _ _ (sym (chain .accept .ensures) ∙ ap chainReply (c .refusal .ensures))
 
 -- the length of the joined data
 total : (c : tie.After-known-told) →
