@@ -3,14 +3,15 @@ use mathlib.Core.Path.{_≡_, refl, sym, ap, _∙_}
 use mathlib.Core.Bool.{Bool, true, false}
 use mathlib.Core.List.{List, [], _∷_, _++_, append-assoc, append-nil}
 use Prim.Native.Nat.{ℕ, zero, suc, _+_, _≤_, _<_}
+use native.Mathlib.Nat.{zero-add}
 use native.Mathlib.Omega.{arith}
 use lib.ListN.{length, drop, length-append}
 use lib.Dec.{eqb}
 use borrow.Author.Tests.{eqb-true, eq-eqb, ne-eqb}
 use Rattle.definitions.specs.Reply.{answer, if_then_else_}
 use Rattle.definitions.specs.DataList.{DataList}
-use Rattle.definitions.specs.Chain.{Block, total, declared, fragmentOf, fragments, listAt, lists, chainOf}
-use Rattle.definitions.specs.Accepted.{Each, Part, blocksOf, linkTo, BlockListed, PartStands, Accepted}
+use Rattle.definitions.specs.Chain.{Block, total, fragmentOf, fragments, listAt, lists, chainOf}
+use Rattle.definitions.specs.Accepted.{Each, Part, blocksOf, linkTo, Truthful, BlockListed, PartStands, Accepted}
 use Rattle.definitions.proofs.Replies.{not-answered}
 use Rattle.chain.proofs.Answers.{followed}
 use Rattle.theorems.proofs.BlocksStand.{fragment-stands, fragment-taken, list-there, list-taken}
@@ -35,7 +36,7 @@ blocks-append (p ∷ ps) qs = rw (blocks-append ps qs) (sym (append-assoc (p .bl
 module _ (id f : List ℕ) (a : ℕ) (d : DataList) (old : List Block) where
   -- `new` are blocks of it, behind those in `bs`
   abbrev Listed : List Block → List Block → Type 0
-  Listed bs new = Each (λ xs b ys. BlockListed id f a d (total old + total xs) (length xs) b) bs new
+  Listed bs new = Each (BlockListed id f a d (total old)) bs new
 
   one-on : (bs : List Block) (b : Block) (n : ℕ)
       → fragments id f (drop a f) d (length bs + 1) n (old ++ bs ++ (b ∷ [])) ≡ fragments id f (drop a f) d (length (bs ++ (b ∷ []))) n (old ++ (bs ++ (b ∷ [])))
@@ -46,34 +47,35 @@ module _ (id f : List ℕ) (a : ℕ) (d : DataList) (old : List Block) where
   moved : (bs : List Block) (b : Block) (new : List Block) → old ++ (bs ++ (b ∷ [])) ++ new ≡ old ++ bs ++ (b ∷ new)
   moved bs b new = simp append-assoc
 
-  fragments-stand : (n : ℕ) (bs all : List Block) → total (old ++ bs) ≤ 9223372036854775807
+  fragments-stand : (n : ℕ) (bs all : List Block) → length bs + n ≡ d .links → total (old ++ bs) ≤ 9223372036854775807
       → fragments id f (drop a f) d (length bs) n (old ++ bs) ≡ answer all
       → (new : List Block) × (all ≡ old ++ bs ++ new) × (length new ≡ n) × Listed bs new × (total all ≤ 9223372036854775807)
   unfolding fragments Each
-  fragments-stand zero bs all t h =
+  fragments-stand zero bs all l t h =
       let same : old ++ bs ≡ all = cc in
       ([], sym same ∙ sym (append-nil (old ++ bs)), refl, tt, rw (sym same) t)
-  fragments-stand (suc n) bs all t h =
+  fragments-stand (suc n) bs all l t h =
       let g = followed (fragmentOf id f (drop a f) d (length bs) (total (old ++ bs))) (λ b. fragments id f (drop a f) d (length bs + 1) n (old ++ bs ++ (b ∷ []))) all h in
       let b : Block = g .0 in
-      let k = fragment-stands id f (drop a f) d (length bs) (total (old ++ bs)) b (g .1) in
+      let k = fragment-stands id f (drop a f) d (length bs) n (total (old ++ bs)) (omega arith) b (g .1) in
       let more : total (old ++ (bs ++ (b ∷ []))) ≤ 9223372036854775807 =
       omega (arith, total-append old (bs ++ (b ∷ [])), total-append bs (b ∷ []), total-append old bs, total-one b, k .3) in
-      let r = fragments-stand n (bs ++ (b ∷ [])) all more (sym (one-on bs b n) ∙ g .2) in
-      (b ∷ r .0, r .1 ∙ moved bs b (r .0), ap suc (r .2), (record { link = k .0; stands = k .1; truthful = rw (sym (total-append old bs)) (k .2) }, r .3), r .4)
+      let r = fragments-stand n (bs ++ (b ∷ [])) all (omega (arith, length-append bs (b ∷ []))) more (sym (one-on bs b n) ∙ g .2) in
+      let true : Truthful (drop a f) d (total old + total bs) (length bs) (length (r .0)) (b .size) = rw (sym (total-append old bs), r .2) (k .2) in
+      (b ∷ r .0, r .1 ∙ moved bs b (r .0), ap suc (r .2), (record { link = k .0; stands = k .1; truthful = true }, r .3), r .4)
 
-  fragments-taken : (new bs : List Block) → Listed bs new → total (old ++ bs ++ new) ≤ 9223372036854775807
+  fragments-taken : (new bs : List Block) → length bs + length new ≡ d .links → Listed bs new → total (old ++ bs ++ new) ≤ 9223372036854775807
       → fragments id f (drop a f) d (length bs) (length new) (old ++ bs) ≡ answer (old ++ bs ++ new)
   unfolding fragments Each
-  fragments-taken [] bs l t = ap answer (sym (append-nil (old ++ bs)))
-  fragments-taken (b ∷ new) bs l t =
+  fragments-taken [] bs n l t = ap answer (sym (append-nil (old ++ bs)))
+  fragments-taken (b ∷ new) bs n l t =
       let more : total (old ++ (bs ++ (b ∷ [])) ++ new) ≤ 9223372036854775807 = rw (moved bs b new) t in
       let room : total (old ++ bs) + b .size ≤ 9223372036854775807 =
       omega (arith, total-append (old ++ bs) (b ∷ new), total-append (b ∷ []) new, total-one b) in
-      let true : declared (drop a f) d (length bs) (total (old ++ bs)) (b .size) ≡ true = rw (total-append old bs) (l .0 .truthful) in
+      let true : Truthful (drop a f) d (total (old ++ bs)) (length bs) (length new) (b .size) = rw (total-append old bs) (l .0 .truthful) in
       let here : fragmentOf id f (drop a f) d (length bs) (total (old ++ bs)) ≡ answer b =
-      fragment-taken id f (drop a f) d (length bs) (total (old ++ bs)) b (l .0 .link) (l .0 .stands) true room in
-      rw here (one-on bs b (length new) ∙ fragments-taken new (bs ++ (b ∷ [])) (l .1) more ∙ ap answer (moved bs b new))
+      fragment-taken id f (drop a f) d (length bs) (length new) (total (old ++ bs)) (omega arith) b (l .0 .link) (l .0 .stands) true room in
+      rw here (one-on bs b (length new) ∙ fragments-taken new (bs ++ (b ∷ [])) (omega (arith, length-append bs (b ∷ []))) (l .1) more ∙ ap answer (moved bs b new))
 
 -- ---- the lists of the chain
 
@@ -106,7 +108,7 @@ module _ (id f : List ℕ) where
       let old : blocksOf ps ++ [] ≡ blocksOf ps = append-nil (blocksOf ps) in
       let t′ : total (blocksOf ps ++ []) ≤ 9223372036854775807 = rw old t in
       let got′ : fragments id f (drop a f) d 0 (d .links) (blocksOf ps ++ []) ≡ answer bs = rw old got in
-      let r = fragments-stand id f a d (blocksOf ps) (d .links) [] bs t′ got′ in
+      let r = fragments-stand id f a d (blocksOf ps) (d .links) [] bs (zero-add (d .links)) t′ got′ in
       let all : bs ≡ blocksOf ps ++ r .0 = r .1 ∙ ap (λ (x : List Block). x ++ r .0) old in
       let few : length bs ≤ 4096 = omega (arith, ap length all, length-append (blocksOf ps) (r .0), r .2, known .5) in (
         r .0,
@@ -187,7 +189,7 @@ module _ (id f : List ℕ) where
         let room : total (blocksOf ps ++ [] ++ q .blocks) ≤ 9223372036854775807 = rw (old, sym (blocks-one ps q)) t in
         ap (λ (n : ℕ). fragments id f (drop (q .address) f) (q .list) 0 n (blocksOf ps)) (sym (h .links))
         ∙ ap (fragments id f (drop (q .address) f) (q .list) 0 (length (q .blocks))) (sym old)
-        ∙ fragments-taken id f (q .address) (q .list) (blocksOf ps) (q .blocks) [] (h .each) room
+        ∙ fragments-taken id f (q .address) (q .list) (blocksOf ps) (q .blocks) [] (zero-add (length (q .blocks)) ∙ h .links) (h .each) room
         ∙ ap (λ (bs : List Block). answer (bs ++ q .blocks)) old ∙ ap answer (sym (blocks-one ps q))
 
     part-taken : lists id f (suc k) (q .address) (blocksOf ps)

@@ -1,27 +1,30 @@
 -- No definition is met by refusing always: each answers exactly where its condition holds.
-use mathlib.Core.Path.{_≡_, refl}
+use mathlib.Core.Path.{_≡_, refl, sym, ap, _∙_}
 use mathlib.Core.Logic.{_⊎_, inl, inr}
 use mathlib.Core.Bool.{Bool, true, false, not, _||_, true≢false}
-use mathlib.Core.List.{List}
+use mathlib.Core.List.{List, _++_}
 use Prim.Native.Nat.{ℕ, _+_, _*_, _≤_, _<_}
 use native.Mathlib.Omega.{arith}
-use lib.ListN.{length, take}
+use lib.ListN.{length, take, drop}
+use lib.Seq.{take-append-seam}
 use lib.Dec.{ltb, eqb}
 use borrow.Author.Tests.{ltb-false, le-ltb, eqb-true, eqb-false, not-false, ne-eqb, eq-eqb}
 use Rattle.definitions.specs.Reply.{Reply, Outcome, answer, refusal, if_then_else_, andThen, told, writing}
+use Rattle.definitions.specs.Bytes.{span}
 use Rattle.definitions.specs.Unicode.{Encoding, textOf, writtenText, textWritten}
 use Rattle.definitions.specs.Header.{Header, headerIn, headerOf, headerBytes, headerWritten}
 use Rattle.definitions.specs.DataType.{Kind, integer, floating, whole, undecoded, kindOf}
 use Rattle.definitions.specs.DataList.{Lengths, equal, variable, listOf, listBytes, listSize, flagsFor, restFor, unwritable, listWritten}
-use Rattle.definitions.specs.Channel.{Channel, Value, startOf, spanOf, valueBy, valueOf, validValueOf}
+use Rattle.definitions.specs.Channel.{Channel, Value, ValidValue, startOf, spanOf, valueBy, valueOf, validValueOf}
 use Rattle.definitions.specs.Chain.{Block, idDT, joined, chainOf, badSize, onBlocks, recordOf, fetched, valueFetched}
 use Rattle.definitions.proofs.Replies.{not-answered}
 use Rattle.blocks.proofs.Headers.{length-header}
 use Rattle.blocks.proofs.Writes.{length-list}
-use Rattle.chain.proofs.Answers.{answered}
+use Rattle.words.proofs.Spans.{length-span}
+use Rattle.chain.proofs.Answers.{answered, followed}
 use Rattle.theorems.proofs.ListAnswers.{above-zero, list-answered, list-stands}
 use Rattle.theorems.proofs.AcceptedChains.{accepted, accepts}
-use Rattle.theorems.specs.Exactly.{Exactly, ListStands, Counted, ListFits, Legal, Readable, Fetchable, ValueFetchable}
+use Rattle.theorems.specs.Exactly.{Exactly, ListStands, Counted, ListFits, Legal, FieldStands, Fetchable, ValueFetchable}
 
 -- ---- tests in turn
 
@@ -163,18 +166,21 @@ module _ (s : List ℕ) (at n : ℕ) (c : Channel) where
 
 module _ (s : List ℕ) (idSize : ℕ) (c : Channel) where
   -- a number field inside the record with a legal width has a value, and every other field that is inside it
-  pub value-exactly : Exactly (Readable s idSize c) (valueOf s idSize c)
+  pub value-exactly : Exactly (FieldStands s idSize c) (valueOf s idSize c)
   unfolding valueOf
   value-exactly =
       same (λ r. (r .legal, r .inside)) (λ p. record { legal = p .0; inside = p .1 })
       (by-kind s (startOf idSize c) (spanOf s c) c (kindOf (c .dataType)))
 
-  pub valid-value-exactly : (dataBytes : ℕ) → Exactly (Readable s idSize c) (validValueOf s idSize dataBytes c)
+  pub valid-value-exactly : (dataBytes : ℕ) → Exactly (FieldStands s idSize c) (validValueOf s idSize dataBytes c)
   unfolding validValueOf
   valid-value-exactly dataBytes =
       same (λ p. (p, tt)) (λ p. p .0) (going-on (valueOf s idSize c) _ value-exactly (λ v. always _))
 
 -- ---- records
+
+front-of : (xs ys : List ℕ) (n : ℕ) → length xs ≡ n → take n (xs ++ ys) ≡ xs
+front-of xs ys n l = ap (λ (k : ℕ). take k (xs ++ ys)) (sym l) ∙ take-append-seam xs ys
 
 size-passes : (size room : ℕ) → (0 < size) × (size ≤ 16384) × (size ≤ room) → badSize size room ≡ false
 size-passes size room p =
@@ -225,10 +231,29 @@ module _ (f : List ℕ) (start k size : ℕ) (out : List ℕ) where
       (reply-of (ltb 1099511627776 (length f)) 7 0 out _
       (not-under 1099511627776 (length f) 7 0 _ (on-blocks (chainOf idDT f start))))))
 
-  pub value-fetched-exactly : (idSize dataBytes : ℕ) (c : Channel)
-      → Exactly (ValueFetchable f start k size idSize c out) (valueFetched f start k size idSize dataBytes c out .reply)
-  unfolding valueFetched
-  value-fetched-exactly idSize dataBytes c =
-      same (λ h. (h .fetchable, h .readable)) (λ p. record { fetchable = p .0; readable = p .1 })
-      (going-on (fetched f start k size out .reply) _ fetched-exactly
-      (λ u. valid-value-exactly (take size (fetched f start k size out .buffer)) idSize c dataBytes))
+  -- such a record is left in the buffer's front
+  pub fetched-record : (h : Fetchable f start k size out)
+      → fetched f start k size out ≡ record { reply = answer tt; buffer = span (joined f (h .blocks)) (k * size) size ++ drop size out }
+  unfolding fetched recordOf
+  fetched-record h =
+      rw (size-passes size (length out) (h .some, h .small, h .room), le-ltb _ _ (h .short), accepts idDT f start (h .blocks) (h .accepted), le-ltb _ _ (h .inside))
+
+  module _ (idSize dataBytes : ℕ) (c : Channel) where
+    -- and its field is read from those bytes alone
+    value-of-record : (h : Fetchable f start k size out)
+        → valueFetched f start k size idSize dataBytes c out .reply ≡ validValueOf (span (joined f (h .blocks)) (k * size) size) idSize dataBytes c
+    unfolding valueFetched
+    value-of-record h =
+        let l : length (span (joined f (h .blocks)) (k * size) size) ≡ size = length-span (joined f (h .blocks)) (k * size) size (h .inside) in
+        rw (fetched-record h, front-of _ (drop size out) size l)
+
+    -- a value is answered of a record that was fetched
+    record-before : (v : ValidValue) → valueFetched f start k size idSize dataBytes c out .reply ≡ answer v → Fetchable f start k size out
+    unfolding valueFetched
+    record-before v e = let r = followed (fetched f start k size out .reply) _ v e in fetched-exactly .only (r .0) (r .1)
+
+    pub value-fetched-exactly : Exactly (ValueFetchable f start k size idSize c out) (valueFetched f start k size idSize dataBytes c out .reply)
+    value-fetched-exactly = record {
+      answers = λ h. let v = valid-value-exactly _ idSize c dataBytes .answers (h .field) in (v .0, value-of-record (h .fetchable) ∙ v .1);
+      only = λ a e. let h = record-before a e in record { fetchable = h; field = valid-value-exactly _ idSize c dataBytes .only a (sym (value-of-record h) ∙ e) };
+    }
