@@ -5,8 +5,7 @@ use mathlib.Core.Bool.{Bool, true, false, not, _||_, true≢false}
 use mathlib.Core.List.{List, _++_}
 use Prim.Native.Nat.{ℕ, _+_, _*_, _≤_, _<_}
 use native.Mathlib.Omega.{arith}
-use lib.ListN.{length, take, drop}
-use lib.Seq.{take-append-seam}
+use lib.ListN.{length, drop}
 use lib.Dec.{ltb, eqb}
 use borrow.Author.Tests.{ltb-false, le-ltb, eqb-true, eqb-false, not-false, ne-eqb, eq-eqb}
 use Rattle.definitions.specs.Reply.{Reply, Outcome, answer, refusal, if_then_else_, andThen, told, writing}
@@ -14,14 +13,15 @@ use Rattle.definitions.specs.Bytes.{span}
 use Rattle.definitions.specs.Unicode.{Encoding, textOf, writtenText, textWritten}
 use Rattle.definitions.specs.Header.{Header, headerIn, headerOf, headerBytes, headerWritten}
 use Rattle.definitions.specs.DataType.{Kind, integer, floating, whole, undecoded, kindOf}
-use Rattle.definitions.specs.DataList.{Lengths, equal, variable, listOf, listBytes, listSize, flagsFor, restFor, unwritable, listWritten}
+use Rattle.definitions.specs.DataList.{Lengths, equal, variable, linkLimit, listOf, listBytes, listSize, flagsFor, restFor, unwritable, listWritten}
 use Rattle.definitions.specs.Channel.{Channel, Value, ValidValue, startOf, spanOf, valueBy, valueOf, validValueOf}
-use Rattle.definitions.specs.Chain.{Block, idDT, joined, chainOf, badSize, onBlocks, recordOf, fetched, valueFetched}
+use Rattle.definitions.specs.Chain.{Block, idDT, fileLimit, recordLimit, joined, chainOf, badSize, onBlocks, recordOf, fetched, valueFetched}
 use Rattle.definitions.proofs.Replies.{not-answered}
 use Rattle.blocks.proofs.Headers.{length-header}
 use Rattle.blocks.proofs.Writes.{length-list}
 use Rattle.words.proofs.Spans.{length-span}
 use Rattle.chain.proofs.Answers.{answered, followed}
+use Rattle.theorems.proofs.Rewritten.{front-of}
 use Rattle.theorems.proofs.ListAnswers.{above-zero, list-answered, list-stands}
 use Rattle.theorems.proofs.AcceptedChains.{accepted, accepts}
 use Rattle.theorems.specs.Exactly.{Exactly, ListStands, Counted, ListFits, Legal, FieldStands, Fetchable, ValueFetchable}
@@ -103,14 +103,14 @@ header-written-exactly out h =
     let l = length-header h in
     same (λ p. omega arith) (λ p. omega arith) (writing-exactly out (headerBytes h) 24)
 
-counted-passes : (n : ℕ) (l : Lengths) → (n ≤ 4096) × Counted n l → unwritable n l ≡ false
+counted-passes : (n : ℕ) (l : Lengths) → (n ≤ linkLimit) × Counted n l → unwritable n l ≡ false
 counted-passes n (equal k) p = le-ltb _ _ (p .0)
 counted-passes n (variable ns) p = rw (le-ltb _ _ (p .0), eq-eqb _ _ (p .1))
 
-passed-counted : (n : ℕ) (l : Lengths) → unwritable n l ≡ false → (n ≤ 4096) × Counted n l
+passed-counted : (n : ℕ) (l : Lengths) → unwritable n l ≡ false → (n ≤ linkLimit) × Counted n l
 passed-counted n (equal k) h = (ltb-false _ _ h, tt)
 passed-counted n (variable ns) h =
-    let p = neither (ltb 4096 n) (not (eqb n (length ns))) h in
+    let p = neither (ltb linkLimit n) (not (eqb n (length ns))) h in
     (ltb-false _ _ (p .0), eqb-true _ _ (not-false _ (p .1)))
 
 module _ (out : List ℕ) (next : ℕ) (links : List ℕ) (l : Lengths) where
@@ -179,18 +179,15 @@ module _ (s : List ℕ) (idSize : ℕ) (c : Channel) where
 
 -- ---- records
 
-front-of : (xs ys : List ℕ) (n : ℕ) → length xs ≡ n → take n (xs ++ ys) ≡ xs
-front-of xs ys n l = ap (λ (k : ℕ). take k (xs ++ ys)) (sym l) ∙ take-append-seam xs ys
-
-size-passes : (size room : ℕ) → (0 < size) × (size ≤ 16384) × (size ≤ room) → badSize size room ≡ false
+size-passes : (size room : ℕ) → (0 < size) × (size ≤ recordLimit) × (size ≤ room) → badSize size room ≡ false
 size-passes size room p =
     let z : size ≡ 0 → ⊥ = λ e. omega (arith, p .0) in
     rw (ne-eqb _ _ z, le-ltb _ _ (p .1), le-ltb _ _ (p .2))
 
-passed-size : (size room : ℕ) → badSize size room ≡ false → (0 < size) × (size ≤ 16384) × (size ≤ room)
-passed-size size room h =
-    let p = neither (eqb size 0 || ltb 16384 size) (ltb room size) h in
-    let q = neither (eqb size 0) (ltb 16384 size) (p .0) in
+pub size-fits : (size room : ℕ) → badSize size room ≡ false → (0 < size) × (size ≤ recordLimit) × (size ≤ room)
+size-fits size room h =
+    let p = neither (eqb size 0 || ltb recordLimit size) (ltb room size) h in
+    let q = neither (eqb size 0) (ltb recordLimit size) (p .0) in
     (above-zero size (eqb-false _ _ (q .0)), ltb-false _ _ (q .1), ltb-false _ _ (p .1))
 
 module _ (f : List ℕ) (start k size : ℕ) (out : List ℕ) where
@@ -227,9 +224,9 @@ module _ (f : List ℕ) (start k size : ℕ) (out : List ℕ) where
         inside = p .1 .1 .2;
       })
       (reply-of (badSize size (length out)) 15 0 out _
-      (passing (badSize size (length out)) 15 0 _ (size-passes size (length out)) (passed-size size (length out))
-      (reply-of (ltb 1099511627776 (length f)) 7 0 out _
-      (not-under 1099511627776 (length f) 7 0 _ (on-blocks (chainOf idDT f start))))))
+      (passing (badSize size (length out)) 15 0 _ (size-passes size (length out)) (size-fits size (length out))
+      (reply-of (ltb fileLimit (length f)) 7 0 out _
+      (not-under fileLimit (length f) 7 0 _ (on-blocks (chainOf idDT f start))))))
 
   -- such a record is left in the buffer's front
   pub fetched-record : (h : Fetchable f start k size out)

@@ -11,7 +11,7 @@ use borrow.Author.Tests.{leb-true, ltb-true, ltb-false, eqb-true, eqb-false, not
 use Rattle.definitions.specs.Reply.{answer, if_then_else_}
 use Rattle.definitions.specs.Bytes.{u64At, bit}
 use Rattle.definitions.specs.DataList.{DataList, oneLength, listOf}
-use Rattle.definitions.specs.Chain.{Block, hasHeader, blockAt, judged, declared, fragmentOf, agrees, admitted, listAt}
+use Rattle.definitions.specs.Chain.{Block, fragmentLimit, dataLimit, hasHeader, blockAt, judged, declared, fragmentOf, agrees, admitted, listAt}
 use Rattle.definitions.specs.Accepted.{BlockStands, Truthful}
 use Rattle.definitions.proofs.Replies.{both}
 use Rattle.chain.proofs.Addresses.{header-there}
@@ -78,12 +78,12 @@ module _ (id f : List ℕ) where
 
   module _ (s : List ℕ) (d : DataList) (i more p : ℕ) (here : i + 1 + more ≡ d .links) where
     pub fragment-stands : (b : Block) → fragmentOf id f s d i p ≡ answer b
-        → (u64At s (d .linksAt + i * 8) ≡ b .address) × BlockStands id f b × Truthful s d p i more (b .size) × (p + b .size ≤ 9223372036854775807)
+        → (u64At s (d .linksAt + i * 8) ≡ b .address) × BlockStands id f b × Truthful s d p i more (b .size) × (p + b .size ≤ dataLimit)
     unfolding fragmentOf
     fragment-stands b h =
         let g = followed (blockAt id f (u64At s (d .linksAt + i * 8))) (judged s d i p) b h in
         let k = block-stands id f (u64At s (d .linksAt + i * 8)) (g .0) (g .1) in
-        let m = passed (ltb 9223372036854775807 (p + g .0 .size)) 14 0 _ b (g .2) in
+        let m = passed (ltb dataLimit (p + g .0 .size)) 14 0 _ b (g .2) in
         let t = passed (not (declared s d i p (g .0 .size))) 13 0 _ b (m .1) in
         let same : g .0 ≡ b = cc in (
           rw (sym same) (sym (k .0)),
@@ -93,25 +93,25 @@ module _ (id f : List ℕ) where
         )
 
     pub fragment-taken : (b : Block) → u64At s (d .linksAt + i * 8) ≡ b .address → BlockStands id f b → Truthful s d p i more (b .size)
-        → p + b .size ≤ 9223372036854775807 → fragmentOf id f s d i p ≡ answer b
+        → p + b .size ≤ dataLimit → fragmentOf id f s d i p ≡ answer b
     unfolding fragmentOf
     fragment-taken b e h t l = rw (e, block-taken b h, le-ltb _ _ l, true-tested s d p i more (b .size) here t)
 
 module _ (f : List ℕ) (n a : ℕ) where
   pub list-there : (d : DataList) → listAt f n a ≡ answer d
-      → (0 < a) × (a + 24 ≤ length f) × (listOf (drop a f) ≡ answer d) × (d .count ≡ d .links) × (d .restAt + d .rest * 8 ≤ d .header .blockLength) × (n + d .links ≤ 4096)
+      → (0 < a) × (a + 24 ≤ length f) × (listOf (drop a f) ≡ answer d) × (d .count ≡ d .links) × (d .restAt + d .rest * 8 ≤ d .header .blockLength) × (n + d .links ≤ fragmentLimit)
   unfolding listAt
   list-there d h =
       let p = passed (not (hasHeader f a)) 11 0 _ d h in
       let there = header-there f a (not-false _ (p .0)) in
       let g = followed (listOf (drop a f)) (admitted n) d (p .1) in
       let q = passed (not (agrees (g .0))) 10 0 _ d (g .2) in
-      let r = passed (ltb 4096 (n + g .0 .links)) 9 0 _ d (q .1) in
+      let r = passed (ltb fragmentLimit (n + g .0 .links)) 9 0 _ d (q .1) in
       let same : g .0 ≡ d = cc in
       let t = both _ _ (not-false _ (q .0)) in
       (there .0, there .1, g .1 ∙ ap answer same, rw (sym same) (eqb-true _ _ (t .0)), rw (sym same) (leb-true _ _ (t .1)), rw (sym same) (ltb-false _ _ (r .0)))
 
   pub list-taken : (d : DataList) → 0 < a → a + 24 ≤ length f → listOf (drop a f) ≡ answer d → d .count ≡ d .links
-      → d .restAt + d .rest * 8 ≤ d .header .blockLength → n + d .links ≤ 4096 → listAt f n a ≡ answer d
+      → d .restAt + d .rest * 8 ≤ d .header .blockLength → n + d .links ≤ fragmentLimit → listAt f n a ≡ answer d
   unfolding listAt
   list-taken d h l e c b m = rw (has-header f a h l, e, eq-eqb _ _ c, le-leb _ _ b, le-ltb _ _ m)

@@ -11,15 +11,11 @@ use Rattle.chain.specs.Meaning.{fetchedBy}
 use Rattle.chain.specs.declared.place.FileAddress.{FileAddress}
 use Rattle.chain.specs.declared.record.RecordRead.{RecordRead}
 use Rattle.chain.proofs.Back.{record-one}
-use Rattle.chain.proofs.read_record.Kinds as record-kinds
-use Rattle.chain.proofs.read_record.Reads as record-reads
 use Rattle.decoder.specs.Meaning.{channelMeant}
 use Rattle.decoder.specs.declared.channel.Channel.{Channel}
 use Rattle.decoder.specs.declared.value.ValidValueRead.{ValidValueRead}
 use Rattle.decoder.proofs.Back.{valid-value-one}
 use Rattle.records.specs.Meaning.{valueFetchedBy}
-use Rattle.records.proofs.read_value.Kinds as value-kinds
-use Rattle.records.proofs.read_value.Reads as value-reads
 use Rattle.mf4.specs.Replies.{Left, left}
 use Rattle.mf4.specs.Values.{channelGiven, fetchLeft, valueLeft}
 use Rattle.mf4.specs.declared.fetches.Mf4Fetched.{Mf4Fetched}
@@ -30,6 +26,7 @@ use Rattle.mf4.proofs.mf4_read_record.Reads as record-c-reads
 use Rattle.mf4.proofs.mf4_record_value.Kinds as value-c-kinds
 use Rattle.mf4.proofs.mf4_record_value.Reads as value-c-reads
 use Rattle.theorems.specs.Sole.{Slice, Allows}
+use Rattle.theorems.specs.Clauses.{ReadsRecord, ReadsRecordValue}
 use Rattle.theorems.proofs.TwoFiles.{Joins, recordIn, valueIn, record-of-joined, value-of-joined}
 
 -- Of a call that is given a file, a start and a buffer, with all else fixed: `Says` is its clause, of a result and of what
@@ -59,9 +56,7 @@ module _ (κs : Lfts 2) (j : List ℕ) (number size : ℕ) where
   -- ---- read_record
 
   abbrev pub RecordSays : Slice → FileAddress → Slice → RecordRead → List ℕ → Type 0
-  RecordSays file start buffer y after =
-      Allows 2 record-kinds.ps record-kinds.r record-reads.Learnt κs
-      (file, (start, (number, (size, (buffer, tt))))) y (tt, (tt, (tt, (tt, (after, tt)))))
+  RecordSays file start buffer = ReadsRecord κs file start number size buffer
 
   pub read-record-of-joined : OfJoined (λ (s : FileAddress). s .0) j RecordSays fetchedBy (recordIn j number size)
   read-record-of-joined file start buffer y after h p = p ∙ record-of-joined (file .now) (start .0) j h number size (buffer .now)
@@ -94,10 +89,7 @@ module _ (κs : Lfts 2) (j : List ℕ) (number size idSize dataBytes : ℕ) wher
 
   module _ (channel : Channel) where
     abbrev pub ValueSays : Slice → FileAddress → Slice → ValidValueRead → List ℕ → Type 0
-    ValueSays file start buffer y after =
-        Allows 2 value-kinds.ps value-kinds.r value-reads.Learnt κs
-        (file, (start, (number, (size, (idSize, (dataBytes, (channel, (buffer, tt)))))))) y
-        (tt, (tt, (tt, (tt, (tt, (tt, (tt, (after, tt))))))))
+    ValueSays file start buffer = ReadsRecordValue κs file start number size idSize dataBytes channel buffer
 
     abbrev valueGiven : List ℕ → Outcome ValidValue
     valueGiven = valueIn j number size idSize dataBytes (channelMeant channel)

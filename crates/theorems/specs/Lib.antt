@@ -1,3 +1,4 @@
 pub mod Examples
 pub mod Sole
+pub mod Clauses
 pub mod Exactly
