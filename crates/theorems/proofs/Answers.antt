@@ -15,7 +15,8 @@ use Rattle.definitions.specs.Header.{Header, headerIn, headerOf, headerBytes, h
 use Rattle.definitions.specs.DataType.{Kind, integer, floating, whole, undecoded, kindOf}
 use Rattle.definitions.specs.DataList.{Lengths, equal, variable, linkLimit, listOf, listBytes, listSize, flagsFor, restFor, unwritable, listWritten}
 use Rattle.definitions.specs.Channel.{Channel, Value, ValidValue, startOf, spanOf, valueBy, valueOf, validValueOf}
-use Rattle.definitions.specs.Chain.{Block, idDT, fileLimit, recordLimit, joined, chainOf, badSize, onBlocks, recordOf, fetched, valueFetched}
+use Rattle.definitions.specs.Chain.{Block, idDT, fileLimit, recordLimit, joined, total, chainOf, totalOf, dataLength, badSize, onBlocks, recordOf, fetched, valueFetched}
+use Rattle.definitions.specs.Accepted.{Accepted}
 use Rattle.definitions.proofs.Replies.{not-answered}
 use Rattle.blocks.proofs.Headers.{length-header}
 use Rattle.blocks.proofs.Writes.{length-list}
@@ -24,7 +25,7 @@ use Rattle.chain.proofs.Answers.{answered, followed}
 use Rattle.theorems.proofs.Rewritten.{front-of}
 use Rattle.theorems.proofs.ListAnswers.{above-zero, list-answered, list-stands}
 use Rattle.theorems.proofs.AcceptedChains.{accepted, accepts}
-use Rattle.theorems.specs.Exactly.{Exactly, ListStands, Counted, ListFits, Legal, FieldStands, Fetchable, ValueFetchable}
+use Rattle.theorems.specs.Exactly.{Exactly, ListStands, Counted, ListFits, Legal, FieldStands, Joinable, Fetchable, ValueFetchable}
 
 -- ---- tests in turn
 
@@ -176,6 +177,22 @@ module _ (s : List ℕ) (idSize : ℕ) (c : Channel) where
   unfolding validValueOf
   valid-value-exactly dataBytes =
       same (λ p. (p, tt)) (λ p. p .0) (going-on (valueOf s idSize c) _ value-exactly (λ v. always _))
+
+-- ---- the joined data
+
+module _ (id f : List ℕ) (start : ℕ) where
+  pub total-exactly : Exactly ((bs : List Block) × Accepted id f start bs) (totalOf id f start)
+  unfolding totalOf
+  total-exactly = record {
+    answers = λ p. (_, ap (λ (r : Reply (List Block)). andThen r (λ bs. answer (total bs))) (accepts id f start (p .0) (p .1)));
+    only = λ n e. let r = followed (chainOf id f start) _ n e in (r .0, accepted id f start (r .0) (r .1));
+  }
+
+pub length-exactly : (f : List ℕ) (start : ℕ) → Exactly (Joinable f start) (dataLength f start)
+unfolding dataLength
+length-exactly f start =
+    same (λ h. (h .short, (h .blocks, h .accepted))) (λ p. record { short = p .0; blocks = p .1 .0; accepted = p .1 .1 })
+    (not-under fileLimit (length f) 7 0 _ (total-exactly idDT f start))
 
 -- ---- records
 

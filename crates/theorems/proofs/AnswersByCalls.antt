@@ -8,10 +8,12 @@ use lib.ListN.{length}
 use Rattle.definitions.specs.Reply.{Reply, Outcome, answer}
 use Rattle.definitions.specs.Unicode.{TextWritten, textOf}
 use Rattle.definitions.specs.DataList.{equal, variable}
+use Rattle.definitions.specs.Chain.{Block}
+use Rattle.definitions.specs.Accepted.{Accepted}
 use Rattle.theorems.specs.Sole.{Slice}
-use Rattle.theorems.specs.Exactly.{Exactly, ListStands, ListFits, FieldStands, Fetchable, ValueFetchable}
-use Rattle.theorems.specs.Clauses.{ReadsHeader, WritesHeader, ReadsList, WritesEqual, WritesVariable, WritesText, ReadsValue, ReadsValidValue, ReadsRecord, ReadsRecordValue}
-use Rattle.theorems.proofs.Answers.{header-exactly, list-exactly, header-written-exactly, list-written-exactly, text-written-exactly, value-exactly, valid-value-exactly, fetched-exactly, value-fetched-exactly}
+use Rattle.theorems.specs.Exactly.{Exactly, ListStands, ListFits, FieldStands, Joinable, Fetchable, ValueFetchable}
+use Rattle.theorems.specs.Clauses.{ReadsHeader, WritesHeader, ReadsList, WritesEqual, WritesVariable, WritesText, ReadsValue, ReadsValidValue, AcceptsChain, ReadsLength, ReadsRecord, ReadsRecordValue}
+use Rattle.theorems.proofs.Answers.{header-exactly, list-exactly, header-written-exactly, list-written-exactly, text-written-exactly, value-exactly, valid-value-exactly, total-exactly, length-exactly, fetched-exactly, value-fetched-exactly}
 use Rattle.blocks.specs.Meaning.{headerReply, headerMeant, writtenReply, listReply}
 use Rattle.blocks.specs.declared.header.BlockHeader.{BlockHeader}
 use Rattle.blocks.specs.declared.header.HeaderRead.{HeaderRead}
@@ -26,8 +28,9 @@ use Rattle.decoder.specs.Meaning.{channelMeant, valueReply, validValueReply}
 use Rattle.decoder.specs.declared.channel.Channel.{Channel}
 use Rattle.decoder.specs.declared.value.ValueRead.{ValueRead}
 use Rattle.decoder.specs.declared.value.ValidValueRead.{ValidValueRead}
-use Rattle.chain.specs.Meaning.{recordReply}
+use Rattle.chain.specs.Meaning.{chainReply, recordReply}
 use Rattle.chain.specs.declared.place.FileAddress.{FileAddress}
+use Rattle.chain.specs.declared.acceptance.ChainRead.{ChainRead}
 use Rattle.chain.specs.declared.record.RecordRead.{RecordRead}
 
 -- a reply that is the definition's
@@ -78,6 +81,16 @@ value-read-exactly κs bytes idSize channel y p = exactly p (value-exactly (byte
 pub valid-value-read-exactly : (κs : Lfts 1) (bytes : Slice) (idSize dataBytes : ℕ) (channel : Channel) (y : ValidValueRead)
     → ReadsValidValue κs bytes idSize dataBytes channel y → Exactly (FieldStands (bytes .now) idSize (channelMeant channel)) (validValueReply y)
 valid-value-read-exactly κs bytes idSize dataBytes channel y p = exactly p (valid-value-exactly (bytes .now) idSize (channelMeant channel) dataBytes)
+
+-- ---- a chain
+
+pub chain-accept-exactly : (κs : Lfts 2) (file : Slice) (start : FileAddress) (id : Slice) (y : ChainRead)
+    → AcceptsChain κs file start id y → Exactly ((bs : List Block) × Accepted (id .now) (file .now) (start .0) bs) (chainReply y)
+chain-accept-exactly κs file start id y p = exactly p (total-exactly (id .now) (file .now) (start .0))
+
+pub chain-length-exactly : (κs : Lfts 1) (file : Slice) (start : FileAddress) (y : ChainRead)
+    → ReadsLength κs file start y → Exactly (Joinable (file .now) (start .0)) (chainReply y)
+chain-length-exactly κs file start y p = exactly p (length-exactly (file .now) (start .0))
 
 -- ---- a record
 

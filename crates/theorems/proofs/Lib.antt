@@ -17,4 +17,9 @@ pub mod LeftAlone
 pub mod LeftAloneByCalls
 pub mod AnswersByCalls
 pub mod LocalityByCalls
+pub mod RoundTripsInBuffers
 pub mod RoundTripsByCalls
+pub mod TextClausesToC
+pub mod AnswersToC
+pub mod LeftAloneToC
+pub mod RoundTripsToC

@@ -18,6 +18,10 @@ use Rattle.decoder.specs.declared.channel.Channel.{Channel as Description}
 use Rattle.decoder.specs.declared.value.ValueRead.{ValueRead}
 use Rattle.theorems.specs.Sole.{Slice}
 use Rattle.theorems.specs.Clauses.{ReadsValue, ReadsDouble}
+use Rattle.theorems.specs.ClausesToC.{ReadsValueC, ReadsDoubleC}
+use Rattle.mf4.specs.Values.{channelGiven, valueC}
+use Rattle.mf4.specs.declared.values.Mf4Channel.{Mf4Channel}
+use Rattle.mf4.specs.declared.values.Mf4Value.{Mf4Value}
 
 -- records of one length, that hold a fixed field's bits alike, or its bytes where it is no number
 pub record Alike (s t : List ℕ) (idSize : ℕ) (c : Channel) : Type 0 where
@@ -47,3 +51,12 @@ module _ (κs : Lfts 1) (s t : Slice) (idSize : ℕ) (channel : Description) (h 
 
   pub double-read-alike : (y z : ℕ) → ReadsDouble κs s idSize channel y → ReadsDouble κs t idSize channel z → y ≡ z
   double-read-alike y z p q = p ∙ same-double (s .now) (t .now) idSize (channelMeant channel) h ∙ sym q
+
+-- ---- for C
+
+module _ (κs : Lfts 1) (s t : Slice) (idSize : ℕ) (channel : Mf4Channel) (h : Alike (s .now) (t .now) idSize (channelGiven channel)) where
+  pub mf4-decode-value-alike : (y z : Mf4Value) → ReadsValueC κs s idSize channel y → ReadsValueC κs t idSize channel z → y ≡ z
+  mf4-decode-value-alike y z p q = p ∙ ap valueC (same-value (s .now) (t .now) idSize (channelGiven channel) h) ∙ sym q
+
+  pub mf4-decode-double-alike : (y z : ℕ) → ReadsDoubleC κs s idSize channel y → ReadsDoubleC κs t idSize channel z → y ≡ z
+  mf4-decode-double-alike y z p q = p ∙ same-double (s .now) (t .now) idSize (channelGiven channel) h ∙ sym q

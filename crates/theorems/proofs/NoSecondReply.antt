@@ -61,6 +61,8 @@ use Rattle.decoder.proofs.decode_f64_from_record.Kinds as record-double-kinds
 use Rattle.decoder.proofs.decode_f64_from_record.Reads as record-double
 use Rattle.chain.proofs.accept.Kinds as chain-accept-kinds
 use Rattle.chain.proofs.accept.Reads as chain-accept
+use Rattle.chain.proofs.data_length.Kinds as chain-length-kinds
+use Rattle.chain.proofs.data_length.Reads as chain-length
 use Rattle.chain.proofs.place.Place.start.Kinds as chain-start-kinds
 use Rattle.chain.proofs.place.Place.start.Reads as chain-start
 use Rattle.chain.proofs.read_record.Kinds as record-read-kinds
@@ -146,6 +148,9 @@ record-double-settled = settled (λ κs a y z b c p q. (p ∙ sym q, refl))
 
 pub chain-accept-settled : Settled 2 chain-accept-kinds.ps chain-accept-kinds.r chain-accept.Asked chain-accept.ensures chain-accept.Learnt
 chain-accept-settled = settled (λ κs a y z b c p q. (chain-one y z (p ∙ sym q), refl))
+
+pub chain-length-settled : Settled 1 chain-length-kinds.ps chain-length-kinds.r chain-length.Asked chain-length.ensures chain-length.Learnt
+chain-length-settled = settled (λ κs a y z b c p q. (chain-one y z (p ∙ sym q), refl))
 
 pub chain-start-settled : Settled 0 chain-start-kinds.ps chain-start-kinds.r chain-start.Asked chain-start.ensures chain-start.Learnt
 chain-start-settled = settled (λ κs a y z b c p q. (p ∙ sym q, refl))

@@ -14,7 +14,7 @@ use Rattle.definitions.specs.Header.{Header, headerOf, headerBytes, headerWritt
 use Rattle.definitions.specs.DataType.{Kind, kindOf}
 use Rattle.definitions.specs.DataList.{DataList, Lengths, idDL, listOf, linksOf, restOf, restIn, flagsAt, listBytes, listSize, flagsFor, restFor, unwritable, listWritten}
 use Rattle.definitions.specs.Channel.{Channel, ValidValue, startOf, spanOf, isInteger, isFloating, isNumber, valueBy, valueOf, validValueOf}
-use Rattle.definitions.specs.Chain.{Block, idDT, dataLimit, fileLimit, fragmentLimit, hasHeader, blockAt, declared, judged, fragmentOf, fragments, agrees, admitted, listAt, lists, listLimit, chainOf, joined, badSize, recordOf, onBlocks, fetched, valueFetched}
+use Rattle.definitions.specs.Chain.{Block, idDT, dataLimit, fileLimit, fragmentLimit, hasHeader, blockAt, declared, judged, fragmentOf, fragments, agrees, admitted, listAt, lists, listLimit, chainOf, totalOf, dataLength, joined, badSize, recordOf, onBlocks, fetched, valueFetched}
 use Rattle.definitions.proofs.Replies.{not-answered}
 
 -- P holds of every refusal's number and of what it tells
@@ -139,6 +139,14 @@ lists-numbered id f (suc k) a before =
     of-following FromTwo (listAt f (length before) a) _ (list-at-numbered f (length before) a)
     (λ d. of-following FromTwo (fragments id f (drop a f) d 0 (d .links) before) _ (fragments-numbered id f (drop a f) d 0 (d .links) before)
     (λ bs. of-either FromTwo (eqb (d .next) 0) _ _ (of-answer FromTwo bs) (lists-numbered id f k (d .next) bs)))
+
+pub total-numbered : (id f : List ℕ) (start : ℕ) → Numbered FromTwo (totalOf id f start)
+unfolding totalOf chainOf
+total-numbered id f start = of-following FromTwo (chainOf id f start) _ (lists-numbered id f listLimit start []) (λ bs. of-answer FromTwo _)
+
+pub length-numbered : (f : List ℕ) (start : ℕ) → Numbered FromTwo (dataLength f start)
+unfolding dataLength
+length-numbered f start = of-test FromTwo (ltb fileLimit (length f)) 7 0 _ (omega arith) (total-numbered idDT f start)
 
 -- ---- a record
 

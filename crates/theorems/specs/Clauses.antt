@@ -2,7 +2,6 @@
 -- what the buffer holds afterwards.
 use Prim.Native.Nat.{ℕ}
 use mathlib.Core.List.{List}
-use mathlib.Core.Bool.{Bool}
 use contract.Lifetimes.{Lfts}
 use Rattle.theorems.specs.Sole.{Slice, Allows}
 use Rattle.blocks.specs.declared.header.BlockHeader.{BlockHeader}
@@ -15,6 +14,7 @@ use Rattle.decoder.specs.declared.channel.Channel.{Channel}
 use Rattle.decoder.specs.declared.value.ValueRead.{ValueRead}
 use Rattle.decoder.specs.declared.value.ValidValueRead.{ValidValueRead}
 use Rattle.chain.specs.declared.place.FileAddress.{FileAddress}
+use Rattle.chain.specs.declared.acceptance.ChainRead.{ChainRead}
 use Rattle.chain.specs.declared.record.RecordRead.{RecordRead}
 use Rattle.blocks.proofs.header.BlockHeader.from_bytes.Kinds as header-read-kinds
 use Rattle.blocks.proofs.header.BlockHeader.from_bytes.Reads as header-read
@@ -34,6 +34,10 @@ use Rattle.decoder.proofs.decode_channel_value_with_validity.Kinds as valid-val
 use Rattle.decoder.proofs.decode_channel_value_with_validity.Reads as valid-value-read
 use Rattle.decoder.proofs.decode_f64_from_record.Kinds as record-double-kinds
 use Rattle.decoder.proofs.decode_f64_from_record.Reads as record-double
+use Rattle.chain.proofs.accept.Kinds as chain-accept-kinds
+use Rattle.chain.proofs.accept.Reads as chain-accept
+use Rattle.chain.proofs.data_length.Kinds as chain-length-kinds
+use Rattle.chain.proofs.data_length.Reads as chain-length
 use Rattle.chain.proofs.read_record.Kinds as record-read-kinds
 use Rattle.chain.proofs.read_record.Reads as record-read
 use Rattle.records.proofs.read_value.Kinds as record-value-kinds
@@ -77,6 +81,16 @@ ReadsValidValue κs bytes idSize dataBytes channel y =
 abbrev pub ReadsDouble : Lfts 1 → Slice → ℕ → Channel → ℕ → Type 0
 ReadsDouble κs bytes idSize channel y =
     Allows 1 record-double-kinds.ps record-double-kinds.r record-double.Learnt κs (bytes, (idSize, (channel, tt))) y (tt, (tt, (tt, tt)))
+
+-- ---- a chain
+
+abbrev pub AcceptsChain : Lfts 2 → Slice → FileAddress → Slice → ChainRead → Type 0
+AcceptsChain κs file start id y =
+    Allows 2 chain-accept-kinds.ps chain-accept-kinds.r chain-accept.Learnt κs (file, (start, (id, tt))) y (tt, (tt, (tt, tt)))
+
+abbrev pub ReadsLength : Lfts 1 → Slice → FileAddress → ChainRead → Type 0
+ReadsLength κs file start y =
+    Allows 1 chain-length-kinds.ps chain-length-kinds.r chain-length.Learnt κs (file, (start, tt)) y (tt, (tt, tt))
 
 -- ---- a record
 

@@ -18,6 +18,11 @@ pub record Exactly {A : Type 0} (P : Type 0) (r : Reply A) : Type 0 where
   pub answers : P → (a : A) × (r ≡ answer a)
   pub only : (a : A) → r ≡ answer a → P
 
+-- the same of a reply's number, which is 0 for an answer
+pub record ExactlyZero (P : Type 0) (number : ℕ) : Type 0 where
+  pub answers : P → number ≡ 0
+  pub only : number ≡ 0 → P
+
 -- ---- a list that is read: the id, a link, and room for all that the fields take
 
 pub record ListStands (s : List ℕ) : Type 0 where
@@ -49,7 +54,12 @@ pub record FieldStands (s : List ℕ) (idSize : ℕ) (c : Channel) : Type 0 wher
   pub legal : Legal (kindOf (c .dataType)) c
   pub inside : startOf idSize c + spanOf s c ≤ length s
 
--- ---- a record, and a value in it
+-- ---- the joined data, a record of it, and a value in that
+
+pub record Joinable (f : List ℕ) (start : ℕ) : Type 0 where
+  pub short : length f ≤ fileLimit
+  pub blocks : List Block
+  pub accepted : Accepted idDT f start blocks
 
 pub record Fetchable (f : List ℕ) (start k size : ℕ) (out : List ℕ) : Type 0 where
   pub some : 0 < size
