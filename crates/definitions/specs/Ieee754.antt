@@ -30,14 +30,14 @@ abbrev pub unit : ℕ
 unit = 2 ^ 1074
 
 -- how far apart two numbers are, each given by sign and magnitude
-abbrev pub distance : Bool → ℕ → Bool → ℕ → ℕ
-distance s a t b = if Bool·beq s t then a - b + (b - a) else a + b
+abbrev pub signedDistance : Bool → ℕ → Bool → ℕ → ℕ
+signedDistance s a t b = if Bool·beq s t then a - b + (b - a) else a + b
 
 -- r is the pattern of a double that is nearest to the integer of sign s and magnitude n: no double is nearer, and where
 -- another is as near, the last digit of r is 0
 pub record Nearest (s : Bool) (n r : ℕ) : Type 0 where
   pub size : ℕ
   pub value : HasValue (ofBits binary64 r) s size unit
-  pub nearest : (b : ℕ) (t : Bool) (a : ℕ) → HasValue (ofBits binary64 b) t a unit → distance s (n * unit) s size ≤ distance s (n * unit) t a
-  pub even : (b : ℕ) (t : Bool) (a : ℕ) → HasValue (ofBits binary64 b) t a unit → distance s (n * unit) s size ≡ distance s (n * unit) t a
+  pub nearest : (b : ℕ) (t : Bool) (a : ℕ) → HasValue (ofBits binary64 b) t a unit → signedDistance s (n * unit) s size ≤ signedDistance s (n * unit) t a
+  pub even : (b : ℕ) (t : Bool) (a : ℕ) → HasValue (ofBits binary64 b) t a unit → signedDistance s (n * unit) s size ≡ signedDistance s (n * unit) t a
       → (a ≡ size) ⊎ (r % 2 ≡ 0)

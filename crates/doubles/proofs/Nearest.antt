@@ -14,7 +14,7 @@ use lib.Ieee as ieee
 use lib.Ieee.{Float, nan, inf, binary64, odd, round, ofFields, ofBits, toBits}
 use lib.Ieee.Exact.{HasValue, odd-sign}
 use lib.Ieee.Nearest.{closest}
-use Rattle.definitions.specs.Ieee754.{unit, distance, doubleOfSign, Nearest}
+use Rattle.definitions.specs.Ieee754.{unit, signedDistance, doubleOfSign, Nearest}
 use Rattle.doubles.proofs.Pattern.{signBit, one-size}
 use Rattle.doubles.proofs.Ties.{Compared, compared}
 use Rattle.doubles.proofs.Whole.{cut, kept, reaches, value-kept, pattern-kept, read-back}
@@ -131,7 +131,7 @@ size-of b t a v = fields-size (leb (2 ^ 63) b) t (b % 2 ^ 63 / 2 ^ 52) (b % 2 ^ 
 
 -- ---- and of both signs: a double of the other sign is no nearer than 0 is
 abbrev BestSigned : Bool → ℕ → ℕ → ℕ → Bool → ℕ → Type 0
-BestSigned s N c C t a = (distance s N s C ≤ distance s N t a) × (distance s N s C ≡ distance s N t a → (a ≡ C) ⊎ (c % 2 ≡ 0))
+BestSigned s N c C t a = (signedDistance s N s C ≤ signedDistance s N t a) × (signedDistance s N s C ≡ signedDistance s N t a → (a ≡ C) ⊎ (c % 2 ≡ 0))
 
 across : (N c C a : ℕ) → Best N c C 0 → (distance N C ≤ N + a) × (distance N C ≡ N + a → (a ≡ C) ⊎ (c % 2 ≡ 0))
 across N c C a b = (omega arith, λ h. (let none : a ≡ 0 = omega arith in ⊎-elim (λ z. inl (none ∙ z)) inr (b .1 (omega arith))))

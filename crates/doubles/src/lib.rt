@@ -8,5 +8,6 @@ mod widening;
 pub use round::double_of;
 pub use sign::double_of_sign;
 pub use sign::double_of_signed;
+pub use sign::magnitude_less_one;
 pub use value::value_of;
 pub use widening::widen;

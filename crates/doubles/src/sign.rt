@@ -34,7 +34,8 @@ fn magnitude(n: i64) -> u64
     n as u64
 }
 
-fn magnitude_less_one(n: i64) -> u64
+// of a negative n
+pub fn magnitude_less_one(n: i64) -> u64
     requires { ⌜ T (ltZ n (pos 0)) ⌝ }
     ensures { λ r. ⌜ (n ≡ negsuc r) × (r < 2 ^ 63) ⌝ }
 {
