@@ -13,7 +13,7 @@
  * What is lent must not change during a call. A record is fetched in two walks along its chain, one that tests and one
  * that copies: if someone changes the file's bytes between the two, the record may be a wrong one. (No call ever reads or
  * writes outside the slices.) A log that is still being written is copied first, and the copy is read: a mapping with
- * MAP_PRIVATE is not enough, since its pages still follow the file.
+ * MAP_PRIVATE is not enough, since its pages may still follow the file.
  *
  * Link with libmf4.a or libmf4.so, for x86-64 Linux (System V calling convention). C99, C++98 or later.
  */
