@@ -1,9 +1,10 @@
 -- The meanings are one-to-one: from its meaning each answer comes back.
-use mathlib.Core.Path.{_≡_, refl, sym, ap, _∙_}
+use mathlib.Core.Path.{_≡_, refl, ap}
 use mathlib.Core.List.{List}
 use Prim.Native.Nat.{ℕ}
 use Rattle.definitions.specs.Reply.{Reply, Outcome, answer, refusal}
 use Rattle.definitions.specs.Chain.{Block}
+use Rattle.definitions.proofs.Replies.{one-by}
 use Rattle.refusals.proofs.Back.{refusalOf, back}
 use Rattle.chain.specs.Meaning.{blockReply, chainReply, recordReply, fetchedBy}
 use Rattle.chain.specs.Walk.{Found, aBlock, aList, theEnd, stepReply}
@@ -16,10 +17,6 @@ use Rattle.chain.specs.declared.record.RecordRead.{RecordRead}
 use Rattle.chain.specs.declared.record.RecordRead.the-variants.{Record, Refused as NoRecord}
 use Rattle.chain.specs.declared.step.Step.{Step}
 use Rattle.chain.specs.declared.step.Step.the-variants.{Data, Moved, End, Refused as NoStep}
-
--- what comes back from its meaning is told apart by it
-one : {A B : Type 0} (mean : A → B) (again : B → A) → ((a : A) → again (mean a) ≡ a) → (a b : A) → mean a ≡ mean b → a ≡ b
-one mean again inverse a b e = sym (inverse a) ∙ ap again e ∙ inverse b
 
 -- ---- a data block
 
@@ -35,7 +32,7 @@ block-back (ABlock b) = refl
 block-back (NoBlock r) = ap NoBlock (back r)
 
 pub block-one : (a b : BlockRead) → blockReply a ≡ blockReply b → a ≡ b
-block-one = one blockReply blockAgain block-back
+block-one = one-by blockReply blockAgain block-back
 
 -- ---- a step
 
@@ -52,7 +49,7 @@ step-back (End q) = refl
 step-back (NoStep r) = ap NoStep (back r)
 
 pub step-one : (a b : Step) → stepReply a ≡ stepReply b → a ≡ b
-step-one = one stepReply stepAgain step-back
+step-one = one-by stepReply stepAgain step-back
 
 -- ---- the chain
 
@@ -65,7 +62,7 @@ chain-back (Whole q) = refl
 chain-back (NoChain r) = ap NoChain (back r)
 
 pub chain-one : (a b : ChainRead) → chainReply a ≡ chainReply b → a ≡ b
-chain-one = one chainReply chainAgain chain-back
+chain-one = one-by chainReply chainAgain chain-back
 
 -- ---- a record
 
@@ -78,7 +75,7 @@ record-back Record = refl
 record-back (NoRecord r) = ap NoRecord (back r)
 
 pub record-one : (a b : RecordRead) → recordReply a ≡ recordReply b → a ≡ b
-record-one = one recordReply recordAgain record-back
+record-one = one-by recordReply recordAgain record-back
 
 -- a reply with the buffer that it leaves
 pub fetched-one : (a b : RecordRead) (x y : List ℕ) → fetchedBy a x ≡ fetchedBy b y → (a ≡ b) × (x ≡ y)

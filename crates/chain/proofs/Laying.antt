@@ -13,7 +13,7 @@ use lib.Seq.{take-all, take-nil, drop-drop, paste, take-append-seam, take-append
 use Rattle.definitions.specs.Reply.{answer}
 use Rattle.definitions.specs.Bytes.{span}
 use Rattle.definitions.specs.Chain.{Block, dataOf, joined, total, chainOf}
-use Rattle.chain.specs.Window.{over, laid, joinedOf}
+use Rattle.chain.specs.Window.{overwritten, laid, joinedOf}
 use Rattle.chain.proofs.Chains.{Inside, joined-length, joined-more}
 
 split-by : (a b : ℕ) (t : Bool) → leb a b ≡ t → (a ≤ b) ⊎ (b < a)
@@ -25,21 +25,21 @@ which : (a b : ℕ) → (a ≤ b) ⊎ (b < a)
 which a b = split-by a b (leb a b) refl
 
 -- nothing is laid over d
-over-none : (d : List ℕ) (g : ℕ) → over d g [] ≡ d
-unfolding over
-over-none d g = rw (take-nil, append-nil, add-zero) (take-append-drop g d)
+overwritten-none : (d : List ℕ) (g : ℕ) → overwritten d g [] ≡ d
+unfolding overwritten
+overwritten-none d g = rw (take-nil, append-nil, add-zero) (take-append-drop g d)
 
 -- nothing is left of d from g on
-over-past : (d : List ℕ) (g : ℕ) (c : List ℕ) → length d ≤ g → over d g c ≡ d
-unfolding over
-over-past d g c h =
+overwritten-past : (d : List ℕ) (g : ℕ) (c : List ℕ) → length d ≤ g → overwritten d g c ≡ d
+unfolding overwritten
+overwritten-past d g c h =
     let z : length d - g ≡ 0 = omega arith in
     rw (take-all g d h, z, drop-of-length-le d {i = g + length c} (omega arith)) (append-nil (d ++ []) ∙ append-nil d)
 
 -- what a loop has copied that stops where either list ends
-pub over-paste : (d : List ℕ) (g : ℕ) (c : List ℕ) (n : ℕ) → g ≤ length d → n ≡ min (length d - g) (length c) → paste d g c n ≡ over d g c
-unfolding over
-over-paste d g c n h e = ⊎-elim
+pub overwritten-paste : (d : List ℕ) (g : ℕ) (c : List ℕ) (n : ℕ) → g ≤ length d → n ≡ min (length d - g) (length c) → paste d g c n ≡ overwritten d g c
+unfolding overwritten
+overwritten-paste d g c n h e = ⊎-elim
     (λ (l : length c ≤ length d - g).
     let m : n ≡ length c = omega arith in
     rw (m, take-all (length c) c (omega arith), take-all (length d - g) c l))
@@ -48,27 +48,27 @@ over-paste d g c n h e = ⊎-elim
     rw (m, drop-of-length-le d {i = g + (length d - g)} (omega arith), drop-of-length-le d {i = g + length c} (omega arith)))
     (which (length c) (length d - g))
 
-length-over : (d : List ℕ) (g : ℕ) (c : List ℕ) → length (over d g c) ≡ length d
-unfolding over
-length-over d g c = simp (length-append, length-take, length-drop) (omega arith)
+length-overwritten : (d : List ℕ) (g : ℕ) (c : List ℕ) → length (overwritten d g c) ≡ length d
+unfolding overwritten
+length-overwritten d g c = simp (length-append, length-take, length-drop) (omega arith)
 
 laid-none : (d : List ℕ) (from : ℕ) → laid d from 0 [] ≡ d
 unfolding laid
-laid-none d from = rw (drop-of-length-le {A = ℕ} [] {i = from - 0} (omega arith)) (over-none d (0 - from))
+laid-none d from = rw (drop-of-length-le {A = ℕ} [] {i = from - 0} (omega arith)) (overwritten-none d (0 - from))
 
 -- b ends before the window
 pub laid-before : (d : List ℕ) (from p : ℕ) (b : List ℕ) → length b ≤ from - p → laid d from p b ≡ d
 unfolding laid
-laid-before d from p b h = rw (drop-of-length-le b {i = from - p} h) (over-none d (p - from))
+laid-before d from p b h = rw (drop-of-length-le b {i = from - p} h) (overwritten-none d (p - from))
 
 -- b begins behind it
 pub laid-after : (d : List ℕ) (from p : ℕ) (b : List ℕ) → length d < p - from → laid d from p b ≡ d
 unfolding laid
-laid-after d from p b h = over-past d _ _ (omega arith)
+laid-after d from p b h = overwritten-past d _ _ (omega arith)
 
 -- the window holds nothing but data
 pub laid-whole : (d : List ℕ) (from : ℕ) (j : List ℕ) → from + length d ≤ length j → laid d from 0 j ≡ span j from (length d)
-unfolding laid over
+unfolding laid overwritten
 laid-whole d from j h =
     let e : from - 0 ≡ from = omega arith in
     let g : 0 - from ≡ 0 = omega arith in
@@ -76,45 +76,45 @@ laid-whole d from j h =
     rw (e, g, n, drop-of-length-le d {i = 0 + length (drop from j)} (omega (arith, length-drop from j))) (append-nil _)
 
 -- over the front, what fits of it and what is left of d
-over-front : (d a : List ℕ) → over d 0 a ≡ take (length d) a ++ drop (length a) d
-unfolding over
-over-front d a =
+overwritten-front : (d a : List ℕ) → overwritten d 0 a ≡ take (length d) a ++ drop (length a) d
+unfolding overwritten
+overwritten-front d a =
     let n : length d - 0 ≡ length d = omega arith in
     let m : 0 + length a ≡ length a = omega arith in
     rw (n, m)
 
 -- behind a
-over-seam : (d a b : List ℕ) → over (a ++ d) (length a) b ≡ a ++ over d 0 b
-unfolding over
-over-seam d a b =
+overwritten-seam : (d a b : List ℕ) → overwritten (a ++ d) (length a) b ≡ a ++ overwritten d 0 b
+unfolding overwritten
+overwritten-seam d a b =
     let n : length (a ++ d) - length a ≡ length d - 0 = omega (arith, length-append a d) in
     let m : 0 + length b ≡ length b = omega arith in
     rw (take-append-seam a d, n, drop-append-add a d (length b), m) (append-assoc a (take (length d - 0) b) (drop (length b) d))
 
 -- two in a row are both at once
-over-over : (d a b : List ℕ) → over (over d 0 a) (length a) b ≡ over d 0 (a ++ b)
-over-over d a b = ⊎-elim
+overwritten-twice : (d a b : List ℕ) → overwritten (overwritten d 0 a) (length a) b ≡ overwritten d 0 (a ++ b)
+overwritten-twice d a b = ⊎-elim
     (λ (l : length a ≤ length d).
     let n : length d ≡ length a + length (drop (length a) d) = omega (arith, length-drop (length a) d) in
     let t : take (length d) (a ++ b) ≡ a ++ take (length (drop (length a) d)) b =
     ap (λ (k : ℕ). take k (a ++ b)) n ∙ take-append-add a b _ in
     let r : drop (length b) (drop (length a) d) ≡ drop (length (a ++ b)) d =
     drop-drop (length b) (length a) d ∙ ap (λ (k : ℕ). drop k d) (sym (length-append a b)) in
-    ap (λ (e : List ℕ). over e (length a) b) (over-front d a ∙ ap (λ (e : List ℕ). e ++ drop (length a) d) (take-all (length d) a l))
-    ∙ over-seam (drop (length a) d) a b
-    ∙ ap (λ (e : List ℕ). a ++ e) (over-front (drop (length a) d) b)
+    ap (λ (e : List ℕ). overwritten e (length a) b) (overwritten-front d a ∙ ap (λ (e : List ℕ). e ++ drop (length a) d) (take-all (length d) a l))
+    ∙ overwritten-seam (drop (length a) d) a b
+    ∙ ap (λ (e : List ℕ). a ++ e) (overwritten-front (drop (length a) d) b)
     ∙ sym (append-assoc a _ _)
     ∙ ap₂ (λ (x y : List ℕ). x ++ y) (sym t) r
-    ∙ sym (over-front d (a ++ b)))
+    ∙ sym (overwritten-front d (a ++ b)))
     (λ (l : length d < length a).
-    let f : (c : List ℕ) → length d ≤ length c → over d 0 c ≡ take (length d) c =
-    λ c h. over-front d c ∙ ap (λ (e : List ℕ). take (length d) c ++ e) (drop-of-length-le d h) ∙ append-nil _ in
-    over-past (over d 0 a) (length a) b (omega (arith, length-over d 0 a))
+    let f : (c : List ℕ) → length d ≤ length c → overwritten d 0 c ≡ take (length d) c =
+    λ c h. overwritten-front d c ∙ ap (λ (e : List ℕ). take (length d) c ++ e) (drop-of-length-le d h) ∙ append-nil _ in
+    overwritten-past (overwritten d 0 a) (length a) b (omega (arith, length-overwritten d 0 a))
     ∙ f a (omega arith) ∙ sym (take-append-le (length d) a b (omega arith)) ∙ sym (f (a ++ b) (omega (arith, length-append a b))))
     (which (length a) (length d))
 
 -- the window on what stands at the front
-laid-front : (d : List ℕ) (from : ℕ) (j : List ℕ) → laid d from 0 j ≡ over d 0 (drop from j)
+laid-front : (d : List ℕ) (from : ℕ) (j : List ℕ) → laid d from 0 j ≡ overwritten d 0 (drop from j)
 unfolding laid
 laid-front d from j =
     let e : from - 0 ≡ from = omega arith in
@@ -128,26 +128,26 @@ laid-more d from j b = ⊎-elim
     (λ (l : from ≤ length j).
     let g : length j - from ≡ length (drop from j) = sym (length-drop from j) in
     let s : from - length j ≡ 0 = omega arith in
-    ap (λ (e : List ℕ). over e (length j - from) (drop (from - length j) b)) (laid-front d from j)
-    ∙ ap₂ (λ (x y : ℕ). over (over d 0 (drop from j)) x (drop y b)) g s
-    ∙ over-over d (drop from j) b
-    ∙ ap (over d 0) (sym (drop-append-le from j b l))
+    ap (λ (e : List ℕ). overwritten e (length j - from) (drop (from - length j) b)) (laid-front d from j)
+    ∙ ap₂ (λ (x y : ℕ). overwritten (overwritten d 0 (drop from j)) x (drop y b)) g s
+    ∙ overwritten-twice d (drop from j) b
+    ∙ ap (overwritten d 0) (sym (drop-append-le from j b l))
     ∙ sym (laid-front d from (j ++ b)))
     (λ (l : length j < from).
     let g : length j - from ≡ 0 = omega arith in
     let n : from ≡ length j + (from - length j) = omega arith in
     let t : drop from (j ++ b) ≡ drop (from - length j) b = ap (λ (k : ℕ). drop k (j ++ b)) n ∙ drop-append-add j b (from - length j) in
-    ap (λ (e : List ℕ). over e (length j - from) (drop (from - length j) b)) (laid-before d from 0 j (omega arith))
-    ∙ ap₂ (λ (x : ℕ) (y : List ℕ). over d x y) g (sym t)
+    ap (λ (e : List ℕ). overwritten e (length j - from) (drop (from - length j) b)) (laid-before d from 0 j (omega arith))
+    ∙ ap₂ (λ (x : ℕ) (y : List ℕ). overwritten d x y) g (sym t)
     ∙ sym (laid-front d from (j ++ b)))
     (which from (length j))
 
 -- b without the bytes before the window, from its place in the window on
-pub laid-part : (d : List ℕ) (from p : ℕ) (b : List ℕ) (g k : ℕ) → g ≡ p - from → k ≡ from - p → over d g (take (length b - k) (drop k b)) ≡ laid d from p b
+pub laid-part : (d : List ℕ) (from p : ℕ) (b : List ℕ) (g k : ℕ) → g ≡ p - from → k ≡ from - p → overwritten d g (take (length b - k) (drop k b)) ≡ laid d from p b
 unfolding laid
 laid-part d from p b g k eg ek =
-    ap (over d g) (take-all (length b - k) (drop k b) (omega (arith, length-drop k b)))
-    ∙ ap₂ (λ (x y : ℕ). over d x (drop y b)) eg ek
+    ap (overwritten d g) (take-all (length b - k) (drop k b) (omega (arith, length-drop k b)))
+    ∙ ap₂ (λ (x y : ℕ). overwritten d x (drop y b)) eg ek
 
 -- ---- along a chain
 

@@ -1,5 +1,5 @@
 -- The ways through a record that is fetched.
-use mathlib.Core.Path.{_≡_, refl, ap, _∙_}
+use mathlib.Core.Path.{_≡_, refl, sym, ap, _∙_}
 use mathlib.Core.Bool.{Bool, true, false, _||_}
 use mathlib.Core.List.{List, _++_}
 use Prim.Native.Nat.{ℕ, suc, _+_, _-_, _*_, _/_, _≤_, _<_}
@@ -9,11 +9,11 @@ use lib.ListN.{length, take, drop}
 use lib.Seq.{length-take-le}
 use lib.Dec.{eqb, leb, ltb}
 use borrow.Author.Tests.{eq-eqb, ne-eqb, lt-ltb, le-ltb, le-leb, lt-leb, ltb-true, ltb-false, eqb-false}
-use Rattle.definitions.specs.Reply.{answer, refusal}
+use Rattle.definitions.specs.Reply.{answer, refusal, if_then_else_}
 use Rattle.definitions.specs.Bytes.{span}
-use Rattle.definitions.specs.Chain.{Block, idDT, joined, chainOf, totalOf, badSize, recordOf, fetched}
+use Rattle.definitions.specs.Chain.{Block, fileLimit, idDT, joined, chainOf, totalOf, dataLength, badSize, recordOf, fetched}
 use Rattle.chain.specs.Window.{laid, joinedOf}
-use Rattle.chain.proofs.Answers.{followed, answered, unfollowed}
+use Rattle.chain.proofs.Answers.{passed, followed, answered, unfollowed}
 use Rattle.chain.proofs.Chains.{joined-length, chain-stands}
 use Rattle.chain.proofs.Laying.{window-whole}
 
@@ -58,12 +58,21 @@ module _ (t k size : ℕ) (z : 0 < size) where
 -- ---- the ways out
 
 -- the blocks behind the length of the joined data
-pub whole : (id f : List ℕ) (start n : ℕ) → totalOf id f start ≡ answer n
+whole : (id f : List ℕ) (start n : ℕ) → totalOf id f start ≡ answer n
     → (bs : List Block) × (chainOf id f start ≡ answer bs) × (length (joined f bs) ≡ n)
 unfolding totalOf
 whole id f start n e =
     let r = followed (chainOf id f start) _ n e in
     (r .0, r .1, joined-length f (r .0) (chain-stands id f start (r .0) (r .1) .inside) ∙ answered (r .2))
+
+-- and those of a file that is not too long
+pub data-whole : (f : List ℕ) (start n : ℕ) → dataLength f start ≡ answer n
+    → (ltb fileLimit (length f) ≡ false) × (bs : List Block) × (chainOf idDT f start ≡ answer bs) × (length (joined f bs) ≡ n)
+unfolding dataLength
+data-whole f start n e =
+    let short = passed (ltb fileLimit (length f)) _ _ _ _ e in
+    let w = whole idDT f start n (short .1) in
+    (short .0, w .0, w .1, w .2)
 
 module _ (f : List ℕ) (start k size : ℕ) (out : List ℕ) where
   pub fetch-bad : badSize size (length out) ≡ true → record { reply = refusal 15 0; buffer = out } ≡ fetched f start k size out
@@ -71,29 +80,30 @@ module _ (f : List ℕ) (start k size : ℕ) (out : List ℕ) where
   fetch-bad b = rw b
 
   module _ (good : badSize size (length out) ≡ false) where
-    pub fetch-long : 1099511627776 < length f → record { reply = refusal 7 0; buffer = out } ≡ fetched f start k size out
-    unfolding fetched
-    fetch-long l = rw (good, lt-ltb _ _ l)
+    refused-by : (long : Bool) → ltb fileLimit (length f) ≡ long → (n t : ℕ) → (if long then refusal 7 0 else totalOf idDT f start) ≡ refusal n t
+        → record { reply = refusal n t; buffer = out } ≡ fetched f start k size out
+    unfolding fetched totalOf
+    refused-by true l n t e = rw (good, l) (cc)
+    refused-by false l n t e = rw (good, l, unfollowed (chainOf idDT f start) _ n t e)
 
-    module _ (l : length f ≤ 1099511627776) where
-      pub fetch-refused : (n t : ℕ) → totalOf idDT f start ≡ refusal n t → record { reply = refusal n t; buffer = out } ≡ fetched f start k size out
-      unfolding fetched totalOf
-      fetch-refused n t e = rw (good, le-ltb _ _ l, unfollowed (chainOf idDT f start) _ n t e)
+    pub fetch-refused : (n t : ℕ) → dataLength f start ≡ refusal n t → record { reply = refusal n t; buffer = out } ≡ fetched f start k size out
+    unfolding dataLength
+    fetch-refused n t e = refused-by (ltb fileLimit (length f)) refl n t e
 
-      module _ (n : ℕ) (e : totalOf idDT f start ≡ answer n) where
-        pub fetch-behind : ltb n (k * size + size) ≡ true → record { reply = refusal 16 0; buffer = out } ≡ fetched f start k size out
-        unfolding fetched recordOf
-        fetch-behind h = let w = whole idDT f start n e in rw (good, le-ltb _ _ l, w .1, w .2, h)
+    module _ (n : ℕ) (e : dataLength f start ≡ answer n) where
+      pub fetch-behind : ltb n (k * size + size) ≡ true → record { reply = refusal 16 0; buffer = out } ≡ fetched f start k size out
+      unfolding fetched recordOf
+      fetch-behind h = let w = data-whole f start n e in rw (good, w .0, w .2, w .3, h)
 
-        -- the window on the record, in the front of the buffer
-        pub fetch-record : (r : List ℕ) → ltb n (k * size + size) ≡ false → r ≡ laid (take size out) (k * size) 0 (joinedOf idDT f start)
-            → record { reply = answer tt; buffer = r ++ drop size out } ≡ fetched f start k size out
-        unfolding fetched recordOf
-        fetch-record r h is =
-            let w = whole idDT f start n e in
-            let j : List ℕ = joined f (w .0) in
-            let m : length (take size out) ≡ size = length-take-le size out (size-good size (length out) good .1) in
-            let inside : k * size + length (take size out) ≤ length j = omega (arith, w .2, ltb-false n (k * size + size) h) in
-            let front : r ≡ span j (k * size) size =
-            is ∙ window-whole (take size out) (k * size) idDT f start (w .0) (w .1) inside ∙ ap (span j (k * size)) m in
-            rw (good, le-ltb _ _ l, w .1, w .2, h, front)
+      -- the window on the record, in the front of the buffer
+      pub fetch-record : (r : List ℕ) → ltb n (k * size + size) ≡ false → r ≡ laid (take size out) (k * size) 0 (joinedOf idDT f start)
+          → record { reply = answer tt; buffer = r ++ drop size out } ≡ fetched f start k size out
+      unfolding fetched recordOf
+      fetch-record r h is =
+          let w = data-whole f start n e in
+          let j : List ℕ = joined f (w .1) in
+          let m : length (take size out) ≡ size = length-take-le size out (size-good size (length out) good .1) in
+          let inside : k * size + length (take size out) ≤ length j = omega (arith, w .3, ltb-false n (k * size + size) h) in
+          let front : r ≡ span j (k * size) size =
+          is ∙ window-whole (take size out) (k * size) idDT f start (w .1) (w .2) inside ∙ ap (span j (k * size)) m in
+          rw (good, w .0, w .2, w .3, h, front)

@@ -4,8 +4,9 @@ use mathlib.Core.List.{List, [], _∷_, _++_}
 use Prim.Native.Nat.{ℕ, _+_, _-_, _*_, _≤_, _<_}
 use native.Mathlib.Omega.{arith}
 use lib.ListN.{length, length-append}
+use borrow.Author.Tests.{lt-ltb, le-ltb}
 use Rattle.definitions.specs.Reply.{Reply, answer, refusal, andThen}
-use Rattle.definitions.specs.Chain.{Block, total, chainOf, totalOf}
+use Rattle.definitions.specs.Chain.{Block, fileLimit, idDT, total, chainOf, totalOf, dataLength}
 use Rattle.chain.specs.Walk.{startAt, Found, aBlock, aList, theEnd, stepOf, chainFrom, goOn}
 use Rattle.chain.specs.declared.place.FileAddress.{FileAddress}
 use Rattle.chain.specs.declared.place.Place.{Place}
@@ -96,3 +97,13 @@ module _ (id f : List ℕ) (start : ℕ) where
   pub total-whole : (bs : List Block) (n : ℕ) → (chainOf id f start ≡ answer bs) × (total bs ≡ n) → answer n ≡ totalOf id f start
   unfolding totalOf
   total-whole bs n h = rw (h .0, h .1)
+
+-- of a file that is not too long
+module _ (f : List ℕ) (start : ℕ) where
+  pub length-refused : fileLimit < length f → refusal 7 0 ≡ dataLength f start
+  unfolding dataLength
+  length-refused l = rw (lt-ltb _ _ l)
+
+  pub length-total : length f ≤ fileLimit → totalOf idDT f start ≡ dataLength f start
+  unfolding dataLength
+  length-total l = rw (le-ltb _ _ l)

@@ -4,8 +4,6 @@ use mathlib.Core.List.{List}
 use Rattle.definitions.specs.Reply.{Reply, Outcome, answer}
 use Rattle.definitions.specs.Chain.{Block}
 use Rattle.refusals.specs.Meaning.{refused}
-use Rattle.refusals.specs.declared.Refusal.{Refusal}
-use Rattle.refusals.specs.declared.Refusal.the-variants.{BadDataBlock, NoSuchRecord}
 use Rattle.chain.specs.declared.block.DataBlock.{DataBlock}
 use Rattle.chain.specs.declared.block.BlockRead.{BlockRead}
 use Rattle.chain.specs.declared.block.BlockRead.the-variants.{Block as ABlock, Refused as NoBlock}
@@ -23,20 +21,11 @@ abbrev pub blockReply : BlockRead → Reply Block
 blockReply (ABlock b) = answer (blockMeant b)
 blockReply (NoBlock r) = refused r
 
--- what is handed on where there is no block
-abbrev pub blockRefusal : BlockRead → Refusal
-blockRefusal (ABlock b) = BadDataBlock
-blockRefusal (NoBlock r) = r
-
 -- ---- the chain
 
 abbrev pub chainReply : ChainRead → Reply ℕ
 chainReply (Whole q) = answer (q .0)
 chainReply (NoChain r) = refused r
-
-abbrev pub chainRefusal : ChainRead → Refusal
-chainRefusal (Whole q) = NoSuchRecord
-chainRefusal (NoChain r) = r
 
 -- ---- a record
 
@@ -47,7 +36,3 @@ recordReply (NoRecord r) = refused r
 -- the reply and the buffer that a call leaves
 abbrev pub fetchedBy : RecordRead → List ℕ → Outcome (Unit {0})
 fetchedBy r out = record { reply = recordReply r; buffer = out }
-
-abbrev pub recordRefusal : RecordRead → Refusal
-recordRefusal Record = NoSuchRecord
-recordRefusal (NoRecord r) = r

@@ -6,12 +6,12 @@ use Rattle.definitions.specs.Reply.{Reply, answer, refusal}
 use Rattle.definitions.specs.Chain.{Block, joined, chainOf}
 
 -- d with c over it from index g on, as far as d goes
-unfoldable pub over : List ℕ → ℕ → List ℕ → List ℕ
-over d g c = take g d ++ take (length d - g) c ++ drop (g + length c) d
+unfoldable pub overwritten : List ℕ → ℕ → List ℕ → List ℕ
+overwritten d g c = take g d ++ take (length d - g) c ++ drop (g + length c) d
 
 -- d is the window from index `from` on of a longer list, in which b stands at p
 unfoldable pub laid : List ℕ → ℕ → ℕ → List ℕ → List ℕ
-laid d from p b = over d (p - from) (drop (from - p) b)
+laid d from p b = overwritten d (p - from) (drop (from - p) b)
 
 abbrev dataIn : List ℕ → Reply (List Block) → List ℕ
 dataIn f (answer bs) = joined f bs

@@ -1,7 +1,9 @@
 // The first reader of a chain: is it accepted, and how much data does it join?
 ghost use mathlib.Core.Path.{_≡_};
-ghost use Rattle.definitions.specs.Chain.{totalOf};
-ghost use Rattle.chain.specs.Meaning.{chainReply, chainRefusal};
+ghost use Rattle.definitions.specs.Chain.{dataLength, totalOf};
+ghost use Rattle.chain.specs.Meaning.{chainReply};
+use crate::block::DataBlock;
+use crate::limits::FILE_LIMIT;
 use crate::place::DataPosition;
 use crate::place::FileAddress;
 use crate::place::Place;
@@ -38,14 +40,25 @@ pub fn accept(file: &[u8], start: FileAddress, id: &[u8; 4]) -> ChainRead
     }
 }
 
+// The length of the joined data of a chain of data blocks
+pub fn data_length(file: &[u8], start: FileAddress) -> ChainRead
+    ensures { λ r. ⌜ chainReply r ≡ dataLength (now (file .entry)) (start .0) ⌝ }
+{
+    if FILE_LIMIT < file.len() {
+        return ChainRead::Refused(Refusal::FileTooLong);
+    }
+    accept(file, start, &DataBlock::ID)
+}
+
 impl ChainRead {
-    // what is handed on where the chain was refused
-    pub(crate) fn refusal(self) -> Refusal
-        ensures { λ r. ⌜ r ≡ chainRefusal self ⌝ }
+    // Why the chain was refused. Only a refusal is asked, so the second arm is never taken.
+    pub fn refusal(self) -> Refusal
+        requires { ⌜ ((why : Refusal) × (self ≡ ChainRead.Refused why)) ⌝ }
+        ensures { λ r. ⌜ self ≡ ChainRead.Refused r ⌝ }
     {
         match self {
-            ChainRead::Refused(r) => r,
-            _ => Refusal::NoSuchRecord,
+            ChainRead::Refused(why) => why,
+            ChainRead::Whole(_) => Refusal::NoBlockThere,
         }
     }
 }

@@ -3,7 +3,7 @@ ghost use mathlib.Core.Path.{_≡_};
 ghost use Prim.Native.Nat.{_+_, _≤_};
 ghost use lib.ListN.{length};
 ghost use Rattle.definitions.specs.Chain.{blockAt, dataOf};
-ghost use Rattle.chain.specs.Meaning.{blockMeant, blockReply, blockRefusal};
+ghost use Rattle.chain.specs.Meaning.{blockMeant, blockReply};
 use crate::place::FileAddress;
 use crate::place::bytes_from;
 use crate::place::has_header;
@@ -67,13 +67,14 @@ pub fn data_of(file: &[u8], block: DataBlock) -> &[u8]
 }
 
 impl BlockRead {
-    // what is handed on where the block was refused
+    // Why the block was refused. Only a refusal is asked, so the second arm is never taken.
     pub(crate) fn refusal(self) -> Refusal
-        ensures { λ r. ⌜ r ≡ blockRefusal self ⌝ }
+        requires { ⌜ ((why : Refusal) × (self ≡ BlockRead.Refused why)) ⌝ }
+        ensures { λ r. ⌜ self ≡ BlockRead.Refused r ⌝ }
     {
         match self {
-            BlockRead::Refused(r) => r,
-            _ => Refusal::BadDataBlock,
+            BlockRead::Refused(why) => why,
+            BlockRead::Block(_) => Refusal::BadDataBlock,
         }
     }
 }

@@ -5,7 +5,7 @@ ghost use Prim.Native.Nat.{_-_, _≤_, min};
 ghost use lib.ListN.{length};
 ghost use Rattle.definitions.specs.Reply.{answer};
 ghost use Rattle.definitions.specs.Chain.{Block, chainOf};
-ghost use Rattle.chain.specs.Window.{over, laid, joinedOf};
+ghost use Rattle.chain.specs.Window.{overwritten, laid, joinedOf};
 use crate::block::data_of;
 use crate::place::DataPosition;
 use crate::place::FileAddress;
@@ -29,7 +29,7 @@ fn least(a: usize, b: usize) -> usize
 // The bytes over `out` from `at` on, as far as out goes
 fn copy_over(bytes: &[u8], out: &mut [u8], at: usize)
     requires { ⌜ at ≤ length (now out) ⌝ }
-    ensures { λ _. ⌜ now (out .exit) ≡ over (now (out .entry)) at (now (bytes .entry)) ⌝ }
+    ensures { λ _. ⌜ now (out .exit) ≡ overwritten (now (out .entry)) at (now (bytes .entry)) ⌝ }
 {
     let n = least(out.len() - at, bytes.len());
     let mut i = 0;

@@ -3,6 +3,7 @@ mod acceptance;
 mod block;
 mod fragment;
 mod joined;
+mod limits;
 mod list;
 mod place;
 mod record;
@@ -10,6 +11,7 @@ mod step;
 
 pub use acceptance::ChainRead;
 pub use acceptance::accept;
+pub use acceptance::data_length;
 pub use block::BlockRead;
 pub use block::DataBlock;
 pub use block::data_of;

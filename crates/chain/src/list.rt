@@ -3,6 +3,7 @@ ghost use mathlib.Core.Path.{_≡_};
 ghost use Prim.Native.Nat.{_+_, _*_, _<_};
 ghost use Rattle.definitions.specs.Chain.{agrees, listAt};
 ghost use Rattle.blocks.specs.Meaning.{listMeant, listReply};
+use crate::limits::FRAGMENT_LIMIT;
 use crate::place::FileAddress;
 use crate::place::bytes_from;
 use crate::place::has_header;
@@ -36,7 +37,7 @@ pub(crate) fn list_at(file: &[u8], address: FileAddress, fragments: u64) -> List
     if !agrees_with_itself(list) {
         return ListRead::Refused(Refusal::ListDisagrees);
     }
-    if sum_passes(fragments, list.links, 4096) {
+    if sum_passes(fragments, list.links, FRAGMENT_LIMIT) {
         return ListRead::Refused(Refusal::TooManyFragments);
     }
     ListRead::List(list)

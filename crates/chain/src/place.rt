@@ -3,8 +3,9 @@ ghost use mathlib.Core.Path.{_≡_};
 ghost use Prim.Native.Nat.{_+_, _≤_, _<_};
 ghost use lib.ListN.{length, drop};
 ghost use lib.Dec.{ltb, leb};
-ghost use Rattle.definitions.specs.Chain.{hasHeader};
+ghost use Rattle.definitions.specs.Chain.{dataLimit, hasHeader};
 ghost use Rattle.chain.specs.Walk.{startAt, further, behind, nextList};
+use crate::limits::DATA_LIMIT;
 
 // where a block stands in the file
 pub struct FileAddress(pub u64);
@@ -65,9 +66,9 @@ pub(crate) fn bytes_from(file: &[u8], address: FileAddress) -> &[u8]
 impl DataPosition {
     // whether so many bytes more are too many for joined data
     pub(crate) fn passes_limit(self, size: u64) -> bool
-        ensures { λ r. ⌜ r ≡ ltb 9223372036854775807 (self .0 + size) ⌝ }
+        ensures { λ r. ⌜ r ≡ ltb dataLimit (self .0 + size) ⌝ }
     {
-        sum_passes(self.0, size, 9223372036854775807)
+        sum_passes(self.0, size, DATA_LIMIT)
     }
 
     // whether so many bytes from another position on all stand before this one

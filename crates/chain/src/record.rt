@@ -3,11 +3,12 @@ ghost use mathlib.Core.Path.{_≡_};
 ghost use Prim.Native.Nat.{_+_, _*_, _<_};
 ghost use lib.Dec.{ltb};
 ghost use Rattle.definitions.specs.Chain.{badSize, fetched};
-ghost use Rattle.chain.specs.Meaning.{fetchedBy, recordRefusal};
+ghost use Rattle.chain.specs.Meaning.{fetchedBy};
 use crate::acceptance::ChainRead;
-use crate::acceptance::accept;
+use crate::acceptance::data_length;
 use crate::block::DataBlock;
 use crate::joined::window;
+use crate::limits::RECORD_LIMIT;
 use crate::place::DataPosition;
 use crate::place::FileAddress;
 use refusals::Refusal;
@@ -25,7 +26,7 @@ fn bad_size(size: u64, room: u64) -> bool
     if size == 0 {
         return true;
     }
-    if 16384 < size {
+    if RECORD_LIMIT < size {
         return true;
     }
     room < size
@@ -52,10 +53,7 @@ pub fn read_record(
     if bad_size(record_size, buffer.len() as u64) {
         return RecordRead::Refused(Refusal::BadRecordSize);
     }
-    if 1099511627776 < file.len() {
-        return RecordRead::Refused(Refusal::FileTooLong);
-    }
-    let chain = accept(file, start, &DataBlock::ID);
+    let chain = data_length(file, start);
     let ChainRead::Whole(total) = chain else {
         return RecordRead::Refused(chain.refusal());
     };
@@ -69,13 +67,14 @@ pub fn read_record(
 }
 
 impl RecordRead {
-    // what is handed on where the record was refused
+    // Why the record was refused. Only a refusal is asked, so the second arm is never taken.
     pub fn refusal(self) -> Refusal
-        ensures { λ r. ⌜ r ≡ recordRefusal self ⌝ }
+        requires { ⌜ ((why : Refusal) × (self ≡ RecordRead.Refused why)) ⌝ }
+        ensures { λ r. ⌜ self ≡ RecordRead.Refused r ⌝ }
     {
         match self {
-            RecordRead::Refused(r) => r,
-            _ => Refusal::NoSuchRecord,
+            RecordRead::Refused(why) => why,
+            RecordRead::Record => Refusal::NoSuchRecord,
         }
     }
 }

@@ -2,12 +2,13 @@
 ghost use mathlib.Core.Path.{_≡_};
 ghost use Prim.Native.Nat.{_+_, _≤_, _<_};
 ghost use Rattle.definitions.specs.Reply.{answer, andThen};
-ghost use Rattle.definitions.specs.Chain.{fragmentOf};
+ghost use Rattle.definitions.specs.Chain.{fragmentLimit, fragmentOf, listLimit};
 ghost use Rattle.blocks.specs.Meaning.{listMeant};
 ghost use Rattle.chain.specs.Walk.{Readable, stepReply, arriving, leaving, stepOf};
 use crate::block::BlockRead;
 use crate::block::DataBlock;
 use crate::fragment::fragment_at;
+use crate::limits::LIST_LIMIT;
 use crate::list::list_at;
 use crate::place::DataPosition;
 use crate::place::FileAddress;
@@ -42,7 +43,7 @@ fn over_fragment(file: &[u8], bytes: &[u8], list: DataListBlock, place: Place, i
 
 // The step behind the last fragment of a list. The chain ends where it links no further list.
 fn out_of_list(list: DataListBlock, place: Place) -> Step
-    requires { ⌜ (place .fragments + place .index ≤ 4096) × (place .lists < 256) ⌝ }
+    requires { ⌜ (place .fragments + place .index ≤ fragmentLimit) × (place .lists < listLimit) ⌝ }
     ensures { λ r. ⌜ stepReply r ≡ answer (leaving place (listMeant list)) ⌝ }
 {
     let position = place.position;
@@ -54,10 +55,10 @@ fn out_of_list(list: DataListBlock, place: Place) -> Step
 
 // One step. The list is read again at each, so that a place is plain numbers.
 pub fn advance(file: &[u8], place: Place, id: &[u8; 4]) -> Step
-    requires { ⌜ place .fragments + place .index ≤ 4096 ⌝ }
+    requires { ⌜ place .fragments + place .index ≤ fragmentLimit ⌝ }
     ensures { λ r. ⌜ stepReply r ≡ stepOf (now (id .entry)) (now (file .entry)) place ⌝ }
 {
-    if 256 <= place.lists {
+    if LIST_LIMIT <= place.lists {
         return Step::Refused(Refusal::TooManyLists);
     }
     let address = place.list;

@@ -5,24 +5,17 @@ use Prim.Native.Nat.{ℕ}
 use Rattle.definitions.specs.Reply.{Reply, Outcome, refusal}
 use Rattle.refusals.specs.Meaning.{refusalNumber, toldOf, refused}
 use Rattle.refusals.specs.declared.Refusal.{Refusal}
-use Rattle.mf4.specs.Replies.{left}
+use Rattle.mf4.specs.Replies.{returned, returnedBy}
 
+-- R is the library's answer, which was found to be the case x
 module _ {R A C : Type 0} (toC : Reply A → C) (meant : R → Reply A) where
-  -- a refusal: R is the library's answer, which was found to be the case x
-  pub handed-on : (why : R → Refusal) {read x : R} {q : Refusal} {r : C} {given : Reply A}
-      → r ≡ toC (refused q) → q ≡ why read → meant read ≡ given → read ≡ x → meant x ≡ refused (why x) → r ≡ toC given
-  handed-on why er eq em ex same =
-      er ∙ ap (λ (p : Refusal). toC (refused p)) (eq ∙ ap why ex) ∙ sym (ap toC (sym em ∙ ap meant ex ∙ same))
-
-  -- an answer
-  pub handed : {read x : R} {given : Reply A} → meant read ≡ given → read ≡ x → toC (meant x) ≡ toC given
-  handed em ex = ap toC (ap meant (sym ex) ∙ em)
+  pub handed : {read x : R} {r : C} {given : Reply A} → r ≡ toC (meant x) → read ≡ x → meant read ≡ given → r ≡ toC given
+  handed er ex em = er ∙ ap toC (ap meant (sym ex) ∙ em)
 
   -- a call that wrote
-  pub handed-left : (read : R) {r : C} {out : List ℕ} {o : Outcome A} → r ≡ toC (meant read)
-      → record { reply = meant read; buffer = out } ≡ o → left r out ≡ left (toC (o .reply)) (o .buffer)
-  handed-left read {out = out} er eo =
-      ap (λ (x : C). left x out) er ∙ ap (λ (o : Outcome A). left (toC (o .reply)) (o .buffer)) eo
+  pub handed-back : (read : R) {r : C} {out : List ℕ} {o : Outcome A} → r ≡ toC (meant read)
+      → record { reply = meant read; buffer = out } ≡ o → returned r out ≡ returnedBy toC o
+  handed-back read {out = out} er eo = ap (λ (x : C). returned x out) er ∙ ap (returnedBy toC) eo
 
 -- a refusal by its number and what it tells
 pub by-numbers : {A C : Type 0} (toC : Reply A → C) (q : Refusal) {n t : ℕ} → n ≡ refusalNumber q → t ≡ toldOf q → toC (refusal n t) ≡ toC (refused q)

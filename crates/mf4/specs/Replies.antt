@@ -13,12 +13,16 @@ use Rattle.mf4.specs.declared.list.Mf4List.{Mf4List}
 use Rattle.mf4.specs.declared.texts.Mf4Text.{Mf4Text}
 
 -- what a call returns, and the buffer that was lent to it as it leaves it
-pub record Left (R : Type 0) : Type 0 where
+pub record Returned (R : Type 0) : Type 0 where
   pub result : R
   pub buffer : List ℕ
 
-abbrev pub left : {R : Type 0} → R → List ℕ → Left R
-left r out = record { result = r; buffer = out }
+abbrev pub returned : {R : Type 0} → R → List ℕ → Returned R
+returned r out = record { result = r; buffer = out }
+
+-- an outcome of the definitions, its reply as C sees it
+abbrev pub returnedBy : {A R : Type 0} → (Reply A → R) → Outcome A → Returned R
+returnedBy toC o = returned (toC (o .reply)) (o .buffer)
 
 -- a test, as a number
 abbrev pub flagC : Bool → ℕ
@@ -30,9 +34,6 @@ flagC false = 0
 abbrev pub writtenC : Reply ℕ → Mf4Written
 writtenC (answer n) = record { reply = 0; told = 0; count = n }
 writtenC (refusal n t) = record { reply = n; told = t; count = 0 }
-
-abbrev pub writingC : Outcome ℕ → Left Mf4Written
-writingC o = left (writtenC (o .reply)) (o .buffer)
 
 -- ---- headers
 
@@ -85,6 +86,3 @@ listC (refusal n t) = record {
 abbrev pub textC : Reply TextWritten → Mf4Text
 textC (answer t) = record { reply = 0; told = 0; count = t .count; damaged = flagC (t .damaged) }
 textC (refusal n t) = record { reply = n; told = t; count = 0; damaged = 0 }
-
-abbrev pub textLeft : Outcome TextWritten → Left Mf4Text
-textLeft o = left (textC (o .reply)) (o .buffer)

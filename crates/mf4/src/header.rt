@@ -2,7 +2,7 @@
 ghost use mathlib.Core.Path.{_≡_};
 ghost use Rattle.definitions.specs.Header.{headerOf, headerWritten};
 ghost use Rattle.refusals.specs.Meaning.{refused};
-ghost use Rattle.mf4.specs.Replies.{noHeader, headerC, headerGiven, left, writingC};
+ghost use Rattle.mf4.specs.Replies.{noHeader, headerC, headerGiven, writtenC, returned, returnedBy};
 use crate::written::Mf4Written;
 use crate::written::written_reply;
 use blocks::BlockHeader;
@@ -69,7 +69,7 @@ pub extern "C" fn mf4_read_header(bytes: &[u8]) -> Mf4Header
 
 #[no_mangle]
 pub extern "C" fn mf4_write_header(header: Mf4BlockHeader, out: &mut [u8]) -> Mf4Written
-    ensures { λ r. ⌜ left r (now (out .exit)) ≡ writingC (headerWritten (now (out .entry)) (headerGiven header)) ⌝ }
+    ensures { λ r. ⌜ returned r (now (out .exit)) ≡ returnedBy writtenC (headerWritten (now (out .entry)) (headerGiven header)) ⌝ }
 {
     let h = BlockHeader {
         id: header.id,

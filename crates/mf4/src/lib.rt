@@ -8,6 +8,8 @@ mod values;
 mod written;
 
 pub use fetches::Mf4Fetched;
+pub use fetches::Mf4Length;
+pub use fetches::mf4_data_length;
 pub use fetches::mf4_read_record;
 pub use fetches::mf4_record_value;
 pub use header::Mf4BlockHeader;
@@ -26,7 +28,6 @@ pub use texts::mf4_text_utf16_le;
 pub use types::mf4_default_bits;
 pub use types::mf4_type_code;
 pub use values::Mf4Channel;
-pub use values::Mf4Decoded;
 pub use values::Mf4ValidValue;
 pub use values::Mf4Value;
 pub use values::mf4_check_validity;

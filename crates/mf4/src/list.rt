@@ -2,7 +2,7 @@
 ghost use mathlib.Core.Path.{_≡_};
 ghost use Rattle.definitions.specs.DataList.{listOf, listWritten, equal, variable};
 ghost use Rattle.refusals.specs.Meaning.{refused};
-ghost use Rattle.mf4.specs.Replies.{listC, left, writingC};
+ghost use Rattle.mf4.specs.Replies.{listC, writtenC, returned, returnedBy};
 use crate::header::Mf4BlockHeader;
 use crate::header::no_header;
 use crate::written::Mf4Written;
@@ -77,24 +77,24 @@ pub extern "C" fn mf4_read_list(bytes: &[u8]) -> Mf4List
 
 #[no_mangle]
 pub extern "C" fn mf4_write_list_equal(
-    out: &mut [u8],
     next: u64,
     links: &[u64],
     length: u64,
+    out: &mut [u8],
 ) -> Mf4Written
-    ensures { λ r. ⌜ left r (now (out .exit)) ≡ writingC (listWritten (now (out .entry)) next (now (links .entry)) (equal length)) ⌝ }
+    ensures { λ r. ⌜ returned r (now (out .exit)) ≡ returnedBy writtenC (listWritten (now (out .entry)) next (now (links .entry)) (equal length)) ⌝ }
 {
-    written_reply(DataListBlock::write_equal(out, next, links, length))
+    written_reply(DataListBlock::write_equal(next, links, length, out))
 }
 
 #[no_mangle]
 pub extern "C" fn mf4_write_list_variable(
-    out: &mut [u8],
     next: u64,
     links: &[u64],
     offsets: &[u64],
+    out: &mut [u8],
 ) -> Mf4Written
-    ensures { λ r. ⌜ left r (now (out .exit)) ≡ writingC (listWritten (now (out .entry)) next (now (links .entry)) (variable (now (offsets .entry)))) ⌝ }
+    ensures { λ r. ⌜ returned r (now (out .exit)) ≡ returnedBy writtenC (listWritten (now (out .entry)) next (now (links .entry)) (variable (now (offsets .entry)))) ⌝ }
 {
-    written_reply(DataListBlock::write_variable(out, next, links, offsets))
+    written_reply(DataListBlock::write_variable(next, links, offsets, out))
 }

@@ -4,7 +4,7 @@ ghost use Rattle.definitions.specs.Channel.{valueOf, validOf, validValueOf, rec
 ghost use Rattle.decoder.specs.Meaning.{channelMeant, valueMeant, valueReply, validValueReply};
 ghost use Rattle.refusals.specs.Meaning.{refused};
 ghost use Rattle.mf4.specs.Replies.{flagC};
-ghost use Rattle.mf4.specs.Values.{channelGiven, noValueC, numberC, placeC, decodedC, valueC, validValueC};
+ghost use Rattle.mf4.specs.Values.{channelGiven, wordOf, numberC, placeC, decodedC, valueC, validValueC};
 use crate::texts::flag;
 use blocks::DataType;
 use decoder::Channel;
@@ -15,6 +15,7 @@ use decoder::check_value_validity;
 use decoder::decode_channel_value;
 use decoder::decode_channel_value_with_validity;
 use decoder::decode_f64_from_record;
+use doubles::magnitude_less_one;
 use refusals::Refusal;
 
 #[repr(C)]
@@ -30,28 +31,32 @@ pub struct Mf4Channel {
 }
 
 #[repr(C)]
-pub struct Mf4Decoded {
+pub struct Mf4Value {
+    pub reply: u32,
     pub kind: u32,
-    pub unsigned_value: u64,
-    pub signed_value: i64,
-    pub double_bits: u64,
+    pub told: u64,
+    pub number: u64,
     pub at: u64,
     pub length: u64,
 }
 
 #[repr(C)]
-pub struct Mf4Value {
-    pub reply: u32,
-    pub told: u64,
-    pub value: Mf4Decoded,
-}
-
-#[repr(C)]
 pub struct Mf4ValidValue {
     pub reply: u32,
+    pub kind: u32,
     pub told: u64,
-    pub value: Mf4Decoded,
+    pub number: u64,
+    pub at: u64,
+    pub length: u64,
     pub is_valid: u8,
+}
+
+// What C is told of a value
+struct Shown {
+    kind: u32,
+    number: u64,
+    at: u64,
+    length: u64,
 }
 
 // the description that C gives
@@ -71,41 +76,46 @@ pub fn channel_of(given: Mf4Channel) -> Channel
     }
 }
 
-// a number, in the one field that its kind names
-fn number(kind: u32, unsigned_value: u64, signed_value: i64, double_bits: u64) -> Mf4Decoded
-    ensures { λ r. ⌜ r ≡ numberC kind «unsigned_value» «signed_value» «double_bits» ⌝ }
+// The two's complement of n. The compiler makes nothing of it: n's own bits are that.
+fn word_of(n: i64) -> u64
+    ensures { λ r. ⌜ r ≡ wordOf n ⌝ }
 {
-    Mf4Decoded {
+    if n < 0 {
+        return 18446744073709551615 - magnitude_less_one(n);
+    }
+    n as u64
+}
+
+fn number(kind: u32, number: u64) -> Shown
+    ensures { λ r. ⌜ r ≡ numberC kind number ⌝ }
+{
+    Shown {
         kind,
-        unsigned_value,
-        signed_value,
-        double_bits,
+        number,
         at: 0,
         length: 0,
     }
 }
 
 // bytes, by their place and length
-fn place(kind: u32, at: u64, length: u64) -> Mf4Decoded
+fn place(kind: u32, at: u64, length: u64) -> Shown
     ensures { λ r. ⌜ r ≡ placeC kind at length ⌝ }
 {
-    Mf4Decoded {
+    Shown {
         kind,
-        unsigned_value: 0,
-        signed_value: 0,
-        double_bits: 0,
+        number: 0,
         at,
         length,
     }
 }
 
-fn decoded(value: DecodedValue) -> Mf4Decoded
+fn decoded(value: DecodedValue) -> Shown
     ensures { λ r. ⌜ r ≡ decodedC (valueMeant value) ⌝ }
 {
     match value {
-        DecodedValue::UnsignedInteger(n) => number(1, n, 0, 0),
-        DecodedValue::SignedInteger(n) => number(2, 0, n, 0),
-        DecodedValue::Float { value: _, bits } => number(3, 0, 0, bits),
+        DecodedValue::UnsignedInteger(n) => number(1, n),
+        DecodedValue::SignedInteger(n) => number(2, word_of(n)),
+        DecodedValue::Float { value: _, bits } => number(3, bits),
         DecodedValue::String { at, length } => place(4, at, length),
         DecodedValue::ByteArray { at, length } => place(5, at, length),
         DecodedValue::MimeSample { at, length } => place(6, at, length),
@@ -117,36 +127,43 @@ fn decoded(value: DecodedValue) -> Mf4Decoded
 fn value_refused(why: Refusal) -> Mf4Value
     ensures { λ r. ⌜ r ≡ valueC (refused why) ⌝ }
 {
-    let value = place(0, 0, 0);
     Mf4Value {
         reply: why.number(),
+        kind: 0,
         told: why.told(),
-        value,
+        number: 0,
+        at: 0,
+        length: 0,
     }
 }
 
 fn value_reply(read: ValueRead) -> Mf4Value
     ensures { λ r. ⌜ r ≡ valueC (valueReply read) ⌝ }
 {
-    let ValueRead::Value(v) = read else {
+    let ValueRead::Value(value) = read else {
         return value_refused(read.refusal());
     };
-    let value = decoded(v);
+    let told = decoded(value);
     Mf4Value {
         reply: 0,
+        kind: told.kind,
         told: 0,
-        value,
+        number: told.number,
+        at: told.at,
+        length: told.length,
     }
 }
 
 fn valid_value_refused(why: Refusal) -> Mf4ValidValue
     ensures { λ r. ⌜ r ≡ validValueC (refused why) ⌝ }
 {
-    let value = place(0, 0, 0);
     Mf4ValidValue {
         reply: why.number(),
+        kind: 0,
         told: why.told(),
-        value,
+        number: 0,
+        at: 0,
+        length: 0,
         is_valid: 0,
     }
 }
@@ -154,16 +171,19 @@ fn valid_value_refused(why: Refusal) -> Mf4ValidValue
 pub fn valid_value_reply(read: ValidValueRead) -> Mf4ValidValue
     ensures { λ r. ⌜ r ≡ validValueC (validValueReply read) ⌝ }
 {
-    let ValidValueRead::Value(v) = read else {
+    let ValidValueRead::Value(judged) = read else {
         return valid_value_refused(read.refusal());
     };
-    let inner = v.value;
-    let value = decoded(inner);
+    let value = judged.value;
+    let told = decoded(value);
     Mf4ValidValue {
         reply: 0,
+        kind: told.kind,
         told: 0,
-        value,
-        is_valid: flag(v.is_valid),
+        number: told.number,
+        at: told.at,
+        length: told.length,
+        is_valid: flag(judged.is_valid),
     }
 }
 

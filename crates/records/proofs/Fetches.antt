@@ -12,7 +12,7 @@ use Rattle.definitions.specs.Channel.{Channel, ValidValue, validValueOf}
 use Rattle.definitions.specs.Chain.{badSize, fetched, fieldOf, valueFetched}
 use Rattle.refusals.specs.Meaning.{refused}
 use Rattle.refusals.specs.declared.Refusal.{Refusal}
-use Rattle.chain.specs.Meaning.{fetchedBy, recordRefusal}
+use Rattle.chain.specs.Meaning.{fetchedBy}
 use Rattle.chain.specs.declared.record.RecordRead.{RecordRead}
 use Rattle.chain.specs.declared.record.RecordRead.the-variants.{Record, Refused}
 
@@ -36,12 +36,11 @@ module _ (f : List ℕ) (start k size : ℕ) (out : List ℕ) where
 
   module _ (idSize dataBytes : ℕ) (c : Channel) {r : RecordRead} {left : List ℕ} (e : fetchedBy r left ≡ fetched f start k size out) where
     -- a refusal of the record is the reply, and the buffer is as the fetch left it
-    pub not-fetched : {x q : Refusal} → r ≡ Refused x → q ≡ recordRefusal r
-        → record { reply = refused q; buffer = left } ≡ valueFetched f start k size idSize dataBytes c out
+    pub not-fetched : {x : Refusal} → r ≡ Refused x
+        → record { reply = refused x; buffer = left } ≡ valueFetched f start k size idSize dataBytes c out
     unfolding valueFetched
-    not-fetched is eq =
-        ap (λ (p : Refusal). record { reply = refused p; buffer = left }) (eq ∙ ap recordRefusal is)
-        ∙ ap (λ (x : RecordRead). fieldOf size idSize dataBytes c (fetchedBy x left)) (sym is)
+    not-fetched is =
+        ap (λ (x : RecordRead). fieldOf size idSize dataBytes c (fetchedBy x left)) (sym is)
         ∙ ap (fieldOf size idSize dataBytes c) e
 
     -- the field is read from the record alone

@@ -11,7 +11,7 @@ use Rattle.records.proofs.read_value.Tie as tie
 returns : tie.Need-returns
 returns c =
     let call = c .before .before .before .before .before in
-    not-fetched _ _ _ _ _ _ _ _ (call .read-record .ensures) (c .before .enum-told2 .given .1) (c .refusal .ensures)
+    not-fetched _ _ _ _ _ _ _ _ (call .read-record .ensures) (c .refusal .ensures)
 
 -- the record fits into the buffer that was lent
 room : (c : tie.After-enum-told) → c .before .before .before .before .before .before .before .before .args .record-size ≤ length (now (c .before .before .before .before .before .before .before .before .args .buffer))

@@ -3,8 +3,7 @@ use borrow.Author.Needs.{needs}
 use borrow.Author.Tests.{not-true, not-false}
 use Rattle.definitions.specs.Reply.{answer}
 use Rattle.definitions.specs.Chain.{blockAt}
-use Rattle.refusals.specs.Meaning.{refused}
-use Rattle.chain.specs.Meaning.{blockMeant, blockReply, blockRefusal}
+use Rattle.chain.specs.Meaning.{blockMeant, blockReply}
 use Rattle.chain.proofs.Fragments.{fragment-refused, fragment-long, fragment-untrue, fragment-taken}
 use Rattle.chain.proofs.fragment.fragment_at.Statement.{statement}
 use Rattle.chain.proofs.fragment.fragment_at.Tie as tie
@@ -12,10 +11,8 @@ use Rattle.chain.proofs.fragment.fragment_at.Tie as tie
 -- a refused block is handed on
 returns : tie.Need-returns
 returns c =
-    let told = c .before in
-    let call = told .before .before in
-    ap refused (c .refusal .ensures ∙ ap blockRefusal (told .enum-told .given .1))
-    ∙ fragment-refused _ _ _ _ _ _ _ (call .before .read-u64-le .ensures) _ _ (sym (call .data-block-at .ensures) ∙ ap blockReply (told .enum-told .given .1))
+    let call = c .before .before .before in
+    fragment-refused _ _ _ _ _ _ _ (call .before .read-u64-le .ensures) _ _ (sym (call .data-block-at .ensures) ∙ ap blockReply (c .refusal .ensures))
 
 -- the block that the link names
 block : (c : tie.After-known-told) →

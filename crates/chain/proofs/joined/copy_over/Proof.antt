@@ -7,7 +7,7 @@ use native.Mathlib.Numerals.{add-one}
 use lib.ListN.{length, set, getD, length-set}
 use lib.Seq.{paste, paste-zero, paste-suc}
 use borrow.Author.Needs.{needs}
-use Rattle.chain.proofs.Laying.{over-paste}
+use Rattle.chain.proofs.Laying.{overwritten-paste}
 use Rattle.chain.proofs.joined.copy_over.Statement.{statement}
 use Rattle.chain.proofs.joined.copy_over.Tie as tie
 
@@ -40,7 +40,7 @@ returns : tie.Need-returns Inv-loop μ-loop
 returns c =
     let at-loop = c .before in
     let start = at-loop .before .before .before .before in
-    at-loop .loop .inv .1 ∙ over-paste (start .args .out .now) (start .args .at) (start .args .bytes .now) (at-loop .loop .i) (start .pre) (omega arith)
+    at-loop .loop .inv .1 ∙ overwritten-paste (start .args .out .now) (start .args .at) (start .args .bytes .now) (at-loop .loop .i) (start .pre) (omega arith)
 
 pub copy-over-spec : {M : Type 1} → statement M
 copy-over-spec =

@@ -7,8 +7,7 @@ use borrow.Author.Tests.{not-true, not-false}
 use Rattle.definitions.specs.Reply.{answer}
 use Rattle.definitions.specs.DataList.{listOf}
 use Rattle.definitions.specs.Chain.{hasHeader, agrees}
-use Rattle.refusals.specs.Meaning.{refused}
-use Rattle.blocks.specs.Meaning.{listMeant, listReply, listRefusal}
+use Rattle.blocks.specs.Meaning.{listMeant, listReply}
 use Rattle.chain.proofs.Addresses.{header-inside}
 use Rattle.chain.proofs.Lists.{list-nowhere, list-refused, list-disagrees, list-many, list-admitted, list-lies}
 use Rattle.chain.proofs.list.list_at.Statement.{statement}
@@ -30,10 +29,8 @@ list-is c = c .from-bytes .ensures ∙ ap listOf (c .before .bytes-from .ensures
 -- a refused list is handed on
 returns-2 : tie.Need-returns-2
 returns-2 c =
-    let told = c .before in
-    let read = told .before .before in
-    ap refused (c .refusal .ensures ∙ ap listRefusal (told .enum-told .given .1))
-    ∙ list-refused _ _ _ (there (read .before .before)) _ _ (sym (list-is read) ∙ ap listReply (told .enum-told .given .1))
+    let read = c .before .before .before in
+    list-refused _ _ _ (there (read .before .before)) _ _ (sym (list-is read) ∙ ap listReply (c .refusal .ensures))
 
 listed : (c : tie.After-known-told) →
     let a = c .before .before .before .before .before .before .before .before .args in

@@ -7,12 +7,10 @@ use lib.Seq.{length-take-le}
 use lib.Dec.{ltb}
 use borrow.Author.Needs.{needs}
 use borrow.Author.Tests.{ltb-false}
-use Rattle.definitions.specs.Reply.{answer, refusal}
-use Rattle.definitions.specs.Chain.{idDT, badSize, totalOf}
-use Rattle.refusals.specs.Meaning.{refused}
-use Rattle.refusals.specs.declared.Refusal.{Refusal}
-use Rattle.chain.specs.Meaning.{chainReply, chainRefusal}
-use Rattle.chain.proofs.Records.{size-good, whole, fetch-bad, fetch-long, fetch-refused, fetch-behind, fetch-record}
+use Rattle.definitions.specs.Reply.{answer}
+use Rattle.definitions.specs.Chain.{badSize, dataLength}
+use Rattle.chain.specs.Meaning.{chainReply}
+use Rattle.chain.proofs.Records.{size-good, data-whole, fetch-bad, fetch-refused, fetch-behind, fetch-record}
 use Rattle.chain.proofs.record.read_record.Statement.{statement}
 use Rattle.chain.proofs.record.read_record.Tie as tie
 
@@ -28,62 +26,54 @@ room : (c : tie.Else1) →
     (0 < a .record-size) × (a .record-size ≤ length (a .buffer .now))
 room c = let a = c .before .before .before .before .args in size-good (a .record-size) (length (a .buffer .now)) (good c)
 
-returns-2 : tie.Need-returns-2
-returns-2 c = fetch-long _ _ _ _ _ (good (c .before)) (c .if2 .taken)
-
 -- a refused chain is handed on
-returns-3 : tie.Need-returns-3
-returns-3 c =
-    let told = c .before in
-    let chain = told .before .before in
-    let two = chain .before .before in
-    ap (λ (r : Refusal). record { reply = refused r; buffer = two .before .before .before .before .before .args .buffer .now }) (c .refusal .ensures ∙ ap chainRefusal (told .enum-told .given .1))
-    ∙ fetch-refused _ _ _ _ _ (good (two .before)) (two .if2 .left) _ _ (sym (chain .accept .ensures) ∙ ap chainReply (told .enum-told .given .1))
+returns-2 : tie.Need-returns-2
+returns-2 c =
+    let chain = c .before .before .before in
+    fetch-refused _ _ _ _ _ (good (chain .before)) _ _ (sym (chain .data-length .ensures) ∙ ap chainReply (c .refusal .ensures))
 
 -- the length of the joined data
 total : (c : tie.After-known-told) →
-    let a = c .before .before .before .before .before .before .before .before .before .before .args in
-    totalOf idDT (a .file .now) (a .start .0) ≡ answer (c .before .chain .given .0 .0 .0)
-total c = sym (c .before .before .before .accept .ensures) ∙ ap chainReply (c .before .chain .given .1)
+    let a = c .before .before .before .before .before .before .before .before .args in
+    dataLength (a .file .now) (a .start .0) ≡ answer (c .before .chain .given .0 .0 .0)
+total c = sym (c .before .before .before .data-length .ensures) ∙ ap chainReply (c .before .chain .given .1)
 
 ends-behind-requires : tie.Need-ends-behind-requires
-ends-behind-requires c κs = room (c .before .before .before .before .before .before) .0
+ends-behind-requires c κs = room (c .before .before .before .before) .0
 
-returns-4 : tie.Need-returns-4
-returns-4 c =
+returns-3 : tie.Need-returns-3
+returns-3 c =
     let told = c .before .before in
-    let two = told .before .before .before .before .before in
-    fetch-behind _ _ _ _ _ (good (two .before)) (two .if2 .left) _ (total told) (sym (c .before .ends-behind .ensures) ∙ c .if3 .taken)
+    fetch-behind _ _ _ _ _ (good (told .before .before .before .before)) _ (total told) (sym (c .before .ends-behind .ensures) ∙ c .if2 .taken)
 
 -- the record ends in the data
-inside : (c : tie.Else3) →
-    let a = c .before .before .before .before .before .before .before .before .before .before .before .before .args in
+inside : (c : tie.Else2) →
+    let a = c .before .before .before .before .before .before .before .before .before .before .args in
     ltb (c .before .before .before .chain .given .0 .0 .0) (a .number * a .record-size + a .record-size) ≡ false
-inside c = sym (c .before .ends-behind .ensures) ∙ c .if3 .left
+inside c = sym (c .before .ends-behind .ensures) ∙ c .if2 .left
 
 -- so its first byte is a position
-mul-t14 : tie.Need-mul-t14
-mul-t14 c =
+first-byte : tie.Need-mul-t13
+first-byte c =
     let told = c .before .before in
-    let a = told .before .before .before .before .before .before .before .before .before .before .args in
+    let a = told .before .before .before .before .before .before .before .before .args in
     omega (arith, ltb-false (told .before .chain .given .0 .0 .0) (a .number * a .record-size + a .record-size) (inside c))
 
 slice-relend-prefix-window : tie.Need-slice-relend-prefix-window
-slice-relend-prefix-window c = room (c .before .before .before .before .before .before .before .before .before) .1
+slice-relend-prefix-window c = room (c .before .before .before .before .before .before .before) .1
 
 slice-aggregate-window : tie.Need-slice-aggregate-window
-slice-aggregate-window c = sym (length-take-le _ _ (room (c .before .before .before .before .before .before .before .before .before .before) .1))
+slice-aggregate-window c = sym (length-take-le _ _ (room (c .before .before .before .before .before .before .before .before) .1))
 
 window-requires : tie.Need-window-requires
-window-requires c κs = let w = whole _ _ _ _ (total (c .before .before .before .before)) in (w .0, w .1)
+window-requires c κs = let w = data-whole _ _ _ (total (c .before .before .before .before)) in (w .1, w .2)
 
-returns-5 : tie.Need-returns-5
-returns-5 c =
+returns-4 : tie.Need-returns-4
+returns-4 c =
     let call = c .before .before in
-    let three = call .before .before .before in
-    let told = three .before .before in
-    let two = told .before .before .before .before .before in
-    fetch-record _ _ _ _ _ (good (two .before)) (two .if2 .left) _ (total told) _ (inside three) (call .window .ensures)
+    let two = call .before .before .before in
+    let told = two .before .before in
+    fetch-record _ _ _ _ _ (good (told .before .before .before .before)) _ (total told) _ (inside two) (call .window .ensures)
 
 pub read-record-spec : {M : Type 1} → statement M
 read-record-spec =
@@ -91,17 +81,16 @@ read-record-spec =
     (tie.spec
     (λ c κs. search needs)
     returns
+    (λ c κs. search needs)
+    (λ c. search needs)
+    (λ c. search needs)
+    (λ c κs. search needs)
     returns-2
-    (λ c κs. search needs)
-    (λ c. search needs)
-    (λ c. search needs)
-    (λ c κs. search needs)
-    returns-3
     ends-behind-requires
-    returns-4
-    mul-t14
+    returns-3
+    first-byte
     slice-relend-prefix-window
     slice-aggregate-window
     window-requires
     (λ c. search needs)
-    returns-5)
+    returns-4)

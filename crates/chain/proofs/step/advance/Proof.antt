@@ -2,8 +2,7 @@ use mathlib.Core.Path.{_≡_, sym, ap, _∙_}
 use borrow.Author.Needs.{needs}
 use Rattle.definitions.specs.Reply.{answer}
 use Rattle.definitions.specs.Chain.{listAt}
-use Rattle.refusals.specs.Meaning.{refused}
-use Rattle.blocks.specs.Meaning.{listMeant, listReply, listRefusal}
+use Rattle.blocks.specs.Meaning.{listMeant, listReply}
 use Rattle.chain.proofs.Addresses.{header-inside}
 use Rattle.chain.proofs.Lists.{list-stands, list-readable}
 use Rattle.chain.proofs.Steps.{step-many, step-refused, step-over, step-out}
@@ -16,10 +15,8 @@ returns c = step-many _ _ _ (c .if1 .taken)
 -- a refused list is handed on
 returns-2 : tie.Need-returns-2
 returns-2 c =
-    let told = c .before in
-    let read = told .before .before in
-    ap refused (c .refusal .ensures ∙ ap listRefusal (told .enum-told .given .1))
-    ∙ step-refused _ _ _ (read .before .before .if1 .left) _ _ (sym (read .list-at .ensures) ∙ ap listReply (told .enum-told .given .1))
+    let read = c .before .before .before in
+    step-refused _ _ _ (read .before .before .if1 .left) _ _ (sym (read .list-at .ensures) ∙ ap listReply (c .refusal .ensures))
 
 -- the list that was read
 listed : (c : tie.After-known-told) →

@@ -3,9 +3,8 @@ use native.Mathlib.Omega.{arith}
 use borrow.Author.Needs.{needs}
 use Rattle.definitions.specs.Reply.{answer}
 use Rattle.definitions.specs.Chain.{fragmentOf}
-use Rattle.refusals.specs.Meaning.{refused}
 use Rattle.blocks.specs.Meaning.{listMeant}
-use Rattle.chain.specs.Meaning.{blockMeant, blockReply, blockRefusal}
+use Rattle.chain.specs.Meaning.{blockMeant, blockReply}
 use Rattle.chain.specs.Walk.{aBlock}
 use Rattle.chain.specs.declared.place.Place.{Place}
 use Rattle.chain.proofs.Fragments.{fragment-stands}
@@ -16,9 +15,7 @@ use Rattle.chain.proofs.step.over_fragment.Tie as tie
 -- a refused fragment is handed on
 returns : tie.Need-returns
 returns c =
-    let told = c .before in
-    ap refused (c .refusal .ensures ∙ ap blockRefusal (told .enum-told .given .1))
-    ∙ over-refused _ _ _ _ (sym (told .before .before .fragment-at .ensures) ∙ ap blockReply (told .enum-told .given .1))
+    over-refused _ _ _ _ (sym (c .before .before .before .fragment-at .ensures) ∙ ap blockReply (c .refusal .ensures))
 
 -- the fragment's block
 block : (c : tie.After-known-told) →

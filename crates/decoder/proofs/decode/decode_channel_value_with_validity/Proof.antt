@@ -2,16 +2,14 @@
 use borrow.Author.Needs.{needs}
 use mathlib.Core.Path.{sym, ap, _∙_}
 use Rattle.refusals.specs.Meaning.{refused}
-use Rattle.decoder.specs.Meaning.{valueReply, valueRefusal}
+use Rattle.decoder.specs.Meaning.{valueReply}
 use Rattle.decoder.proofs.Values.{no-valid-value, valid-value}
 use Rattle.decoder.proofs.decode.decode_channel_value_with_validity.Statement.{statement}
 use Rattle.decoder.proofs.decode.decode_channel_value_with_validity.Tie as tie
 
 returns : tie.Need-returns
 returns c =
-    let told = c .before .enum-told .given .1 in
-    ap refused (c .refusal .ensures ∙ ap valueRefusal told)
-    ∙ no-valid-value _ _ _ _ (sym (c .before .before .before .any-value .ensures) ∙ ap valueReply told)
+    no-valid-value _ _ _ _ (sym (c .before .before .before .any-value .ensures) ∙ ap valueReply (c .refusal .ensures))
 
 returns-2 : tie.Need-returns-2
 returns-2 c =

@@ -4,7 +4,7 @@ use Rattle.definitions.specs.Channel.{Channel}
 use Rattle.definitions.specs.Chain.{valueFetched}
 use Rattle.decoder.specs.Meaning.{validValueReply}
 use Rattle.mf4.specs.Values.{validValueC}
-use Rattle.mf4.proofs.Handed.{handed-left}
+use Rattle.mf4.proofs.Handed.{handed-back}
 use borrow.Author.Needs.{needs}
 use Rattle.mf4.proofs.fetches.mf4_record_value.Statement.{statement}
 use Rattle.mf4.proofs.fetches.mf4_record_value.Tie as tie
@@ -13,7 +13,7 @@ returns : tie.Need-returns
 returns c =
     let call = c .before .before .before in
     let a = call .before .before .before .before .before .args in
-    handed-left validValueC validValueReply (call .read-value .result) (c .valid-value-reply .ensures)
+    handed-back validValueC validValueReply (call .read-value .result) (c .valid-value-reply .ensures)
     (call .read-value .ensures
     ∙ ap (λ (ch : Channel). valueFetched (now (a .file)) (a .start) (a .number) (a .record-size) (a .record-id-size) (a .data-bytes) ch (now (a .buffer)))
     (call .before .before .channel-of .ensures))

@@ -1,12 +1,12 @@
 use Rattle.text.specs.Meaning.{textReply}
 use Rattle.mf4.specs.Replies.{textC}
-use Rattle.mf4.proofs.Handed.{handed-left}
+use Rattle.mf4.proofs.Handed.{handed-back}
 use borrow.Author.Needs.{needs}
 use Rattle.mf4.proofs.texts.mf4_text_utf8.Statement.{statement}
 use Rattle.mf4.proofs.texts.mf4_text_utf8.Tie as tie
 
 returns : tie.Need-returns
-returns c = handed-left textC textReply (c .before .before .before .write-text .result) (c .text-reply .ensures) (c .before .before .before .write-text .ensures)
+returns c = handed-back textC textReply (c .before .before .before .write-text .result) (c .text-reply .ensures) (c .before .before .before .write-text .ensures)
 
 pub mf4-text-utf8-spec : {M : Type 1} → statement M
 mf4-text-utf8-spec =

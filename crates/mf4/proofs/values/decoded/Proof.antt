@@ -1,17 +1,16 @@
-use lib.IntN.{ℤ}
+use mathlib.Core.Path.{_≡_, sym, ap, _∙_}
 use mir.Syntax.{w64}
 use mir.ValLaws.{toZ-ofZ}
-use mathlib.Core.Path.{_≡_, sym, ap, _∙_}
 use Rattle.decoder.specs.Meaning.{valueMeant}
 use Rattle.decoder.specs.declared.value.DecodedValue.{DecodedValue}
-use Rattle.mf4.specs.Values.{numberC, decodedC}
-use Rattle.mf4.specs.declared.values.Mf4Decoded.{Mf4Decoded}
+use Rattle.mf4.specs.Values.{wordOf, numberC, decodedC}
+use Rattle.mf4.specs.declared.values.Shown.{Shown}
 use borrow.Author.Needs.{needs, sfits-of}
 use Rattle.mf4.proofs.values.decoded.Statement.{statement}
 use Rattle.mf4.proofs.values.decoded.Tie as tie
 
 -- each case makes what the definition has for it
-made : {r : Mf4Decoded} {value v : DecodedValue} → r ≡ decodedC (valueMeant v) → value ≡ v → r ≡ decodedC (valueMeant value)
+made : {r : Shown} {value v : DecodedValue} → r ≡ decodedC (valueMeant v) → value ≡ v → r ≡ decodedC (valueMeant value)
 made e h = e ∙ sym (ap (λ (x : DecodedValue). decodedC (valueMeant x)) h)
 
 returns : tie.Need-returns
@@ -19,8 +18,10 @@ returns c = made (c .number .ensures) (c .before .before .value .given .1)
 
 returns-2 : tie.Need-returns-2
 returns-2 c =
-    let z = c .before .before .value2 .given .0 .0 in
-    made (c .number2 .ensures ∙ ap (λ (y : ℤ). numberC 2 0 y 0) (toZ-ofZ w64 z (sfits-of (c .before .known-told2 .given .0 .1)))) (c .before .before .value2 .given .1)
+    let told = c .before .before in
+    let z = told .before .value2 .given .0 .0 in
+    made (c .number2 .ensures ∙ ap (numberC 2) (c .before .word-of .ensures ∙ ap wordOf (toZ-ofZ w64 z (sfits-of (told .known-told2 .given .0 .1)))))
+    (told .before .value2 .given .1)
 
 returns-3 : tie.Need-returns-3
 returns-3 c = made (c .number3 .ensures) (c .before .before .value3 .given .1)
@@ -47,6 +48,7 @@ decoded-spec =
     (λ c. search needs)
     (λ c κs. search needs)
     (λ c. search needs)
+    (λ c κs. search needs)
     (λ c κs. search needs)
     (λ c. search needs)
     (λ c κs. search needs)

@@ -1,15 +1,11 @@
+use Rattle.mf4.specs.Values.{validValueC}
+use Rattle.mf4.proofs.Handed.{by-numbers}
 use borrow.Author.Needs.{needs}
 use Rattle.mf4.proofs.values.valid_value_refused.Statement.{statement}
 use Rattle.mf4.proofs.values.valid_value_refused.Tie as tie
 
 returns : tie.Need-returns
-returns c = λ i.
-    record {
-      reply = c .before .number .ensures i;
-      told = c .told .ensures i;
-      value = c .before .before .place .ensures i;
-      «is_valid» = 0;
-    }
+returns c = by-numbers validValueC (c .before .before .args .why) (c .before .number .ensures) (c .told .ensures)
 
 pub valid-value-refused-spec : {M : Type 1} → statement M
-valid-value-refused-spec = tie.close (tie.spec (λ c κs. search needs) (λ c κs. search needs) (λ c κs. search needs) returns)
+valid-value-refused-spec = tie.close (tie.spec (λ c κs. search needs) (λ c κs. search needs) returns)
