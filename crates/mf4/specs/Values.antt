@@ -5,10 +5,10 @@ use Rattle.definitions.specs.Reply.{Reply, answer, refusal}
 use Rattle.definitions.specs.DataType.{typeOf}
 use Rattle.definitions.specs.Channel.{Channel, Value, ValidValue, unsigned, signed, double, text, bytes, sample, stream, unknownValue}
 use Rattle.mf4.specs.Replies.{flagC}
-use Rattle.mf4.specs.declared.values.Mf4Channel.{Mf4Channel}
+use Rattle.mf4.specs.declared.channel.Mf4Channel.{Mf4Channel}
 use Rattle.mf4.specs.declared.values.Shown.{Shown}
 use Rattle.mf4.specs.declared.values.Mf4Value.{Mf4Value}
-use Rattle.mf4.specs.declared.values.Mf4ValidValue.{Mf4ValidValue}
+use Rattle.mf4.specs.declared.valid_values.Mf4ValidValue.{Mf4ValidValue}
 use Rattle.mf4.specs.declared.fetches.Mf4Length.{Mf4Length}
 use Rattle.mf4.specs.declared.fetches.Mf4Fetched.{Mf4Fetched}
 

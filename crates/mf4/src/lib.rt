@@ -1,12 +1,16 @@
 // The calls for C, one thin function each; include/mf4.h says what they take, answer and refuse.
+mod channel;
 mod fetches;
 mod header;
 mod list;
 mod texts;
 mod types;
+mod valid_values;
+mod validity;
 mod values;
 mod written;
 
+pub use channel::Mf4Channel;
 pub use fetches::Mf4Fetched;
 pub use fetches::Mf4Length;
 pub use fetches::mf4_data_length;
@@ -27,11 +31,10 @@ pub use texts::mf4_text_utf16_be;
 pub use texts::mf4_text_utf16_le;
 pub use types::mf4_default_bits;
 pub use types::mf4_type_code;
-pub use values::Mf4Channel;
-pub use values::Mf4ValidValue;
+pub use valid_values::Mf4ValidValue;
+pub use valid_values::mf4_decode_valid_value;
+pub use validity::mf4_check_validity;
 pub use values::Mf4Value;
-pub use values::mf4_check_validity;
 pub use values::mf4_decode_double;
-pub use values::mf4_decode_valid_value;
 pub use values::mf4_decode_value;
 pub use written::Mf4Written;

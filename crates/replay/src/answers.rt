@@ -2,10 +2,8 @@
 use crate::words::Counted;
 use crate::words::WRONG;
 use crate::words::bytes;
-use crate::words::is_end;
 use crate::words::next_if;
 use crate::words::number;
-use mf4::Mf4Decoded;
 use mf4::Mf4Written;
 
 // A lent buffer is full of these, so that a byte written where none should be shows
@@ -73,14 +71,6 @@ pub(crate) fn same_written(line: &[u8], at: usize, out: &[u8; 512], given: Mf4Wr
     }
 }
 
-fn signed_of(pattern: u64) -> i64 {
-    if pattern < 0x8000000000000000 {
-        pattern as i64
-    } else {
-        !((u64::MAX - pattern) as i64)
-    }
-}
-
 // The number where it belongs to the kind of the value, else the 0 of a field that the kind does not use
 fn where_of_kind(kind: u64, first: u64, last: u64, number: u64) -> u64 {
     if first <= kind && kind <= last {
@@ -91,7 +81,14 @@ fn where_of_kind(kind: u64, first: u64, last: u64, number: u64) -> u64 {
 }
 
 // Every field of the value, also those that its kind does not use
-pub(crate) fn same_value(line: &[u8], at: usize, given: Mf4Decoded) -> usize {
+pub(crate) fn same_value(
+    line: &[u8],
+    at: usize,
+    given_kind: u32,
+    given_number: u64,
+    given_at: u64,
+    given_length: u64,
+) -> usize {
     let kind_read = number(line, at);
     let first = number(line, kind_read.next);
     let second = number(line, first.next);
@@ -100,19 +97,22 @@ pub(crate) fn same_value(line: &[u8], at: usize, given: Mf4Decoded) -> usize {
     let y = second.value;
     let next = next_if(x == where_of_kind(kind, 1, 7, x), second.next);
     let next = next_if(y == where_of_kind(kind, 4, 7, y), next);
-    let next = next_if(given.kind as u64 == kind, next);
-    let next = next_if(given.unsigned_value == where_of_kind(kind, 1, 1, x), next);
-    let next = next_if(
-        given.signed_value == signed_of(where_of_kind(kind, 2, 2, x)),
-        next,
-    );
-    let next = next_if(given.double_bits == where_of_kind(kind, 3, 3, x), next);
-    let next = next_if(given.at == where_of_kind(kind, 4, 7, x), next);
-    next_if(given.length == where_of_kind(kind, 4, 7, y), next)
+    let next = next_if(given_kind as u64 == kind, next);
+    let next = next_if(given_number == where_of_kind(kind, 1, 3, x), next);
+    let next = next_if(given_at == where_of_kind(kind, 4, 7, x), next);
+    next_if(given_length == where_of_kind(kind, 4, 7, y), next)
 }
 
 // Beside a refusal every field of the value is 0
-pub(crate) fn no_value(at: usize, given: Mf4Decoded) -> usize {
-    let zeros = b"0 0 0";
-    next_if(is_end(zeros, same_value(zeros, 0, given)), at)
+pub(crate) fn no_value(
+    at: usize,
+    given_kind: u32,
+    given_number: u64,
+    given_at: u64,
+    given_length: u64,
+) -> usize {
+    next_if(
+        given_kind == 0 && given_number == 0 && given_at == 0 && given_length == 0,
+        at,
+    )
 }

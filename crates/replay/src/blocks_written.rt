@@ -55,10 +55,10 @@ pub(crate) fn replay_list_write_equal(line: &[u8], at: usize) -> usize {
     let count = lent.count;
     let link_count = read.count;
     let given = mf4_write_list_equal(
-        &mut out[..count],
         next_list.value,
         &links[..link_count],
         length.value,
+        &mut out[..count],
     );
     same_written(line, after, &out, given)
 }
@@ -76,10 +76,10 @@ pub(crate) fn replay_list_write_variable(line: &[u8], at: usize) -> usize {
     let link_count = read.count;
     let offset_count = read_offsets.count;
     let given = mf4_write_list_variable(
-        &mut out[..count],
         next_list.value,
         &links[..link_count],
         &offsets[..offset_count],
+        &mut out[..count],
     );
     same_written(line, after, &out, given)
 }

@@ -60,19 +60,22 @@ fn same_decoded(line: &[u8], at: usize, record: &[u8], id_size: u64, channel: Mf
     let given = mf4_decode_value(record, id_size, channel);
     let next = same_reply(line, at, given.reply, given.told);
     if given.reply == 0 {
-        same_value(line, next, given.value)
+        same_value(line, next, given.kind, given.number, given.at, given.length)
     } else {
-        no_value(next, given.value)
+        no_value(next, given.kind, given.number, given.at, given.length)
     }
 }
 
 pub(crate) fn same_valid_value(line: &[u8], at: usize, given: Mf4ValidValue) -> usize {
     let next = same_reply(line, at, given.reply, given.told);
     if given.reply == 0 {
-        let next = same_value(line, next, given.value);
+        let next = same_value(line, next, given.kind, given.number, given.at, given.length);
         same_number(line, next, given.is_valid as u64)
     } else {
-        next_if(given.is_valid == 0, no_value(next, given.value))
+        next_if(
+            given.is_valid == 0,
+            no_value(next, given.kind, given.number, given.at, given.length),
+        )
     }
 }
 

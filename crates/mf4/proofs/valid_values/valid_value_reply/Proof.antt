@@ -3,8 +3,8 @@ use Rattle.decoder.specs.Meaning.{validValueReply}
 use Rattle.mf4.specs.Values.{validAnswerC, validValueC}
 use Rattle.mf4.proofs.Handed.{handed}
 use borrow.Author.Needs.{needs}
-use Rattle.mf4.proofs.values.valid_value_reply.Statement.{statement}
-use Rattle.mf4.proofs.values.valid_value_reply.Tie as tie
+use Rattle.mf4.proofs.valid_values.valid_value_reply.Statement.{statement}
+use Rattle.mf4.proofs.valid_values.valid_value_reply.Tie as tie
 
 returns : tie.Need-returns
 returns c = handed validValueC validValueReply (c .valid-value-refused .ensures) (c .before .refusal .ensures) refl

@@ -3,8 +3,8 @@ use denote.Ref.{now}
 use Rattle.definitions.specs.Channel.{Channel, validOf}
 use Rattle.mf4.specs.Replies.{flagC}
 use borrow.Author.Needs.{needs}
-use Rattle.mf4.proofs.values.mf4_check_validity.Statement.{statement}
-use Rattle.mf4.proofs.values.mf4_check_validity.Tie as tie
+use Rattle.mf4.proofs.validity.mf4_check_validity.Statement.{statement}
+use Rattle.mf4.proofs.validity.mf4_check_validity.Tie as tie
 
 returns : tie.Need-returns
 returns c =

@@ -1,8 +1,8 @@
 use mathlib.Core.Path.{ap}
 use Rattle.definitions.specs.DataType.{DataType}
 use borrow.Author.Needs.{needs}
-use Rattle.mf4.proofs.values.channel_of.Statement.{statement}
-use Rattle.mf4.proofs.values.channel_of.Tie as tie
+use Rattle.mf4.proofs.channel.channel_of.Statement.{statement}
+use Rattle.mf4.proofs.channel.channel_of.Tie as tie
 
 returns : tie.Need-returns
 returns c =

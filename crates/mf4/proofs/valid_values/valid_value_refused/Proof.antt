@@ -1,8 +1,8 @@
 use Rattle.mf4.specs.Values.{validValueC}
 use Rattle.mf4.proofs.Handed.{by-numbers}
 use borrow.Author.Needs.{needs}
-use Rattle.mf4.proofs.values.valid_value_refused.Statement.{statement}
-use Rattle.mf4.proofs.values.valid_value_refused.Tie as tie
+use Rattle.mf4.proofs.valid_values.valid_value_refused.Statement.{statement}
+use Rattle.mf4.proofs.valid_values.valid_value_refused.Tie as tie
 
 returns : tie.Need-returns
 returns c = by-numbers validValueC (c .before .before .args .why) (c .before .number .ensures) (c .told .ensures)

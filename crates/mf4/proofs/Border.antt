@@ -1,0 +1,192 @@
+-- The border with C by place, and not by name alone: the fields of each struct in their order, and what each call makes of
+-- its arguments in theirs. include/mf4.h has the same orders.
+use mathlib.Core.Path.{_≡_, refl}
+use mathlib.Core.List.{List}
+use contract.Lifetimes.{Lfts}
+use Prim.Native.Nat.{ℕ}
+use Rattle.definitions.specs.Bytes.{little, big}
+use Rattle.definitions.specs.Unicode.{latin1, utf8, utf16, textWritten}
+use Rattle.definitions.specs.Header.{headerOf, headerWritten}
+use Rattle.definitions.specs.DataType.{typeOf, codeOf, defaultBits}
+use Rattle.definitions.specs.DataList.{listOf, listWritten, equal, variable}
+use Rattle.definitions.specs.Channel.{valueOf, validOf, validValueOf, recordDouble}
+use Rattle.definitions.specs.Chain.{dataLength, fetched, valueFetched}
+use Rattle.mf4.specs.Clauses.{Slice, Allows}
+use Rattle.mf4.specs.Replies.{flagC, writtenC, headerC, headerGiven, listC, textC, returned, returnedBy}
+use Rattle.mf4.specs.Values.{channelGiven, valueC, validValueC, lengthC, fetchedC}
+use Rattle.mf4.specs.declared.written.Mf4Written.{Mf4Written}
+use Rattle.mf4.specs.declared.header.Mf4BlockHeader.{Mf4BlockHeader}
+use Rattle.mf4.specs.declared.header.Mf4Header.{Mf4Header}
+use Rattle.mf4.specs.declared.list.Mf4List.{Mf4List}
+use Rattle.mf4.specs.declared.texts.Mf4Text.{Mf4Text}
+use Rattle.mf4.specs.declared.channel.Mf4Channel.{Mf4Channel}
+use Rattle.mf4.specs.declared.values.Mf4Value.{Mf4Value}
+use Rattle.mf4.specs.declared.valid_values.Mf4ValidValue.{Mf4ValidValue}
+use Rattle.mf4.specs.declared.fetches.Mf4Length.{Mf4Length}
+use Rattle.mf4.specs.declared.fetches.Mf4Fetched.{Mf4Fetched}
+use Rattle.mf4.proofs.written.Mf4Written as mf4-written
+use Rattle.mf4.proofs.header.Mf4BlockHeader as mf4-block-header
+use Rattle.mf4.proofs.header.Mf4Header as mf4-header
+use Rattle.mf4.proofs.list.Mf4List as mf4-list
+use Rattle.mf4.proofs.texts.Mf4Text as mf4-text
+use Rattle.mf4.proofs.channel.Mf4Channel as mf4-channel
+use Rattle.mf4.proofs.values.Mf4Value as mf4-value
+use Rattle.mf4.proofs.valid_values.Mf4ValidValue as mf4-valid-value
+use Rattle.mf4.proofs.fetches.Mf4Length as mf4-length
+use Rattle.mf4.proofs.fetches.Mf4Fetched as mf4-fetched
+use Rattle.mf4.proofs.mf4_read_header.Kinds as mf4-read-header-kinds
+use Rattle.mf4.proofs.mf4_read_header.Reads as mf4-read-header
+use Rattle.mf4.proofs.mf4_write_header.Kinds as mf4-write-header-kinds
+use Rattle.mf4.proofs.mf4_write_header.Reads as mf4-write-header
+use Rattle.mf4.proofs.mf4_type_code.Kinds as mf4-type-code-kinds
+use Rattle.mf4.proofs.mf4_type_code.Reads as mf4-type-code
+use Rattle.mf4.proofs.mf4_default_bits.Kinds as mf4-default-bits-kinds
+use Rattle.mf4.proofs.mf4_default_bits.Reads as mf4-default-bits
+use Rattle.mf4.proofs.mf4_read_list.Kinds as mf4-read-list-kinds
+use Rattle.mf4.proofs.mf4_read_list.Reads as mf4-read-list
+use Rattle.mf4.proofs.mf4_write_list_equal.Kinds as mf4-write-list-equal-kinds
+use Rattle.mf4.proofs.mf4_write_list_equal.Reads as mf4-write-list-equal
+use Rattle.mf4.proofs.mf4_write_list_variable.Kinds as mf4-write-list-variable-kinds
+use Rattle.mf4.proofs.mf4_write_list_variable.Reads as mf4-write-list-variable
+use Rattle.mf4.proofs.mf4_decode_value.Kinds as mf4-decode-value-kinds
+use Rattle.mf4.proofs.mf4_decode_value.Reads as mf4-decode-value
+use Rattle.mf4.proofs.mf4_check_validity.Kinds as mf4-check-validity-kinds
+use Rattle.mf4.proofs.mf4_check_validity.Reads as mf4-check-validity
+use Rattle.mf4.proofs.mf4_decode_valid_value.Kinds as mf4-decode-valid-value-kinds
+use Rattle.mf4.proofs.mf4_decode_valid_value.Reads as mf4-decode-valid-value
+use Rattle.mf4.proofs.mf4_decode_double.Kinds as mf4-decode-double-kinds
+use Rattle.mf4.proofs.mf4_decode_double.Reads as mf4-decode-double
+use Rattle.mf4.proofs.mf4_text_latin1.Kinds as mf4-text-latin1-kinds
+use Rattle.mf4.proofs.mf4_text_latin1.Reads as mf4-text-latin1
+use Rattle.mf4.proofs.mf4_text_utf8.Kinds as mf4-text-utf8-kinds
+use Rattle.mf4.proofs.mf4_text_utf8.Reads as mf4-text-utf8
+use Rattle.mf4.proofs.mf4_text_utf16_le.Kinds as mf4-text-utf16-le-kinds
+use Rattle.mf4.proofs.mf4_text_utf16_le.Reads as mf4-text-utf16-le
+use Rattle.mf4.proofs.mf4_text_utf16_be.Kinds as mf4-text-utf16-be-kinds
+use Rattle.mf4.proofs.mf4_text_utf16_be.Reads as mf4-text-utf16-be
+use Rattle.mf4.proofs.mf4_data_length.Kinds as mf4-data-length-kinds
+use Rattle.mf4.proofs.mf4_data_length.Reads as mf4-data-length
+use Rattle.mf4.proofs.mf4_read_record.Kinds as mf4-read-record-kinds
+use Rattle.mf4.proofs.mf4_read_record.Reads as mf4-read-record
+use Rattle.mf4.proofs.mf4_record_value.Kinds as mf4-record-value-kinds
+use Rattle.mf4.proofs.mf4_record_value.Reads as mf4-record-value
+
+pub mf4-written-fields : (s : Mf4Written) → mf4-written.struct .as-values s ≡ (s .reply, (s .told, (s .count, tt)))
+mf4-written-fields s = refl
+
+pub mf4-block-header-fields : (s : Mf4BlockHeader) → mf4-block-header.struct .as-values s ≡ (s .id, (s .reserved0, (s .«block_len», (s .«links_nr», tt))))
+mf4-block-header-fields s = refl
+
+pub mf4-header-fields : (s : Mf4Header) → mf4-header.struct .as-values s ≡ (s .reply, (s .told, (s .header, tt)))
+mf4-header-fields s = refl
+
+pub mf4-list-fields : (s : Mf4List) → mf4-list.struct .as-values s ≡ (s .reply, (s .told, (s .header, (s .next, (s .«links_at», (s .links, (s .flags, (s .reserved1, (s .«data_block_nr», (s .«rest_at», (s .rest, tt)))))))))))
+mf4-list-fields s = refl
+
+pub mf4-text-fields : (s : Mf4Text) → mf4-text.struct .as-values s ≡ (s .reply, (s .told, (s .count, (s .damaged, tt))))
+mf4-text-fields s = refl
+
+pub mf4-channel-fields : (s : Mf4Channel) → mf4-channel.struct .as-values s ≡ (s .«data_type», (s .«channel_type», (s .«bit_offset», (s .«byte_offset», (s .«bit_count», (s .flags, (s .«pos_invalidation_bit», (s .«data», tt))))))))
+mf4-channel-fields s = refl
+
+pub mf4-value-fields : (s : Mf4Value) → mf4-value.struct .as-values s ≡ (s .reply, (s .kind, (s .told, (s .number, (s .at, (s .length, tt))))))
+mf4-value-fields s = refl
+
+pub mf4-valid-value-fields : (s : Mf4ValidValue) → mf4-valid-value.struct .as-values s ≡ (s .reply, (s .kind, (s .told, (s .number, (s .at, (s .length, (s .«is_valid», tt)))))))
+mf4-valid-value-fields s = refl
+
+pub mf4-length-fields : (s : Mf4Length) → mf4-length.struct .as-values s ≡ (s .reply, (s .told, (s .length, tt)))
+mf4-length-fields s = refl
+
+pub mf4-fetched-fields : (s : Mf4Fetched) → mf4-fetched.struct .as-values s ≡ (s .reply, (s .told, tt))
+mf4-fetched-fields s = refl
+
+pub mf4-read-header-arguments : (κs : Lfts 1) (bytes : Slice) (y : Mf4Header)
+    → Allows 1 mf4-read-header-kinds.ps mf4-read-header-kinds.r mf4-read-header.Learnt κs (bytes, tt) y (tt, tt)
+    ≡ (y ≡ headerC (headerOf (bytes .now)))
+mf4-read-header-arguments κs bytes y = refl
+
+pub mf4-write-header-arguments : (κs : Lfts 1) (header : Mf4BlockHeader) (out : Slice) (y : Mf4Written) (after : List ℕ)
+    → Allows 1 mf4-write-header-kinds.ps mf4-write-header-kinds.r mf4-write-header.Learnt κs (header, (out, tt)) y (tt, (after, tt))
+    ≡ (returned y after ≡ returnedBy writtenC (headerWritten (out .now) (headerGiven header)))
+mf4-write-header-arguments κs header out y after = refl
+
+pub mf4-type-code-arguments : (κs : Lfts 0) (code y : ℕ)
+    → Allows 0 mf4-type-code-kinds.ps mf4-type-code-kinds.r mf4-type-code.Learnt κs (code, tt) y (tt, tt)
+    ≡ (y ≡ codeOf (typeOf code))
+mf4-type-code-arguments κs code y = refl
+
+pub mf4-default-bits-arguments : (κs : Lfts 0) (code y : ℕ)
+    → Allows 0 mf4-default-bits-kinds.ps mf4-default-bits-kinds.r mf4-default-bits.Learnt κs (code, tt) y (tt, tt)
+    ≡ (y ≡ defaultBits (typeOf code))
+mf4-default-bits-arguments κs code y = refl
+
+pub mf4-read-list-arguments : (κs : Lfts 1) (bytes : Slice) (y : Mf4List)
+    → Allows 1 mf4-read-list-kinds.ps mf4-read-list-kinds.r mf4-read-list.Learnt κs (bytes, tt) y (tt, tt)
+    ≡ (y ≡ listC (listOf (bytes .now)))
+mf4-read-list-arguments κs bytes y = refl
+
+pub mf4-write-list-equal-arguments : (κs : Lfts 2) (next : ℕ) (links : Slice) (length : ℕ) (out : Slice) (y : Mf4Written) (after : List ℕ)
+    → Allows 2 mf4-write-list-equal-kinds.ps mf4-write-list-equal-kinds.r mf4-write-list-equal.Learnt κs (next, (links, (length, (out, tt)))) y (tt, (tt, (tt, (after, tt))))
+    ≡ (returned y after ≡ returnedBy writtenC (listWritten (out .now) next (links .now) (equal length)))
+mf4-write-list-equal-arguments κs next links length out y after = refl
+
+pub mf4-write-list-variable-arguments : (κs : Lfts 3) (next : ℕ) (links offsets out : Slice) (y : Mf4Written) (after : List ℕ)
+    → Allows 3 mf4-write-list-variable-kinds.ps mf4-write-list-variable-kinds.r mf4-write-list-variable.Learnt κs (next, (links, (offsets, (out, tt)))) y (tt, (tt, (tt, (after, tt))))
+    ≡ (returned y after ≡ returnedBy writtenC (listWritten (out .now) next (links .now) (variable (offsets .now))))
+mf4-write-list-variable-arguments κs next links offsets out y after = refl
+
+pub mf4-decode-value-arguments : (κs : Lfts 1) (bytes : Slice) (recordIdSize : ℕ) (channel : Mf4Channel) (y : Mf4Value)
+    → Allows 1 mf4-decode-value-kinds.ps mf4-decode-value-kinds.r mf4-decode-value.Learnt κs (bytes, (recordIdSize, (channel, tt))) y (tt, (tt, (tt, tt)))
+    ≡ (y ≡ valueC (valueOf (bytes .now) recordIdSize (channelGiven channel)))
+mf4-decode-value-arguments κs bytes recordIdSize channel y = refl
+
+pub mf4-check-validity-arguments : (κs : Lfts 1) (bytes : Slice) (recordIdSize dataBytes : ℕ) (channel : Mf4Channel) (y : ℕ)
+    → Allows 1 mf4-check-validity-kinds.ps mf4-check-validity-kinds.r mf4-check-validity.Learnt κs (bytes, (recordIdSize, (dataBytes, (channel, tt)))) y (tt, (tt, (tt, (tt, tt))))
+    ≡ (y ≡ flagC (validOf (bytes .now) recordIdSize dataBytes (channelGiven channel)))
+mf4-check-validity-arguments κs bytes recordIdSize dataBytes channel y = refl
+
+pub mf4-decode-valid-value-arguments : (κs : Lfts 1) (bytes : Slice) (recordIdSize dataBytes : ℕ) (channel : Mf4Channel) (y : Mf4ValidValue)
+    → Allows 1 mf4-decode-valid-value-kinds.ps mf4-decode-valid-value-kinds.r mf4-decode-valid-value.Learnt κs (bytes, (recordIdSize, (dataBytes, (channel, tt)))) y (tt, (tt, (tt, (tt, tt))))
+    ≡ (y ≡ validValueC (validValueOf (bytes .now) recordIdSize dataBytes (channelGiven channel)))
+mf4-decode-valid-value-arguments κs bytes recordIdSize dataBytes channel y = refl
+
+pub mf4-decode-double-arguments : (κs : Lfts 1) (bytes : Slice) (recordIdSize : ℕ) (channel : Mf4Channel) (y : ℕ)
+    → Allows 1 mf4-decode-double-kinds.ps mf4-decode-double-kinds.r mf4-decode-double.Learnt κs (bytes, (recordIdSize, (channel, tt))) y (tt, (tt, (tt, tt)))
+    ≡ (y ≡ recordDouble (bytes .now) recordIdSize (channelGiven channel))
+mf4-decode-double-arguments κs bytes recordIdSize channel y = refl
+
+pub mf4-text-latin1-arguments : (κs : Lfts 2) (bytes out : Slice) (y : Mf4Text) (after : List ℕ)
+    → Allows 2 mf4-text-latin1-kinds.ps mf4-text-latin1-kinds.r mf4-text-latin1.Learnt κs (bytes, (out, tt)) y (tt, (after, tt))
+    ≡ (returned y after ≡ returnedBy textC (textWritten (out .now) latin1 (bytes .now)))
+mf4-text-latin1-arguments κs bytes out y after = refl
+
+pub mf4-text-utf8-arguments : (κs : Lfts 2) (bytes out : Slice) (y : Mf4Text) (after : List ℕ)
+    → Allows 2 mf4-text-utf8-kinds.ps mf4-text-utf8-kinds.r mf4-text-utf8.Learnt κs (bytes, (out, tt)) y (tt, (after, tt))
+    ≡ (returned y after ≡ returnedBy textC (textWritten (out .now) utf8 (bytes .now)))
+mf4-text-utf8-arguments κs bytes out y after = refl
+
+pub mf4-text-utf16-le-arguments : (κs : Lfts 2) (bytes out : Slice) (y : Mf4Text) (after : List ℕ)
+    → Allows 2 mf4-text-utf16-le-kinds.ps mf4-text-utf16-le-kinds.r mf4-text-utf16-le.Learnt κs (bytes, (out, tt)) y (tt, (after, tt))
+    ≡ (returned y after ≡ returnedBy textC (textWritten (out .now) (utf16 little) (bytes .now)))
+mf4-text-utf16-le-arguments κs bytes out y after = refl
+
+pub mf4-text-utf16-be-arguments : (κs : Lfts 2) (bytes out : Slice) (y : Mf4Text) (after : List ℕ)
+    → Allows 2 mf4-text-utf16-be-kinds.ps mf4-text-utf16-be-kinds.r mf4-text-utf16-be.Learnt κs (bytes, (out, tt)) y (tt, (after, tt))
+    ≡ (returned y after ≡ returnedBy textC (textWritten (out .now) (utf16 big) (bytes .now)))
+mf4-text-utf16-be-arguments κs bytes out y after = refl
+
+pub mf4-data-length-arguments : (κs : Lfts 1) (file : Slice) (start : ℕ) (y : Mf4Length)
+    → Allows 1 mf4-data-length-kinds.ps mf4-data-length-kinds.r mf4-data-length.Learnt κs (file, (start, tt)) y (tt, (tt, tt))
+    ≡ (y ≡ lengthC (dataLength (file .now) start))
+mf4-data-length-arguments κs file start y = refl
+
+pub mf4-read-record-arguments : (κs : Lfts 2) (file : Slice) (start number recordSize : ℕ) (buffer : Slice) (y : Mf4Fetched) (after : List ℕ)
+    → Allows 2 mf4-read-record-kinds.ps mf4-read-record-kinds.r mf4-read-record.Learnt κs (file, (start, (number, (recordSize, (buffer, tt))))) y (tt, (tt, (tt, (tt, (after, tt)))))
+    ≡ (returned y after ≡ returnedBy fetchedC (fetched (file .now) start number recordSize (buffer .now)))
+mf4-read-record-arguments κs file start number recordSize buffer y after = refl
+
+pub mf4-record-value-arguments : (κs : Lfts 2) (file : Slice) (start number recordSize recordIdSize dataBytes : ℕ) (channel : Mf4Channel) (buffer : Slice) (y : Mf4ValidValue) (after : List ℕ)
+    → Allows 2 mf4-record-value-kinds.ps mf4-record-value-kinds.r mf4-record-value.Learnt κs (file, (start, (number, (recordSize, (recordIdSize, (dataBytes, (channel, (buffer, tt)))))))) y (tt, (tt, (tt, (tt, (tt, (tt, (tt, (after, tt))))))))
+    ≡ (returned y after ≡ returnedBy validValueC (valueFetched (file .now) start number recordSize recordIdSize dataBytes (channelGiven channel) (buffer .now)))
+mf4-record-value-arguments κs file start number recordSize recordIdSize dataBytes channel buffer y after = refl
