@@ -55,12 +55,17 @@ static const text_case text_cases[] = {
     { MF4_UTF16_LE, "00 D8 00 D8 00 DC", BAD_UTF16_LE, 1 },
     { MF4_UTF16_LE, "00 D8 00 00 00 DC", BAD_UTF16_LE, 1 },
     { MF4_UTF16_LE, "00 D8 DC", BAD_UTF16_LE, 1 },
+    { MF4_UTF16_LE, "00 D8 41 00", BAD_UTF16_LE, 1 },
+    { MF4_UTF16_LE, "FF DB 00 E0", BAD_UTF16_LE, 1 },
+    { MF4_UTF16_LE, "FF D7 00 E0", "ED 9F BF EE 80 80", 0 },
     { MF4_UTF16_BE, "", "", 0 },
     { MF4_UTF16_BE, "00 41 00", "41", 0 },
     { MF4_UTF16_BE, "41 00", "E4 84 80", 0 },
     { MF4_UTF16_BE, "D8 3D DE 00", "F0 9F 98 80", 0 },
     { MF4_UTF16_BE, "D8 00", BAD_UTF16_BE, 1 },
     { MF4_UTF16_BE, "DC 00 D8 00", BAD_UTF16_BE, 1 },
+    { MF4_UTF16_BE, "DB FF DB FF", BAD_UTF16_BE, 1 },
+    { MF4_UTF16_BE, "DB FF E0 00", BAD_UTF16_BE, 1 },
 };
 
 static int text_is(mf4_text a, size_t count, uint8_t damaged)

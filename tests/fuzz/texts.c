@@ -165,18 +165,24 @@ void exercise_texts(lent input)
     exercise_no_text(input, choose_byte());
 }
 
-/* A short text of bytes at which the encodings part. */
+/* A few pieces at which the encodings part: characters at the ends of their ranges, and what lies just beyond them. */
 lent choose_text(void)
 {
-    static const uint8_t hard[] = {
-        0x00, 0x41, 0x7F, 0x80, 0x8F, 0x90, 0x9F, 0xA0, 0xBF, 0xC0, 0xC2, 0xD7, 0xD8, 0xDB, 0xDC, 0xDF, 0xE0, 0xED, 0xEE,
-        0xF0, 0xF4, 0xF5, 0xF8, 0xFF
+    static const char *const pieces[] = {
+        "A", "\x7F", "\x80", "\xC0\x80", "\xC1\xBF", "\xC2\x80", "\xDF\xBF", "\xE0\x9F\xBF", "\xE0\xA0\x80", "\xED\x9F\xBF",
+        "\xED\xA0\x80", "\xED\xBF\xBF", "\xEE\x80\x80", "\xEF\xBF\xBF", "\xF0\x8F\xBF\xBF", "\xF0\x90\x80\x80",
+        "\xF4\x8F\xBF\xBF", "\xF4\x90\x80\x80", "\xF5\x80\x80\x80", "\xF8", "\xFF\xD7", "\x01\xD8", "\xFF\xDB", "\x01\xDC",
+        "\xFF\xDF", "\x01\xE0", "\xD7\xFF", "\xD8\x01", "\xDB\xFF", "\xDC\x01", "\xDF\xFF", "\xE0\x01"
     };
-    uint8_t bytes[24];
-    size_t length = choose_byte() % (sizeof bytes + 1), i;
-    for (i = 0; i < length; i++) {
+    enum { PIECES = sizeof pieces / sizeof *pieces };
+    uint8_t bytes[32], count = choose_byte() % 8;
+    size_t length = 0;
+    for (; count > 0; count--) {
         uint8_t how = choose_byte();
-        bytes[i] = how < 0x80 ? hard[how % sizeof hard] : (uint8_t)(how - 0x80);
+        const char *piece = how < 0xE0 ? pieces[how % PIECES] : "";
+        size_t size = piece[0] == '\0' ? 1 : strlen(piece); /* of an empty piece its NUL */
+        memcpy(bytes + length, piece, size);
+        length += size;
     }
     return lend_copy(TWIN_INPUT, bytes, length);
 }

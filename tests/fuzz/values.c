@@ -3,6 +3,17 @@
 
 #include <string.h>
 
+/* Mostly of a width that has a value, and often of a float's. */
+static uint32_t choose_bit_count(void)
+{
+    switch (choose_byte() % 4) {
+    case 0: return 32;
+    case 1: return 64;
+    case 2: return choose_byte() % 66u;
+    default: return (uint32_t)choose_number();
+    }
+}
+
 static mf4_channel choose_channel(void)
 {
     mf4_channel channel;
@@ -11,7 +22,7 @@ static mf4_channel choose_channel(void)
     channel.channel_type = choose_byte() % 3;
     channel.bit_offset = choose_byte() % 10;
     channel.byte_offset = (uint32_t)choose_number();
-    channel.bit_count = choose_byte() % 4 == 3 ? (uint32_t)choose_number() : choose_byte() % 66u;
+    channel.bit_count = choose_bit_count();
     channel.flags = choose_byte() % 5;
     channel.pos_invalidation_bit = (uint32_t)choose_number();
     channel.data = choose_byte() % 2;
