@@ -1,9 +1,9 @@
 /*
  * Slices lent to the library, with what stood in them before.
  *
- * A slice stands flush against an unreadable page behind it, flush against one in front of it, or in heap memory of just its
- * size. In the first two places a read or a write outside the slice faults, though the archive is not built for an address
- * checker; the third is where an address checker sees what the program around it does.
+ * A slice stands flush against an unreadable page behind it, flush against one in front of it, or in heap memory of just
+ * its size. In the first two places a read or a write outside the slice faults, though the archive is not built for an
+ * address checker; the third is where an address checker sees what the program around it does.
  */
 #ifndef GUARDED_H
 #define GUARDED_H

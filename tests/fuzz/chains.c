@@ -31,7 +31,7 @@ static mf4_length exercise_length(const log_file *log, query asked)
     return answer;
 }
 
-/* A record of an accepted chain is there exactly where the joined data's length says so; a refused chain is refused alike. */
+/* A record is there exactly where the joined data's length says so, and a chain that is refused is refused alike. */
 static void check_against_length(query asked, mf4_length length, mf4_fetched answer)
 {
     if (is_bad_size(asked))

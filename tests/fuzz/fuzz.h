@@ -1,4 +1,4 @@
-/* What the parts of the fuzz target share: claims, answers counted as coverage, choices taken from the input, and the parts. */
+/* What the parts of the fuzz target share: claims, answers counted as coverage, choices, and the parts themselves. */
 #ifndef FUZZ_H
 #define FUZZ_H
 

@@ -3,8 +3,8 @@
     compare.py BUILD_DIR [COMPILER]    from the repository's root
 
 The structs and calls of the source, in the words of C, must be those of the header, one by one: fields and arguments by
-name, type and order; sizes and offsets as a C compiler lays them out. Each struct NAME must have its theorem NAME-fields and
-each call NAME its theorem NAME-arguments in the theorem file. Exit status: 0 if all agree, 1 if not.
+name, type and order; sizes and offsets as a C compiler lays them out. Each struct NAME must have its theorem NAME-fields
+and each call NAME its theorem NAME-arguments in the theorem file. Exit status: 0 if all agree, 1 if not.
 """
 
 import re
