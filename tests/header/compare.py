@@ -28,18 +28,18 @@ def one_by_one(what, in_source, in_header):
             yield f"{what} {name}\n    source {in_source[name]}\n    mf4.h  {in_header[name]}"
 
 
-def expected_lines(source, structs):
-    """What the measuring program prints if the compiler lays the structs out as the source has them."""
-    for struct in structs:
+def declarations(structs):
+    return {name: "; ".join(f"{kind} {field}" for field, kind in fields) for name, fields in structs.items()}
+
+
+def expected_layout(source):
+    """What the header's measuring program finds if the compiler lays the structs out as the source has them."""
+    layout = {}
+    for struct in source.structs:
         places, size = source.layout(struct)
-        yield from (f"{struct} {name} {at} {length}" for name, at, length in places)
-        yield f"{struct} {size}"
-
-
-def layout_differences(source, header, compiler, build):
-    measured = set(header.measured(compiler, INCLUDE, build))
-    expected = set(expected_lines(source, header.structs))
-    yield from (f"laid out otherwise: {line}" for line in sorted(measured ^ expected))
+        layout[struct] = f"size {size}"
+        layout.update((f"{struct}.{name}", f"offset {at} size {length}") for name, at, length in places)
+    return layout
 
 
 def theorem_differences(source, theorems):
@@ -51,10 +51,9 @@ def theorem_differences(source, theorems):
 
 def differences(compiler, build):
     source, header = Source(SOURCE), Header(f"{INCLUDE}/mf4.h")
-    yield from one_by_one("struct", source.structs, header.structs)
+    yield from one_by_one("struct", declarations(source.structs), declarations(header.structs))
+    yield from one_by_one("the layout of", expected_layout(source), header.measured(compiler, INCLUDE, build))
     yield from one_by_one("call", source.calls, header.calls)
-    if source.structs.keys() == header.structs.keys():
-        yield from layout_differences(source, header, compiler, build)
     theorems = Path(THEOREMS)
     yield from theorem_differences(source, theorems.read_text(encoding="utf-8") if theorems.exists() else "")
     print(f"header: {len(header.structs)} structs and {len(header.calls)} calls compared with the source and the theorems")

@@ -27,19 +27,20 @@ class Header:
         return [(name, kind) for kind, name in declarations]
 
     def measuring_program(self):
-        """Prints a line for each field, its offset and size, and one for each struct's size."""
+        """Prints a line for each struct and each of its fields: its name, then its place and size."""
         lines = ['#include <stdio.h>', '#include "mf4.h"', "int main(void)", "{"]
         for struct, fields in self.structs.items():
+            lines.append(f'    printf("{struct}=size %zu\\n", sizeof({struct}));')
             for name, _ in fields:
-                measures = f"offsetof({struct}, {name}), sizeof(({struct} *)0)->{name}"
-                lines.append(f'    printf("{struct} {name} %zu %zu\\n", {measures});')
-            lines.append(f'    printf("{struct} %zu\\n", sizeof({struct}));')
+                measures = f"offsetof({struct}, {name}), sizeof((({struct} *)0)->{name})"
+                lines.append(f'    printf("{struct}.{name}=offset %zu size %zu\\n", {measures});')
         return "\n".join(lines + ["    return 0;", "}", ""])
 
     def measured(self, compiler, include, build):
-        """The lines of the measuring program."""
+        """What the compiler makes of the structs, by name."""
         program = Path(build) / "header_measured"
         code = program.with_suffix(".c")
         code.write_text(self.measuring_program(), encoding="utf-8")
         subprocess.run([compiler, "-std=c99", "-Wall", "-Wextra", f"-I{include}", "-o", program, code], check=True)
-        return subprocess.run([program], check=True, capture_output=True, text=True).stdout.splitlines()
+        printed = subprocess.run([program], check=True, capture_output=True, text=True).stdout
+        return dict(line.split("=") for line in printed.splitlines())
