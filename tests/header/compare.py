@@ -4,28 +4,28 @@
 
 The structs and calls of the source, in the words of C, must be those of the header, one by one: fields and arguments by
 name, type and order; sizes and offsets as a C compiler lays them out. Each struct NAME must have its theorem NAME-fields
-and each call NAME its theorem NAME-arguments in the theorem file. Exit status: 0 if all agree, 1 if not.
+and each call NAME its theorem NAME-arguments, with the fields and arguments in that order. Exit status: 0 if all agree, 1 if
+not.
 """
 
-import re
 import sys
-from pathlib import Path
 
+import theorems
 from header import Header
-from source import Source
+from source import Source, Unreadable
 
-SOURCE, INCLUDE, THEOREMS = "crates/mf4/src", "include", "crates/theorems/proofs/Border.antt"
+SOURCE, INCLUDE, HEADER, THEOREMS = "crates/mf4/src", "include", "include/mf4.h", "crates/mf4/proofs/Border.antt"
 
 
-def one_by_one(what, in_source, in_header):
-    """The differences of two dictionaries, in words."""
-    for name in sorted(in_source.keys() | in_header.keys()):
-        if name not in in_header:
-            yield f"{what} {name} is in the source, not in mf4.h"
+def one_by_one(what, in_source, where, there):
+    """The differences of the source's dictionary and another's, in words."""
+    for name in sorted(in_source.keys() | there.keys()):
+        if name not in there:
+            yield f"{what} {name} follows from the source and is not in {where}"
         elif name not in in_source:
-            yield f"{what} {name} is in mf4.h, not in the source"
-        elif in_source[name] != in_header[name]:
-            yield f"{what} {name}\n    source {in_source[name]}\n    mf4.h  {in_header[name]}"
+            yield f"{what} {name} is in {where} and does not follow from the source"
+        elif in_source[name] != there[name]:
+            yield f"{what} {name}\n    by the source: {in_source[name]}\n    in {where}: {there[name]}"
 
 
 def declarations(structs):
@@ -42,26 +42,21 @@ def expected_layout(source):
     return layout
 
 
-def theorem_differences(source, theorems):
-    there = set(re.findall(r"^pub ([\w-]+) *:", theorems, re.M))
-    wanted = {f"{name}-fields" for name in source.structs} | {f"{name}-arguments" for name in source.calls}
-    wanted = {name.replace("_", "-") for name in wanted}
-    yield from (f"no theorem {name} in {THEOREMS}" for name in sorted(wanted - there))
-
-
 def differences(compiler, build):
-    source, header = Source(SOURCE), Header(f"{INCLUDE}/mf4.h")
-    yield from one_by_one("struct", declarations(source.structs), declarations(header.structs))
-    yield from one_by_one("the layout of", expected_layout(source), header.measured(compiler, INCLUDE, build))
-    yield from one_by_one("call", source.calls, header.calls)
-    theorems = Path(THEOREMS)
-    yield from theorem_differences(source, theorems.read_text(encoding="utf-8") if theorems.exists() else "")
+    source, header = Source(SOURCE), Header(HEADER)
+    yield from one_by_one("struct", declarations(source.structs), HEADER, declarations(header.structs))
+    yield from one_by_one("the layout of", expected_layout(source), HEADER, header.measured(compiler, INCLUDE, build))
+    yield from one_by_one("call", source.calls, HEADER, header.calls)
+    yield from one_by_one("theorem", theorems.expected(source), THEOREMS, theorems.stated(THEOREMS))
     print(f"header: {len(header.structs)} structs and {len(header.calls)} calls compared with the source and the theorems")
 
 
 def main():
     build, compiler = sys.argv[1], sys.argv[2] if len(sys.argv) > 2 else "gcc"
-    found = list(differences(compiler, build))
+    try:
+        found = list(differences(compiler, build))
+    except Unreadable as unreadable:
+        found = [unreadable]
     for difference in found:
         print(f"header: FAILED: {difference}")
     return 1 if found else 0

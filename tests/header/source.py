@@ -43,10 +43,10 @@ def named(text):
 
 
 class Source:
-    """structs: for each its fields as (name, type). calls: for each its prototype."""
+    """structs: for each its fields as (name, type). calls: for each its prototype; arguments: their names in the source."""
 
     def __init__(self, folder):
-        self.structs, self.calls = {}, {}
+        self.structs, self.calls, self.arguments = {}, {}, {}
         for path in sorted(Path(folder).glob("**/*.rt")):
             text = re.sub(r"//[^\n]*", "", path.read_text(encoding="utf-8"))
             structs, calls = STRUCT.findall(text), CALL.findall(text)
@@ -54,6 +54,7 @@ class Source:
                 raise Unreadable(f"{path}: a struct or a call is written in another way than this test knows")
             self.structs.update((snake(name), self.fields(body)) for name, body in structs)
             self.calls.update((name, self.prototype(name, given, answer)) for name, given, answer in calls)
+            self.arguments.update((name, [argument for argument, _ in named(given)]) for name, given, _ in calls)
 
     @staticmethod
     def fields(body):
