@@ -16,11 +16,11 @@ use Rattle.decoder.proofs.Back.{value-one}
 use Rattle.decoder.specs.Meaning.{channelMeant}
 use Rattle.decoder.specs.declared.channel.Channel.{Channel as Description}
 use Rattle.decoder.specs.declared.value.ValueRead.{ValueRead}
-use Rattle.theorems.specs.Sole.{Slice}
+use Rattle.mf4.specs.Clauses.{Slice}
 use Rattle.theorems.specs.Clauses.{ReadsValue, ReadsDouble}
 use Rattle.theorems.specs.ClausesToC.{ReadsValueC, ReadsDoubleC}
 use Rattle.mf4.specs.Values.{channelGiven, valueC}
-use Rattle.mf4.specs.declared.values.Mf4Channel.{Mf4Channel}
+use Rattle.mf4.specs.declared.channel.Mf4Channel.{Mf4Channel}
 use Rattle.mf4.specs.declared.values.Mf4Value.{Mf4Value}
 
 -- records of one length, that hold a fixed field's bits alike, or its bytes where it is no number

@@ -5,15 +5,15 @@ use mathlib.Core.List.{List}
 use contract.Lifetimes.{Lfts}
 use Rattle.definitions.specs.Bytes.{little, big}
 use Rattle.definitions.specs.Unicode.{Encoding, latin1, utf8, utf16}
-use Rattle.theorems.specs.Sole.{Slice, Allows}
+use Rattle.mf4.specs.Clauses.{Slice, Allows}
 use Rattle.mf4.specs.declared.header.Mf4BlockHeader.{Mf4BlockHeader}
 use Rattle.mf4.specs.declared.header.Mf4Header.{Mf4Header}
 use Rattle.mf4.specs.declared.list.Mf4List.{Mf4List}
 use Rattle.mf4.specs.declared.written.Mf4Written.{Mf4Written}
 use Rattle.mf4.specs.declared.texts.Mf4Text.{Mf4Text}
-use Rattle.mf4.specs.declared.values.Mf4Channel.{Mf4Channel}
+use Rattle.mf4.specs.declared.channel.Mf4Channel.{Mf4Channel}
 use Rattle.mf4.specs.declared.values.Mf4Value.{Mf4Value}
-use Rattle.mf4.specs.declared.values.Mf4ValidValue.{Mf4ValidValue}
+use Rattle.mf4.specs.declared.valid_values.Mf4ValidValue.{Mf4ValidValue}
 use Rattle.mf4.specs.declared.fetches.Mf4Length.{Mf4Length}
 use Rattle.mf4.specs.declared.fetches.Mf4Fetched.{Mf4Fetched}
 use Rattle.mf4.proofs.mf4_read_header.Kinds as read-header-kinds
