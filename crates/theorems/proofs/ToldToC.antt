@@ -50,8 +50,8 @@ word-reversible w x lo hi h = by-sign (ltb x (2 ^ (w - 1))) refl
     twice = ap (λ (j : ℕ). 2 ^ j) {x = w} {y = w - 1 + 1} (omega arith) ∙ pow-add 2 (w - 1) 1
 
     by-sign : (b : Bool) → ltb x (2 ^ (w - 1)) ≡ b → Reversible (signed (if b then pos x else negsuc (2 ^ w - suc x)))
-    by-sign true e = omega (arith, half, ltb-true _ _ e)
-    by-sign false e = omega (arith, half, twice, h, ltb-false _ _ e)
+    by-sign true e = omega (arith, half, ltb-true x (2 ^ (w - 1)) e)
+    by-sign false e = omega (arith, half, twice, h, ltb-false x (2 ^ (w - 1)) e)
 
 module _ (s : List ℕ) (at n : ℕ) (c : Channel) where
   reversible : (type : DataType) → isNumber (kindOf type) && eqb (c .bitCount) 0 ≡ false → isInteger (kindOf type) && ltb 64 (c .bitCount) ≡ false
