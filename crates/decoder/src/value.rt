@@ -1,6 +1,5 @@
 // The answers: a value, or a value with its validity, or a refusal.
 ghost use mathlib.Core.Path.{_≡_};
-ghost use Rattle.decoder.specs.Meaning.{valueRefusal, validValueRefusal};
 use refusals::Refusal;
 
 // `at` and `length` are a place in the slice; `bits` is the pattern of the double beside it, which tells NaNs apart.
@@ -21,12 +20,13 @@ pub enum ValueRead {
 }
 
 impl ValueRead {
-    // What is handed on where there is no value
+    // Why there is no value. Only a refusal is asked, so the second arm is never taken.
     pub fn refusal(self) -> Refusal
-        ensures { λ r. ⌜ r ≡ valueRefusal self ⌝ }
+        requires { ⌜ ((why : Refusal) × (self ≡ ValueRead.Refused why)) ⌝ }
+        ensures { λ r. ⌜ self ≡ ValueRead.Refused r ⌝ }
     {
         match self {
-            ValueRead::Refused(r) => r,
+            ValueRead::Refused(why) => why,
             ValueRead::Value(_) => Refusal::NoValue,
         }
     }
@@ -43,11 +43,13 @@ pub enum ValidValueRead {
 }
 
 impl ValidValueRead {
+    // The same of a value with its validity
     pub fn refusal(self) -> Refusal
-        ensures { λ r. ⌜ r ≡ validValueRefusal self ⌝ }
+        requires { ⌜ ((why : Refusal) × (self ≡ ValidValueRead.Refused why)) ⌝ }
+        ensures { λ r. ⌜ self ≡ ValidValueRead.Refused r ⌝ }
     {
         match self {
-            ValidValueRead::Refused(r) => r,
+            ValidValueRead::Refused(why) => why,
             ValidValueRead::Value(_) => Refusal::NoValue,
         }
     }
