@@ -19,12 +19,12 @@ use Rattle.mf4.specs.declared.header.Mf4Header.{Mf4Header}
 use Rattle.mf4.specs.declared.list.Mf4List.{Mf4List}
 use Rattle.mf4.specs.declared.written.Mf4Written.{Mf4Written}
 use Rattle.mf4.specs.declared.texts.Mf4Text.{Mf4Text}
-use Rattle.mf4.specs.declared.values.Mf4Channel.{Mf4Channel}
+use Rattle.mf4.specs.declared.channel.Mf4Channel.{Mf4Channel}
 use Rattle.mf4.specs.declared.values.Mf4Value.{Mf4Value}
-use Rattle.mf4.specs.declared.values.Mf4ValidValue.{Mf4ValidValue}
+use Rattle.mf4.specs.declared.valid_values.Mf4ValidValue.{Mf4ValidValue}
 use Rattle.mf4.specs.declared.fetches.Mf4Length.{Mf4Length}
 use Rattle.mf4.specs.declared.fetches.Mf4Fetched.{Mf4Fetched}
-use Rattle.theorems.specs.Sole.{Slice}
+use Rattle.mf4.specs.Clauses.{Slice}
 use Rattle.theorems.specs.Exactly.{Exactly, ExactlyZero, ListStands, ListFits, FieldStands, Joinable, Fetchable, ValueFetchable}
 use Rattle.theorems.specs.ClausesToC.{ReadsHeaderC, WritesHeaderC, ReadsListC, WritesEqualC, WritesVariableC, WritesTextC, ReadsValueC, ReadsValidValueC, ReadsLengthC, ReadsRecordC, ReadsRecordValueC}
 use Rattle.theorems.proofs.TextClausesToC.{text-clause}

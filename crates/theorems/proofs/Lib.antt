@@ -23,3 +23,4 @@ pub mod TextClausesToC
 pub mod AnswersToC
 pub mod LeftAloneToC
 pub mod RoundTripsToC
+pub mod ToldToC

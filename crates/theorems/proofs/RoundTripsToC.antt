@@ -14,7 +14,7 @@ use Rattle.mf4.specs.declared.header.Mf4BlockHeader.{Mf4BlockHeader}
 use Rattle.mf4.specs.declared.header.Mf4Header.{Mf4Header}
 use Rattle.mf4.specs.declared.list.Mf4List.{Mf4List}
 use Rattle.mf4.specs.declared.written.Mf4Written.{Mf4Written}
-use Rattle.theorems.specs.Sole.{Slice}
+use Rattle.mf4.specs.Clauses.{Slice}
 use Rattle.theorems.specs.ClausesToC.{ReadsHeaderC, WritesHeaderC, ReadsListC, WritesEqualC, WritesVariableC}
 use Rattle.theorems.proofs.RefusalNumbers.{Numbered, FromTwo, header-numbered, list-numbered, header-written-numbered, list-written-numbered}
 use Rattle.theorems.proofs.Rewritten.{Words}
