@@ -10,7 +10,7 @@ use lib.Dec.{eqb}
 use Rattle.definitions.specs.Reply.{answer, if_then_else_, andThen}
 use Rattle.definitions.specs.DataList.{DataList}
 use Rattle.definitions.specs.Chain.{Block, listLimit, joined, fragmentOf, fragments, listAt, lists, chainOf}
-use Rattle.chain.specs.Walk.{ended, listFrom, listsBehind, chainFrom}
+use Rattle.chain.specs.Walk.{ended, fragmentsLeft, listsBehind, chainFrom}
 use Rattle.chain.specs.declared.place.Place.{Place}
 use Rattle.chain.specs.Window.{laid}
 use Rattle.definitions.proofs.Replies.{not-answered}
@@ -61,9 +61,9 @@ module _ (id f : List ℕ) where
       fragments-begin (drop (p .list .address .0) f) (l .0) (p .index) (l .0 .links - p .index) before all (l .2)
 
   from-begin : (p : Place) (before all : List Block) → chainFrom id f p before ≡ answer all → Begins before all
-  unfolding listFrom listsBehind
+  unfolding fragmentsLeft listsBehind
   from-begin p before all e =
-      let g = followed (listFrom id f p before) (listsBehind id f p) all e in
+      let g = followed (fragmentsLeft id f p before) (listsBehind id f p) all e in
       joint before (g .0) all (list-begin p (eqb (p .lists) 0) before (g .0) (g .1))
       (on-begin (listLimit - p .lists) (p .list .next .0) (ended p) (g .0) all (lists-begin (listLimit - p .lists) (p .list .next .0) (g .0) all) (g .2))
 

@@ -10,7 +10,7 @@ use borrow.Author.Tests.{eq-eqb, ne-eqb, lt-leb, le-leb, leb-true, leb-false, eq
 use Rattle.definitions.specs.Reply.{Reply, answer, refusal, if_then_else_, andThen}
 use Rattle.definitions.specs.DataList.{DataList}
 use Rattle.definitions.specs.Chain.{Block, fragmentLimit, listLimit, total, hasHeader, fragmentOf, fragments, listAt, lists}
-use Rattle.chain.specs.Walk.{Opens, LinkWithin, Known, behind, entered, fragmentAt, Onward, aList, theEnd, ended, nextOf, listFrom, listsBehind, chainFrom, goOn}
+use Rattle.chain.specs.Walk.{Opens, LinkWithin, ListKnown, behind, entered, fragmentAt, Onward, aList, theEnd, ended, nextOf, fragmentsLeft, listsBehind, chainFrom, goOn}
 use Rattle.chain.specs.declared.place.OpenList.{OpenList}
 use Rattle.chain.specs.declared.place.Place.{Place}
 use Rattle.chain.proofs.Answers.{passed, followed, answered}
@@ -19,22 +19,22 @@ use Rattle.chain.proofs.Lists.{list-stands, link-within}
 -- ---- where a walk stands
 
 -- inside a list, that list
-pub the-list : (f : List ℕ) (p : Place) → Known f p → p .index < p .list .links
+pub the-list : (f : List ℕ) (p : Place) → ListKnown f p → p .index < p .list .links
     → (d : DataList) × (listAt f (p .fragments) (p .list .address .0) ≡ answer d) × Opens (p .list) d
 the-list f p k h = k .read (omega (arith, k .none))
 
-pub the-link : (f s : List ℕ) (p : Place) → Known f p → p .index < p .list .links → s ≡ drop (p .list .address .0) f
+pub the-link : (f s : List ℕ) (p : Place) → ListKnown f p → p .index < p .list .links → s ≡ drop (p .list .address .0) f
     → (hasHeader f (p .list .address .0) ≡ true) × LinkWithin s (p .list) (p .index)
 the-link f s p k h from =
     let read = the-list f p k h in
     let there = list-stands f (p .fragments) (p .list .address .0) (read .0) (read .1) in
     (there .0, rw from (link-within _ (p .fragments) (p .index) (p .list) (read .0) (there .1) (read .2) h))
 
-module _ (f : List ℕ) (p : Place) (k : Known f p) where
-  pub known-behind : (n : ℕ) → p .index < p .list .links → Known f (behind p n)
+module _ (f : List ℕ) (p : Place) (k : ListKnown f p) where
+  pub known-behind : (n : ℕ) → p .index < p .list .links → ListKnown f (behind p n)
   known-behind n h = record { inside = omega arith; few = k .few; none = k .none; read = k .read }
 
-  pub known-entered : (d : DataList) → listAt f (p .fragments + p .index) (p .list .next .0) ≡ answer d → Known f (entered p d)
+  pub known-entered : (d : DataList) → listAt f (p .fragments + p .index) (p .list .next .0) ≡ answer d → ListKnown f (entered p d)
   known-entered d e =
       let few : p .fragments + p .index + d .links ≤ fragmentLimit = list-stands f (p .fragments + p .index) (p .list .next .0) d e .1 .few in
       record { inside = omega arith; few = few; none = omega arith; read = λ l. (d, e, refl) }
@@ -95,10 +95,10 @@ module _ (f : List ℕ) (p : Place) where
 -- in a list that is read
 opened-rest : (id f : List ℕ) (q : Place) (d : DataList) (bs : List Block) → 0 < q .lists → listAt f (q .fragments) (q .list .address .0) ≡ answer d
     → chainFrom id f q bs ≡ andThen (fragments id f (drop (q .list .address .0) f) d (q .index) (d .links - q .index) bs) (listsBehind id f q)
-unfolding listFrom
+unfolding fragmentsLeft
 opened-rest id f q d bs some e = let no : eqb (q .lists) 0 ≡ false = ne-eqb (q .lists) 0 (λ z. omega arith) in rw (no, e)
 
-module _ (id f : List ℕ) (p : Place) (before : List Block) (k : Known f p) where
+module _ (id f : List ℕ) (p : Place) (before : List Block) (k : ListKnown f p) where
   module _ (size : total before ≡ p .position .0) (h : p .index < p .list .links) where
     some : 0 < p .lists
     some = omega (arith, k .none)
@@ -112,16 +112,16 @@ module _ (id f : List ℕ) (p : Place) (before : List Block) (k : Known f p) whe
       over-by (refusal n t) = refl
       over-by (answer b) = sym (opened-rest id f (behind p (b .size)) d (before ++ (b ∷ [])) some e)
 
-      over : chainFrom id f p before ≡ andThen (fragmentAt id f p) (λ b. chainFrom id f (behind p (b .size)) (before ++ (b ∷ [])))
+      over-fragment : chainFrom id f p before ≡ andThen (fragmentAt id f p) (λ b. chainFrom id f (behind p (b .size)) (before ++ (b ∷ [])))
       unfolding fragments fragmentAt
-      over =
+      over-fragment =
           let n : d .links - p .index ≡ suc (d .links - (p .index + 1)) = omega (arith, ap (λ (x : OpenList). x .links) o) in
           opened-rest id f p d before some e
           ∙ rw (n, size, e) (over-by (fragmentOf id f (drop (p .list .address .0) f) d (p .index) (p .position .0)))
 
     -- inside a list the rest is what the fragment gives, and the rest behind it
     pub rest-fragment : chainFrom id f p before ≡ andThen (fragmentAt id f p) (λ b. chainFrom id f (behind p (b .size)) (before ++ (b ∷ [])))
-    rest-fragment = let r = the-list f p k h in over (r .0) (r .1) (r .2)
+    rest-fragment = let r = the-list f p k h in over-fragment (r .0) (r .1) (r .2)
 
   module _ (count : length before ≡ p .fragments + p .index) (h : p .list .links ≤ p .index) where
     done-in : (d : DataList) → listAt f (p .fragments) (p .list .address .0) ≡ answer d → Opens (p .list) d → 0 < p .lists
@@ -133,7 +133,7 @@ module _ (id f : List ℕ) (p : Place) (before : List Block) (k : Known f p) whe
 
     -- nothing is left of the list
     done-by : (t : Bool) → eqb (p .lists) 0 ≡ t → chainFrom id f p before ≡ listsBehind id f p before
-    unfolding listFrom
+    unfolding fragmentsLeft
     done-by true e = rw e
     done-by false e =
         let some : 0 < p .lists = omega (arith, eqb-false (p .lists) 0 e) in

@@ -10,12 +10,12 @@ use Rattle.definitions.specs.Chain.{Block, fileLimit, listLimit, fragmentLimit,
 use Rattle.refusals.specs.Meaning.{refused}
 use Rattle.refusals.specs.declared.Refusal.{Refusal}
 use Rattle.chain.specs.Located.{Locates}
-use Rattle.chain.specs.Walk.{Inside, At, startAt, behind, entered, fragmentAt, Onward, aList, theEnd, nextOf, listFrom, listsBehind, chainFrom, goOn}
+use Rattle.chain.specs.Walk.{Inside, At, startAt, behind, entered, fragmentAt, Onward, aList, theEnd, nextOf, fragmentsLeft, listsBehind, chainFrom, goOn}
 use Rattle.chain.specs.declared.place.FileAddress.{FileAddress}
 use Rattle.chain.specs.declared.place.DataPosition.{DataPosition}
 use Rattle.chain.specs.declared.place.Place.{Place}
 use Rattle.chain.specs.declared.acceptance.Located.{Located}
-use Rattle.chain.specs.declared.acceptance.Located.the-variants.{Whole as Found, Refused as NotFound}
+use Rattle.chain.specs.declared.acceptance.Located.the-variants.{Whole as AtPlace, Refused as NoPlace}
 use Rattle.chain.proofs.Answers.{followed}
 use Rattle.chain.proofs.Fragments.{Taken, fragment-stands}
 use Rattle.chain.proofs.Chains.{total-more, stand-more}
@@ -28,7 +28,7 @@ turnsLeft p = (listLimit - p .lists) * (fragmentLimit + 1) + (p .list .links - p
 -- where the walk begins
 module _ (id f : List ℕ) (p₀ : Place) (a : FileAddress) (begun : p₀ ≡ startAt a) where
   pub at-start : At id f (p₀ .list .next .0) p₀ []
-  unfolding chainOf total Inside listFrom listsBehind
+  unfolding chainOf total Inside fragmentsLeft listsBehind
   at-start =
       rw begun
       (record {
@@ -51,14 +51,14 @@ module _ (id f : List ℕ) (start : ℕ) where
 
     module _ (h : p .index < p .list .links) where
       -- the chain gives what the fragment gives
-      over : (r : Reply Block) → fragmentAt id f p ≡ r
+      by-fragment : (r : Reply Block) → fragmentAt id f p ≡ r
           → chainOf id f start ≡ andThen r (λ b. chainFrom id f (behind p (b .size)) (before ++ (b ∷ [])))
-      over r e =
+      by-fragment r e =
           m .rest ∙ rest-fragment id f p before (m .known) (m .size) h
           ∙ ap (λ (x : Reply Block). andThen x (λ b. chainFrom id f (behind p (b .size)) (before ++ (b ∷ [])))) e
 
       pub refused-here : (n t : ℕ) → fragmentAt id f p ≡ refusal n t → chainOf id f start ≡ refusal n t
-      refused-here n t e = over _ e
+      refused-here n t e = by-fragment _ e
 
       module _ (b : Block) (e : fragmentAt id f p ≡ answer b) where
         -- the fragment lies in the file, and there is room for one more
@@ -78,7 +78,7 @@ module _ (id f : List ℕ) (start : ℕ) where
                 stand = stand-more f b before (m .stand) (omega (arith, m .count, m .known .few)) here;
                 count = omega (arith, length-append before (b ∷ []), m .count);
                 size = omega (arith, total-more b before, m .size);
-                rest = over _ e;
+                rest = by-fragment _ e;
               },
               omega arith,
             ) in
@@ -88,22 +88,22 @@ module _ (id f : List ℕ) (start : ℕ) where
 
     module _ (h : p .list .links ≤ p .index) where
       -- the chain gives what the next list gives
-      onward : (r : Reply Onward) → nextOf f p ≡ r → chainOf id f start ≡ andThen r (goOn id f before)
-      onward r e = m .rest ∙ rest-next id f p before (m .known) (m .count) h ∙ ap (λ (x : Reply Onward). andThen x (goOn id f before)) e
+      by-next : (r : Reply Onward) → nextOf f p ≡ r → chainOf id f start ≡ andThen r (goOn id f before)
+      by-next r e = m .rest ∙ rest-next id f p before (m .known) (m .count) h ∙ ap (λ (x : Reply Onward). andThen x (goOn id f before)) e
 
       pub refused-next : (n t : ℕ) → nextOf f p ≡ refusal n t → chainOf id f start ≡ refusal n t
-      refused-next n t e = onward _ e
+      refused-next n t e = by-next _ e
 
       pub at-end : (n : ℕ) → nextOf f p ≡ answer (theEnd n) → (chainOf id f start ≡ answer before) × (total before ≡ n)
       unfolding Tells
-      at-end n e = (onward _ e, m .size ∙ sym (next-tells f p (theEnd n) e))
+      at-end n e = (by-next _ e, m .size ∙ sym (next-tells f p (theEnd n) e))
 
       pub at-list : (q : Place) → nextOf f p ≡ answer (aList q) → At id f start q before × (turnsLeft q < turnsLeft p)
       unfolding Tells
       at-list q e =
           let t = next-tells f p (aList q) e in
           let known = known-entered f p (m .known) (t .0) (t .1) in
-          let gone : chainOf id f start ≡ chainFrom id f (entered p (t .0)) before = onward _ (e ∙ ap (λ (x : Place). answer (aList x)) (sym (t .2))) in
+          let gone : chainOf id f start ≡ chainFrom id f (entered p (t .0)) before = by-next _ (e ∙ ap (λ (x : Place). answer (aList x)) (sym (t .2))) in
           let there : At id f start (entered p (t .0)) before × (turnsLeft (entered p (t .0)) < turnsLeft p) = (
             record { known = known; stand = m .stand; count = omega (arith, m .count); size = m .size; rest = gone },
             omega (arith, t .3, known .few),
@@ -134,14 +134,14 @@ module _ (f : List ℕ) (start : ℕ) where
 -- ---- a position that was looked for
 
 module _ (id f : List ℕ) (start wanted : ℕ) (reply : Reply ℕ) where
-  pub located-refused : (why : Refusal) → refused why ≡ reply → Locates id f start wanted reply (NotFound why)
+  pub located-refused : (why : Refusal) → refused why ≡ reply → Locates id f start wanted reply (NoPlace why)
   located-refused why e = record {
     replied = e;
     place = λ n p is. let z : _≡_ {A = ℕ} 0 1 = cc in let no : ⊥ = omega arith in absurd no;
   }
 
   pub located-whole : (n : DataPosition) (p : Place) (before : List Block) → answer (n .0) ≡ reply → At id f start p before → p .position .0 ≤ wanted
-      → Locates id f start wanted reply (Found n p)
+      → Locates id f start wanted reply (AtPlace n p)
   located-whole n p before e m l = record {
     replied = e;
     place = λ k q is.

@@ -72,7 +72,7 @@ entered p d = record {
 }
 
 -- what a place keeps of its list is what stands in the file
-pub record Known (f : List ℕ) (p : Place) : Type 0 where
+pub record ListKnown (f : List ℕ) (p : Place) : Type 0 where
   pub inside : p .index ≤ p .list .links
   pub few : p .fragments + p .list .links ≤ fragmentLimit
   -- before the first list there are no links
@@ -110,8 +110,8 @@ nextOf f p =
 -- ---- the rest of the chain
 
 -- what is left of the list read last, added to the blocks before
-unfoldable pub listFrom : List ℕ → List ℕ → Place → List Block → Reply (List Block)
-listFrom id f p before =
+unfoldable pub fragmentsLeft : List ℕ → List ℕ → Place → List Block → Reply (List Block)
+fragmentsLeft id f p before =
     if eqb (p .lists) 0 then answer before
     else andThen (listAt f (p .fragments) (p .list .address .0))
     (λ d. fragments id f (drop (p .list .address .0) f) d (p .index) (d .links - p .index) before)
@@ -122,7 +122,7 @@ listsBehind id f p bs = if ended p then answer bs else lists id f (listLimit - p
 
 -- what the chain gives in all, where the walk stands at p and the blocks so far are `before`
 abbrev pub chainFrom : List ℕ → List ℕ → Place → List Block → Reply (List Block)
-chainFrom id f p before = andThen (listFrom id f p before) (listsBehind id f p)
+chainFrom id f p before = andThen (fragmentsLeft id f p before) (listsBehind id f p)
 
 -- the same behind a list
 abbrev pub goOn : List ℕ → List ℕ → List Block → Onward → Reply (List Block)
@@ -143,7 +143,7 @@ pub record Stand (f : List ℕ) (bs : List Block) : Type 0 where
 
 -- a walk along the chain from `start` on stands at p, and has met the blocks `before`
 pub record At (id f : List ℕ) (start : ℕ) (p : Place) (before : List Block) : Type 0 where
-  pub known : Known f p
+  pub known : ListKnown f p
   pub stand : Stand f before
   pub count : length before ≡ p .fragments + p .index
   pub size : total before ≡ p .position .0

@@ -20,7 +20,7 @@ pub enum ChainRead {
     Refused(Refusal),
 }
 
-pub enum Located {
+pub(crate) enum Located {
     // the length of the joined data, and a place on the way that is not behind the wanted position
     Whole(DataPosition, Place),
     Refused(Refusal),
@@ -28,7 +28,7 @@ pub enum Located {
 
 // Walks all of a chain, since a position stands in a chain that is whole, and keeps the place before the fragment that
 // holds the wanted position.
-pub fn locate(file: &[u8], start: FileAddress, id: &[u8; 4], wanted: DataPosition) -> Located
+pub(crate) fn locate(file: &[u8], start: FileAddress, id: &[u8; 4], wanted: DataPosition) -> Located
     ensures { λ r. ⌜ Locates (now (id .entry)) (now (file .entry)) (start .0) (wanted .0) (totalOf (now (id .entry)) (now (file .entry)) (start .0)) r ⌝ }
 {
     let mut place = Place::start(start);
@@ -100,7 +100,7 @@ impl Located {
     }
 
     // Why the chain was refused. Only a refusal is asked, so the second arm is never taken.
-    pub fn refusal(self) -> Refusal
+    pub(crate) fn refusal(self) -> Refusal
         requires { ⌜ ((why : Refusal) × (self ≡ Located.Refused why)) ⌝ }
         ensures { λ r. ⌜ self ≡ Located.Refused r ⌝ }
     {

@@ -4,7 +4,7 @@ ghost use Prim.Native.Nat.{_<_};
 ghost use Rattle.definitions.specs.DataList.{DataList};
 ghost use Rattle.definitions.specs.Chain.{declared, fragmentOf};
 ghost use Rattle.chain.specs.Meaning.{blockReply};
-ghost use Rattle.chain.specs.Walk.{Opens, LinkWithin, Known, fragmentAt};
+ghost use Rattle.chain.specs.Walk.{Opens, LinkWithin, ListKnown, fragmentAt};
 use crate::block::BlockRead;
 use crate::block::data_block_at;
 use crate::place::FileAddress;
@@ -54,7 +54,7 @@ fn fragment_in(file: &[u8], bytes: &[u8], place: Place, id: &[u8; 4]) -> BlockRe
 
 // The fragment at a place inside a list
 pub fn fragment_at(file: &[u8], place: Place, id: &[u8; 4]) -> BlockRead
-    requires { ⌜ (Known (now file) place) × (place .index < place .list .links) ⌝ }
+    requires { ⌜ (ListKnown (now file) place) × (place .index < place .list .links) ⌝ }
     ensures { λ r. ⌜ blockReply r ≡ fragmentAt (now (id .entry)) (now (file .entry)) place ⌝ }
 {
     let list = place.list;
