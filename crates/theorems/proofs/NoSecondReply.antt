@@ -8,15 +8,12 @@ use denote.Triple.Clauses.{Lasts}
 use borrow.Fn.Kind.{PK, RK}
 use borrow.Fn.Kinds.{Out, Dens, resT, endedOf}
 use Rattle.definitions.specs.Reply.{Reply, Outcome}
-use Rattle.mf4.specs.Clauses.{Slice, Allows}
+use Rattle.mf4.specs.Clauses.{Allows}
 use Rattle.theorems.specs.Sole.{Settled}
 use Rattle.blocks.specs.Meaning.{writtenReply}
 use Rattle.text.specs.Meaning.{textReply}
 use Rattle.decoder.specs.Meaning.{validValueReply}
-use Rattle.chain.specs.Meaning.{locatedReply, recordReply}
-use Rattle.chain.specs.declared.place.FileAddress.{FileAddress}
-use Rattle.chain.specs.declared.place.DataPosition.{DataPosition}
-use Rattle.chain.specs.declared.acceptance.Located.{Located}
+use Rattle.chain.specs.Meaning.{recordReply}
 use Rattle.blocks.proofs.Back.{written-one, header-one, type-one, list-one}
 use Rattle.text.proofs.Back.{text-one}
 use Rattle.decoder.proofs.Back.{value-one, valid-value-one}
@@ -69,8 +66,6 @@ use Rattle.chain.proofs.accept.Kinds as chain-accept-kinds
 use Rattle.chain.proofs.accept.Reads as chain-accept
 use Rattle.chain.proofs.data_length.Kinds as chain-length-kinds
 use Rattle.chain.proofs.data_length.Reads as chain-length
-use Rattle.chain.proofs.locate.Kinds as chain-locate-kinds
-use Rattle.chain.proofs.locate.Reads as chain-locate
 use Rattle.chain.proofs.place.Place.start.Kinds as chain-start-kinds
 use Rattle.chain.proofs.place.Place.start.Reads as chain-start
 use Rattle.chain.proofs.read_record.Kinds as record-read-kinds
@@ -162,13 +157,6 @@ chain-accept-settled = settled (λ κs a y z b c p q. (chain-one y z (p ∙ sym 
 
 pub chain-length-settled : Settled 1 chain-length-kinds.ps chain-length-kinds.r chain-length.Asked chain-length.ensures chain-length.Learnt
 chain-length-settled = settled (λ κs a y z b c p q. (chain-one y z (p ∙ sym q), refl))
-
--- what `locate` replies of the chain is settled; which place it keeps is left open, since any one on the way there serves
-pub chain-locate-reply : (κs : Lfts 2) (file : Slice) (start : FileAddress) (id : Slice) (wanted : DataPosition) (y z : Located)
-    → Allows 2 chain-locate-kinds.ps chain-locate-kinds.r chain-locate.Learnt κs (file, (start, (id, (wanted, tt)))) y (tt, (tt, (tt, (tt, tt))))
-    → Allows 2 chain-locate-kinds.ps chain-locate-kinds.r chain-locate.Learnt κs (file, (start, (id, (wanted, tt)))) z (tt, (tt, (tt, (tt, tt))))
-    → locatedReply y ≡ locatedReply z
-chain-locate-reply κs file start id wanted y z p q = p .replied ∙ sym (q .replied)
 
 pub chain-start-settled : Settled 0 chain-start-kinds.ps chain-start-kinds.r chain-start.Asked chain-start.ensures chain-start.Learnt
 chain-start-settled = settled (λ κs a y z b c p q. (p ∙ sym q, refl))
