@@ -1,6 +1,8 @@
 // A fragment: the data block that a list links, and what the list declares of it.
 ghost use mathlib.Core.Path.{_≡_};
-ghost use Prim.Native.Nat.{_<_};
+ghost use Prim.Native.Nat.{_+_, _*_, _≤_, _<_};
+ghost use lib.ListN.{length};
+ghost use Rattle.definitions.specs.Bytes.{u64At};
 ghost use Rattle.definitions.specs.DataList.{DataList};
 ghost use Rattle.definitions.specs.Chain.{declared, fragmentOf};
 ghost use Rattle.chain.specs.Meaning.{blockReply};
@@ -13,6 +15,24 @@ use crate::place::bytes_from;
 use refusals::Refusal;
 use words::read_u64_le;
 
+// The link of the fragment. A number that is read in a function of its own is one load where the compiler weighs what to
+// inline, and the walk's loops take in the whole fragment.
+fn link_at(bytes: &[u8], place: Place) -> FileAddress
+    requires { ⌜ LinkWithin (now bytes) (place .list) (place .index) ⌝ }
+    ensures { λ r. ⌜ r .0 ≡ u64At (now (bytes .entry)) (place .list .«links_at» + place .index * 8) ⌝ }
+{
+    let at = place.list.links_at as usize + place.index as usize * 8;
+    FileAddress(read_u64_le(bytes, at))
+}
+
+// The one length of the list's fragments
+fn one_length(bytes: &[u8], place: Place) -> u64
+    requires { ⌜ place .list .«rest_at» + 8 ≤ length (now bytes) ⌝ }
+    ensures { λ r. ⌜ r ≡ u64At (now (bytes .entry)) (place .list .«rest_at») ⌝ }
+{
+    read_u64_le(bytes, place.list.rest_at as usize)
+}
+
 // Whether the length or the offset that the list declares of its fragment is true. `bytes` is the file from the list on.
 fn truly_declared(bytes: &[u8], place: Place, size: u64) -> bool
     requires { ⌜ LinkWithin (now bytes) (place .list) (place .index) ⌝ }
@@ -20,7 +40,7 @@ fn truly_declared(bytes: &[u8], place: Place, size: u64) -> bool
 {
     let at = place.list.rest_at as usize;
     if place.list.flags % 2 == 1 {
-        let length = read_u64_le(bytes, at);
+        let length = one_length(bytes, place);
         if place.index + 1 < place.list.links {
             return size == length;
         }
@@ -34,11 +54,8 @@ fn fragment_in(file: &[u8], bytes: &[u8], place: Place, id: &[u8; 4]) -> BlockRe
     requires { ⌜ LinkWithin (now bytes) (place .list) (place .index) ⌝ }
     ensures { λ r. ⌜ ((d : DataList) → Opens (place .list) d → blockReply r ≡ fragmentOf (now (id .entry)) (now (file .entry)) (now (bytes .entry)) d (place .index) (place .position .0)) ⌝ }
 {
-    let link = read_u64_le(
-        bytes,
-        place.list.links_at as usize + place.index as usize * 8,
-    );
-    let read = data_block_at(file, FileAddress(link), id);
+    let link = link_at(bytes, place);
+    let read = data_block_at(file, link, id);
     let BlockRead::Block(block) = read else {
         return BlockRead::Refused(read.refusal());
     };

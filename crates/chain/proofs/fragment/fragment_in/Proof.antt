@@ -13,12 +13,12 @@ use Rattle.chain.proofs.fragment.fragment_in.Statement.{statement}
 use Rattle.chain.proofs.fragment.fragment_in.Tie as tie
 
 -- the link that was read is that of the list
-linked : (c : tie.After-read-u64-le) (d : DataList) →
+linked : (c : tie.After-link-at) (d : DataList) →
     let a = c .before .before .before .args in
-    Opens (a .place .list) d → c .read-u64-le .result ≡ u64At (a .bytes .now) (d .linksAt + a .place .index * 8)
+    Opens (a .place .list) d → c .link-at .result .0 ≡ u64At (a .bytes .now) (d .linksAt + a .place .index * 8)
 linked c d k =
     let a = c .before .before .before .args in
-    link-is (a .bytes .now) (a .place .list) (a .place .index) _ d k (c .read-u64-le .ensures)
+    link-is (a .bytes .now) (a .place .list) (a .place .index) _ d k (c .link-at .ensures)
 
 -- a refused block is handed on
 returns : tie.Need-returns
@@ -30,7 +30,7 @@ returns c d k =
 block : (c : tie.After-known-told) →
     let link = c .before .before .before .before in
     let a = link .before .before .before .args in
-    blockAt (a .id .now) (a .file .now) (link .read-u64-le .result) ≡ answer (blockMeant (c .before .read .given .0 .0))
+    blockAt (a .id .now) (a .file .now) (link .link-at .result .0) ≡ answer (blockMeant (c .before .read .given .0 .0))
 block c = sym (c .before .before .before .data-block-at .ensures) ∙ ap blockReply (c .before .read .given .1)
 
 returns-2 : tie.Need-returns-2
@@ -56,8 +56,6 @@ pub fragment-in-spec : {M : Type 1} → statement M
 fragment-in-spec =
     tie.close
     (tie.spec
-    (λ c. search needs)
-    (λ c. search needs)
     (λ c κs. search needs)
     (λ c κs. search needs)
     (λ c. search needs)

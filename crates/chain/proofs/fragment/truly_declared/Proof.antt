@@ -3,8 +3,8 @@ use Rattle.chain.proofs.Fragments.{room-one, room-each, declared-inner,
 use Rattle.chain.proofs.fragment.truly_declared.Statement.{statement}
 use Rattle.chain.proofs.fragment.truly_declared.Tie as tie
 
-read-u64-le-requires : tie.Need-read-u64-le-requires
-read-u64-le-requires c κs =
+one-length-requires : tie.Need-one-length-requires
+one-length-requires c κs =
     let b = c .before .before .before in
     let a = b .args in
     room-one (a .bytes .now) (a .place .list) (a .place .index) (b .pre) (c .if1 .taken)
@@ -13,16 +13,16 @@ returns : tie.Need-returns
 returns c d k =
     let read = c .before .before .before in
     let a = read .before .before .before .before .args in
-    declared-inner (a .bytes .now) (a .place .list) (a .place .index) (a .place .position .0) (a .size) d k (read .before .if1 .taken) _ (read .read-u64-le .ensures) (c .if2 .taken)
+    declared-inner (a .bytes .now) (a .place .list) (a .place .index) (a .place .position .0) (a .size) d k (read .before .if1 .taken) _ (read .one-length .ensures) (c .if2 .taken)
 
 returns-2 : tie.Need-returns-2
 returns-2 c d k =
     let read = c .before .before .before in
     let a = read .before .before .before .before .args in
-    declared-last (a .bytes .now) (a .place .list) (a .place .index) (a .place .position .0) (a .size) d k (read .before .if1 .taken) _ (read .read-u64-le .ensures) (c .if2 .left)
+    declared-last (a .bytes .now) (a .place .list) (a .place .index) (a .place .position .0) (a .size) d k (read .before .if1 .taken) _ (read .one-length .ensures) (c .if2 .left)
 
-read-u64-le-requires-2 : tie.Need-read-u64-le-requires-2
-read-u64-le-requires-2 c κs =
+read-u64-le-requires : tie.Need-read-u64-le-requires
+read-u64-le-requires c κs =
     let b = c .before .before .before in
     let a = b .args in
     room-each (a .bytes .now) (a .place .list) (a .place .index) (b .pre) (c .if1 .left)
@@ -31,17 +31,17 @@ returns-3 : tie.Need-returns-3
 returns-3 c d k =
     let read = c .before in
     let a = read .before .before .before .before .args in
-    declared-each (a .bytes .now) (a .place .list) (a .place .index) (a .place .position .0) (a .size) d k (read .before .if1 .left) _ (read .read-u64-le2 .ensures)
+    declared-each (a .bytes .now) (a .place .list) (a .place .index) (a .place .position .0) (a .size) d k (read .before .if1 .left) _ (read .read-u64-le .ensures)
 
 pub truly-declared-spec : {M : Type 1} → statement M
 truly-declared-spec =
     tie.close
     (tie.spec
-    read-u64-le-requires
+    one-length-requires
     (λ c. search needs)
     returns
     returns-2
     (λ c. search needs)
     (λ c. search needs)
-    read-u64-le-requires-2
+    read-u64-le-requires
     returns-3)
