@@ -9,7 +9,7 @@ use borrow.Author.Tests.{lt-ltb, le-ltb, eq-eqb, ne-eqb}
 use Rattle.definitions.specs.Reply.{answer, refusal, writing}
 use Rattle.definitions.specs.Bytes.{leOf, le, les}
 use Rattle.definitions.specs.Header.{Header, headerBytes}
-use Rattle.definitions.specs.DataList.{idDL, listSize, headerFor, listBytes, listWritten, equal, variable}
+use Rattle.definitions.specs.DataList.{linkLimit, idDL, listSize, headerFor, listBytes, listWritten, equal, variable}
 use Rattle.definitions.proofs.Replies.{writing-short, writing-met}
 use Rattle.definitions.proofs.Stores.{stored-then}
 use Rattle.words.proofs.Numbers.{length-le, length-les}
@@ -63,7 +63,7 @@ module _ (next : ℕ) (links : List ℕ) (flags : ℕ) (rest : List ℕ) where
       (ed ∙ ap (λ (w : List ℕ). sets c (32 + length links * 8) w) (flags-word flags small)) p₃) ee p₄) ef p₅
 
   -- with too little room, and with room
-  pub list-small : (out : List ℕ) → length links ≤ 4096 → length rest ≤ 4096 → length out < 40 + length links * 8 + length rest * 8
+  pub list-small : (out : List ℕ) → length links ≤ linkLimit → length rest ≤ linkLimit → length out < 40 + length links * 8 + length rest * 8
       → record { reply = refusal 6 (40 + length links * 8 + length rest * 8); buffer = out }
       ≡ writing out (listBytes next links flags rest) (listSize (length links) (length rest))
   list-small out few short h =
@@ -78,20 +78,20 @@ module _ (next : ℕ) (links : List ℕ) (flags : ℕ) (rest : List ℕ) where
 
 -- 5, and the way past it
 module _ (out : List ℕ) (next : ℕ) (links : List ℕ) where
-  pub equal-many : (k : ℕ) → 4096 < length links → record { reply = refusal 5 0; buffer = out } ≡ listWritten out next links (equal k)
+  pub equal-many : (k : ℕ) → linkLimit < length links → record { reply = refusal 5 0; buffer = out } ≡ listWritten out next links (equal k)
   unfolding listWritten
   equal-many k h = rw (lt-ltb _ _ h)
 
-  pub equal-few : (k : ℕ) → length links ≤ 4096
+  pub equal-few : (k : ℕ) → length links ≤ linkLimit
       → writing out (listBytes next links 1 (k ∷ [])) (listSize (length links) 1) ≡ listWritten out next links (equal k)
   unfolding listWritten
   equal-few k h = rw (le-ltb _ _ h)
 
-  pub variable-many : (ns : List ℕ) → 4096 < length links → record { reply = refusal 5 0; buffer = out } ≡ listWritten out next links (variable ns)
+  pub variable-many : (ns : List ℕ) → linkLimit < length links → record { reply = refusal 5 0; buffer = out } ≡ listWritten out next links (variable ns)
   unfolding listWritten
   variable-many ns h = rw (lt-ltb _ _ h)
 
-  module _ (ns : List ℕ) (few : length links ≤ 4096) where
+  module _ (ns : List ℕ) (few : length links ≤ linkLimit) where
     pub variable-other : (length links ≡ length ns → ⊥) → record { reply = refusal 5 0; buffer = out } ≡ listWritten out next links (variable ns)
     unfolding listWritten
     variable-other h = rw (le-ltb _ _ few, ne-eqb _ _ h)

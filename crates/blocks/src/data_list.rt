@@ -4,7 +4,7 @@ ghost use Prim.Native.Nat.{_+_, _*_, _≤_, _<_};
 ghost use lib.ListN.{length};
 ghost use lib.Seq.{sets};
 ghost use Rattle.definitions.specs.Reply.{told, writing};
-ghost use Rattle.definitions.specs.DataList.{listOf, restOf, restCount, headerFor, listBytes, listSize, listWritten, equal, variable};
+ghost use Rattle.definitions.specs.DataList.{linkLimit, listOf, restOf, restCount, headerFor, listBytes, listSize, listWritten, equal, variable};
 ghost use Rattle.blocks.specs.Meaning.{headerMeant, listReply, wrote};
 use crate::header::BlockHeader;
 use crate::header::HeaderRead;
@@ -18,6 +18,9 @@ use words::put_u32_le;
 use words::put_u64_le;
 use words::read_u32_le;
 use words::read_u64_le;
+
+// a list that is written has at most so many data links
+const LINK_LIMIT: usize = 4096;
 
 pub struct DataListBlock {
     pub header: BlockHeader,
@@ -111,7 +114,7 @@ impl DataListBlock {
     pub fn write_equal(next: u64, links: &[u64], length: u64, out: &mut [u8]) -> Written
         ensures { λ r. ⌜ wrote r (now (out .exit)) ≡ listWritten (now (out .entry)) next (now (links .entry)) (equal length) ⌝ }
     {
-        if 4096 < links.len() {
+        if LINK_LIMIT < links.len() {
             return Written::Refused(Refusal::UnwritableList);
         }
         let rest = [length];
@@ -122,7 +125,7 @@ impl DataListBlock {
     pub fn write_variable(next: u64, links: &[u64], offsets: &[u64], out: &mut [u8]) -> Written
         ensures { λ r. ⌜ wrote r (now (out .exit)) ≡ listWritten (now (out .entry)) next (now (links .entry)) (variable (now (offsets .entry))) ⌝ }
     {
-        if 4096 < links.len() {
+        if LINK_LIMIT < links.len() {
             return Written::Refused(Refusal::UnwritableList);
         }
         if links.len() != offsets.len() {
@@ -134,7 +137,7 @@ impl DataListBlock {
 
 // The fields of a list, or the bytes that they need
 fn write_fields(next: u64, links: &[u64], flags: u8, rest: &[u64], out: &mut [u8]) -> Written
-    requires { ⌜ (length (now links) ≤ 4096) × (length (now rest) ≤ 4096) ⌝ }
+    requires { ⌜ (length (now links) ≤ linkLimit) × (length (now rest) ≤ linkLimit) ⌝ }
     ensures { λ r. ⌜ wrote r (now (out .exit)) ≡ writing (now (out .entry)) (listBytes next (now (links .entry)) flags (now (rest .entry))) (listSize (length (now (links .entry))) (length (now (rest .entry)))) ⌝ }
 {
     let need = 40 + links.len() * 8 + rest.len() * 8;
@@ -147,7 +150,7 @@ fn write_fields(next: u64, links: &[u64], flags: u8, rest: &[u64], out: &mut [u8
 
 // The fields, where there is room for them
 fn put_fields(out: &mut [u8], next: u64, links: &[u64], flags: u8, rest: &[u64])
-    requires { ⌜ (length (now links) ≤ 4096) × (length (now rest) ≤ 4096) × (40 + length (now links) * 8 + length (now rest) * 8 ≤ length (now out)) ⌝ }
+    requires { ⌜ (length (now links) ≤ linkLimit) × (length (now rest) ≤ linkLimit) × (40 + length (now links) * 8 + length (now rest) * 8 ≤ length (now out)) ⌝ }
     ensures { λ _. ⌜ now (out .exit) ≡ sets (now (out .entry)) 0 (listBytes next (now (links .entry)) flags (now (rest .entry))) ⌝ }
 {
     let at = 32 + links.len() * 8;
@@ -161,7 +164,7 @@ fn put_fields(out: &mut [u8], next: u64, links: &[u64], flags: u8, rest: &[u64])
 
 // The header of a list with so many data links, and so many numbers after the count
 fn list_header(links: u64, rest: u64) -> BlockHeader
-    requires { ⌜ (links ≤ 4096) × (rest ≤ 4096) ⌝ }
+    requires { ⌜ (links ≤ linkLimit) × (rest ≤ linkLimit) ⌝ }
     ensures { λ r. ⌜ headerMeant r ≡ headerFor links rest ⌝ }
 {
     BlockHeader {

@@ -4,15 +4,16 @@ ghost use Rattle.definitions.specs.Channel.{variableLength};
 ghost use Rattle.decoder.specs.Meaning.{channelMeant};
 use blocks::DataType;
 
+// What tells of the field, and then of its validity: a copy of the first part then loads no piece that was stored as two.
 pub struct Channel {
     pub data_type: DataType,
     pub channel_type: u8,
     pub bit_offset: u8,
     pub byte_offset: u32,
     pub bit_count: u32,
+    pub data: u64,
     pub flags: u32,
     pub pos_invalidation_bit: u32,
-    pub data: u64,
 }
 
 impl Channel {

@@ -82,9 +82,9 @@ fn far_value(record: &[u8], record_id_size: usize, payload: bool, channel: Chann
         bit_offset: channel.bit_offset,
         byte_offset: channel.byte_offset,
         bit_count: channel.bit_count,
+        data: one_if(payload) as u64,
         flags: 0,
         pos_invalidation_bit: 0,
-        data: one_if(payload) as u64,
     };
     any_value(record, record_id_size, laid)
 }

@@ -79,9 +79,9 @@ fn far_double(
         bit_offset,
         byte_offset,
         bit_count,
+        data: 0,
         flags: 0,
         pos_invalidation_bit: 0,
-        data: 0,
     };
     any_double(record, record_id_size, channel)
 }

@@ -17,7 +17,7 @@ use lib.Ieee.Nearest.{closest}
 use Rattle.definitions.specs.Ieee754.{unit, signedDistance, doubleOfSign, Nearest}
 use Rattle.doubles.proofs.Pattern.{signBit, one-size}
 use Rattle.doubles.proofs.Ties.{Compared, compared}
-use Rattle.doubles.proofs.Whole.{cut, kept, reaches, value-kept, pattern-kept, read-back}
+use Rattle.doubles.proofs.Whole.{dropped, kept, reaches, value-kept, pattern-kept, read-back}
 
 -- ---- among the multiples of u
 abbrev distance : ℕ → ℕ → ℕ
@@ -88,15 +88,15 @@ closest-best a u t h =
 farther : (N c C B X : ℕ) → Best N c C B → B ≤ N → X < B → Best N c C X
 farther N c C B X b l x = (omega arith, λ h. absurd (omega arith))
 
-kept-best : (N m e : ℕ) → m < 2 ^ 53 → Best N (kept N) (kept N * 2 ^ cut N) (m * 2 ^ e)
-kept-best N m e h = elim (le-or-lt (cut N) e) [
+kept-best : (N m e : ℕ) → m < 2 ^ 53 → Best N (kept N) (kept N * 2 ^ dropped N) (m * 2 ^ e)
+kept-best N m e h = elim (le-or-lt (dropped N) e) [
   | inl l ↦
-      let k = cut N in
+      let k = dropped N in
       let is : m * 2 ^ (e - k) * 2 ^ k ≡ m * 2 ^ e =
       mul-assoc m (2 ^ (e - k)) (2 ^ k) ∙ ap (λ (y : ℕ). m * y) (sym (pow-add 2 (e - k) k) ∙ ap (λ (y : ℕ). 2 ^ y) (rejoin e k l)) in
       subst (λ (X : ℕ). Best N (kept N) (kept N * 2 ^ k) X) is (closest-best N (2 ^ k) (m * 2 ^ (e - k)) (pow-pos k))
   | inr l ↦
-      let k = cut N in
+      let k = dropped N in
       farther N (kept N) (kept N * 2 ^ k) (2 ^ 52 * 2 ^ k) (m * 2 ^ e) (closest-best N (2 ^ k) (2 ^ 52) (pow-pos k))
       (le-trans (le-of-eq (sym (pow-add 2 52 k))) (reaches N (lt-of-le-of-lt zero-le l)))
       (lt-of-lt-of-le (shl-lt 53 e h) (le-trans (pow-mono (below e k l)) (le-of-eq (pow-add 2 52 k))))
@@ -142,11 +142,11 @@ signed false false N c C a b z = b
 signed true false N c C a b z = across N c C a z
 signed false true N c C a b z = across N c C a z
 
-best : (s : Bool) (N b : ℕ) (t : Bool) (a : ℕ) → HasValue (ofBits binary64 b) t a unit → BestSigned s N (kept N) (kept N * 2 ^ cut N) t a
+best : (s : Bool) (N b : ℕ) (t : Bool) (a : ℕ) → HasValue (ofBits binary64 b) t a unit → BestSigned s N (kept N) (kept N * 2 ^ dropped N) t a
 best s N b t a v =
     let f = size-of b t a v in
-    signed s t N (kept N) (kept N * 2 ^ cut N) a
-    (subst (λ (X : ℕ). Best N (kept N) (kept N * 2 ^ cut N) X) (sym (f .3)) (kept-best N (f .0) (f .1) (f .2)))
+    signed s t N (kept N) (kept N * 2 ^ dropped N) a
+    (subst (λ (X : ℕ). Best N (kept N) (kept N * 2 ^ dropped N) X) (sym (f .3)) (kept-best N (f .0) (f .1) (f .2)))
     (kept-best N 0 0 (lit< tt))
 
 -- ---- the pattern is even where what was kept is
@@ -162,18 +162,18 @@ even-zero false = refl
 even-kept : (s : Bool) (n : ℕ) → n < 2 ^ 64 → kept (n * unit) % 2 ≡ 0 → doubleOfSign s n % 2 ≡ 0
 even-kept s n h e = elim (eq-zero-or-pos n) [
   | inl z ↦ ap (λ (y : ℕ). doubleOfSign s y % 2) z ∙ even-zero s
-  | inr p ↦ even-pattern s (cut (n * unit)) (kept (n * unit)) (doubleOfSign s n) (pattern-kept s n p h) e
+  | inr p ↦ even-pattern s (dropped (n * unit)) (kept (n * unit)) (doubleOfSign s n) (pattern-kept s n p h) e
 ]
 
 value : (s : Bool) (n : ℕ) → n < 2 ^ 64
-    → HasValue (ofBits binary64 (doubleOfSign s n)) s (kept (n * unit) * 2 ^ cut (n * unit)) unit
+    → HasValue (ofBits binary64 (doubleOfSign s n)) s (kept (n * unit) * 2 ^ dropped (n * unit)) unit
 value s n h =
-    let size : ℕ = kept (n * unit) * 2 ^ cut (n * unit) in
+    let size : ℕ = kept (n * unit) * 2 ^ dropped (n * unit) in
     subst (λ (v : Float). HasValue v s size unit) (sym (read-back s n)) (value-kept s n h)
 
 pub nearest : (s : Bool) (n : ℕ) → n < 2 ^ 64 → Nearest s n (doubleOfSign s n)
 nearest s n h = record {
-  size = kept (n * unit) * 2 ^ cut (n * unit);
+  size = kept (n * unit) * 2 ^ dropped (n * unit);
   value = value s n h;
   nearest = λ b t a v. best s (n * unit) b t a v .0;
   even = λ b t a v e. ⊎-elim inl (λ z. inr (even-kept s n h z)) (best s (n * unit) b t a v .1 e);

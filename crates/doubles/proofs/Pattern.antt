@@ -63,15 +63,15 @@ full : (v : Float) (s : Bool) (q k : ℕ) → 2 ^ 52 ≤ q → q < 2 ^ 53 → Ha
 full v s q k lo hi h =
     let least : 2 ^ (52 + k) ≤ q * 2 ^ k = le-trans (le-of-eq (pow-add 2 52 k)) (mul-le-mul-right (2 ^ k) lo) in
     let most : q * 2 ^ k < 2 ^ suc (52 + k) = subst (λ (x : ℕ). q * 2 ^ k < 2 ^ x) (next k) (shl-lt 53 k hi) in
-    of-units v s (q * 2 ^ k) k h (ap (λ (x : ℕ). x - 53) (size-is (52 + k) (q * 2 ^ k) least most) ∙ dropped k)
+    of-units v s (q * 2 ^ k) k h (ap (λ (x : ℕ). x - 53) (size-is (52 + k) (q * 2 ^ k) least most) ∙ without-53 k)
     ∙ ap (λ (x : ℕ). signBit s + k * 2 ^ 52 + x) (mul-div-cancel q (pow-pos k))
     ∙ assoc (signBit s) (k * 2 ^ 52) q
   where
     next : (k : ℕ) → 53 + k ≡ suc (52 + k)
     next k = omega arith
 
-    dropped : (k : ℕ) → suc (52 + k) - 53 ≡ k
-    dropped k = omega arith
+    without-53 : (k : ℕ) → suc (52 + k) - 53 ≡ k
+    without-53 k = omega arith
 
     assoc : (a b c : ℕ) → a + b + c ≡ a + (b + c)
     assoc a b c = omega arith

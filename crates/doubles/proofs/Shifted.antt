@@ -11,7 +11,7 @@ use lib.Ieee.{size}
 use lib.Ieee.Nearest.{closest, closest-same}
 use Rattle.definitions.specs.Ieee754.{unit, doubleOf}
 use Rattle.doubles.proofs.Pattern.{size-is}
-use Rattle.doubles.proofs.Whole.{cut, kept, of-positive, pattern-kept}
+use Rattle.doubles.proofs.Whole.{dropped, kept, of-positive, pattern-kept}
 
 module _ (n z : ℕ) (small : z < 64) (lo : 2 ^ 63 ≤ n * 2 ^ z) (hi : n * 2 ^ z < 2 ^ 64) where
   -- the rest of the way up to units
@@ -20,8 +20,8 @@ module _ (n z : ℕ) (small : z < 64) (lo : 2 ^ 63 ≤ n * 2 ^ z) (hi : n * 2 ^ 
       let all : z + (1074 - z) ≡ 1074 = omega arith in
       mul-assoc n (2 ^ z) (2 ^ (1074 - z)) ∙ ap (λ (x : ℕ). n * x) (sym (pow-add 2 z (1074 - z)) ∙ ap (λ (x : ℕ). 2 ^ x) all)
 
-  cut-shifted : cut (n * unit) ≡ 1085 - z
-  cut-shifted =
+  dropped-shifted : dropped (n * unit) ≡ 1085 - z
+  dropped-shifted =
       let i : ℕ = 1074 - z in
       let next : 64 + i ≡ suc (63 + i) = omega arith in
       let less : suc (63 + i) - 53 ≡ 1085 - z = omega arith in
@@ -33,7 +33,7 @@ module _ (n z : ℕ) (small : z < 64) (lo : 2 ^ 63 ≤ n * 2 ^ z) (hi : n * 2 ^ 
   kept-shifted =
       let k : ℕ = 1085 - z in
       let all : 1074 - z + 11 ≡ k = omega arith in
-      ap (λ (x : ℕ). closest (n * unit) (2 ^ x)) cut-shifted
+      ap (λ (x : ℕ). closest (n * unit) (2 ^ x)) dropped-shifted
       ∙ closest-same (n * unit) (2 ^ k) (n * 2 ^ z) (2 ^ 11) (pow-pos k) (pow-pos 11)
       (ap (λ (x : ℕ). x * 2 ^ 11) (sym onward)
       ∙ mul-assoc (n * 2 ^ z) (2 ^ (1074 - z)) (2 ^ 11)
@@ -43,8 +43,8 @@ module _ (n z : ℕ) (small : z < 64) (lo : 2 ^ 63 ≤ n * 2 ^ z) (hi : n * 2 ^ 
   shifted-bits p h =
       of-positive n
       ∙ pattern-kept false n p h
-      ∙ zero-add (cut (n * unit) * 2 ^ 52 + kept (n * unit))
-      ∙ ap (λ (x : ℕ). x * 2 ^ 52 + kept (n * unit)) cut-shifted
+      ∙ zero-add (dropped (n * unit) * 2 ^ 52 + kept (n * unit))
+      ∙ ap (λ (x : ℕ). x * 2 ^ 52 + kept (n * unit)) dropped-shifted
       ∙ ap (λ (x : ℕ). (1085 - z) * 2 ^ 52 + x) kept-shifted
 
   -- neither shift loses a digit

@@ -11,7 +11,7 @@ use lib.Ieee.Fits.{round-fits}
 use lib.Ieee.Bits.{toBits-lt}
 use Rattle.definitions.specs.Ieee754.{unit, doubleOf, doubleOfSign}
 use Rattle.doubles.proofs.Pattern.{signBit}
-use Rattle.doubles.proofs.Whole.{kept, cut, of-positive, round-kept}
+use Rattle.doubles.proofs.Whole.{kept, dropped, of-positive, round-kept}
 
 -- a number or an infinity whose sign is clear
 abbrev pub Plain : Float → Type 0
@@ -43,7 +43,7 @@ units-opposite q k = go (ltb (q * 2 ^ k) (2 ^ (1074 + 1024)))
 pub round-opposite : (n : ℕ) → Opposite (round binary64 false n 1) (round binary64 true n 1)
 round-opposite n =
     let q : ℕ = kept (n * unit) in
-    let k : ℕ = cut (n * unit) in
+    let k : ℕ = dropped (n * unit) in
     subst (λ (w : Float). Opposite (round binary64 false n 1) w) (sym (round-kept true n))
     (subst (λ (v : Float). Opposite v (units binary64 true q k)) (sym (round-kept false n)) (units-opposite q k))
 

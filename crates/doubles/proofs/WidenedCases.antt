@@ -12,7 +12,7 @@ use lib.Ieee.Bits.{cond-no}
 use lib.Ieee.Exact.{odd-sign}
 use Rattle.definitions.specs.Ieee754.{unit, doubleOf, widened}
 use Rattle.doubles.proofs.Pattern.{rescale, written}
-use Rattle.doubles.proofs.Whole.{cut, kept, kept-le, kept-ge, cut-ge, pattern-kept, of-positive}
+use Rattle.doubles.proofs.Whole.{dropped, kept, kept-le, kept-ge, dropped-ge, pattern-kept, of-positive}
 use Rattle.doubles.proofs.Exact.{all-kept}
 use Rattle.doubles.proofs.Widened.{fields-positive}
 
@@ -50,8 +50,8 @@ odd-widened q x m k lo hi e =
 pub subnormal-widened : (b : ℕ) → 0 < b → b < 2 ^ 23 → widened b + 149 * 2 ^ 52 ≡ doubleOf (pos b)
 subnormal-widened b p h =
     let q : ℕ = kept (b * unit) in
-    let k : ℕ = cut (b * unit) in
-    let deep : 1022 ≤ k = cut-ge b p in
+    let k : ℕ = dropped (b * unit) in
+    let deep : 1022 ≤ k = dropped-ge b p in
     let some : 0 < k = omega arith in
     let field : b / 2 ^ 23 ≡ 0 = omega arith in
     let back : k - 149 + 149 ≡ k = omega arith in

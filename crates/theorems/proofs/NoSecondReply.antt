@@ -58,6 +58,8 @@ use Rattle.decoder.proofs.check_value_validity.Kinds as validity-kinds
 use Rattle.decoder.proofs.check_value_validity.Reads as validity
 use Rattle.decoder.proofs.decode_channel_value_with_validity.Kinds as valid-value-read-kinds
 use Rattle.decoder.proofs.decode_channel_value_with_validity.Reads as valid-value-read
+use Rattle.decoder.proofs.any_valid_value.Kinds as any-valid-value-kinds
+use Rattle.decoder.proofs.any_valid_value.Reads as any-valid-value
 use Rattle.decoder.proofs.decode_f64_from_record.Kinds as record-double-kinds
 use Rattle.decoder.proofs.decode_f64_from_record.Reads as record-double
 use Rattle.chain.proofs.accept.Kinds as chain-accept-kinds
@@ -143,6 +145,9 @@ validity-settled = settled (λ κs a y z b c p q. (p ∙ sym q, refl))
 
 pub valid-value-read-settled : Settled 1 valid-value-read-kinds.ps valid-value-read-kinds.r valid-value-read.Asked valid-value-read.ensures valid-value-read.Learnt
 valid-value-read-settled = settled (λ κs a y z b c p q. (valid-value-one y z (p ∙ sym q), refl))
+
+pub any-valid-value-settled : Settled 1 any-valid-value-kinds.ps any-valid-value-kinds.r any-valid-value.Asked any-valid-value.ensures any-valid-value.Learnt
+any-valid-value-settled = settled (λ κs a y z b c p q. (valid-value-one y z (p ∙ sym q), refl))
 
 pub record-double-settled : Settled 1 record-double-kinds.ps record-double-kinds.r record-double.Asked record-double.ensures record-double.Learnt
 record-double-settled = settled (λ κs a y z b c p q. (p ∙ sym q, refl))

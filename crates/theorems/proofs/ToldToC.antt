@@ -1,5 +1,5 @@
 -- From what a call returns to C, the definition's reply comes back: about each call's own clause.
-use mathlib.Core.Path.{_≡_, refl, sym, ap, _∙_}
+use mathlib.Core.Path.{_≡_, refl, ap, _∙_}
 use mathlib.Core.Bool.{Bool, true, false, not, _&&_, _||_}
 use mathlib.Core.List.{List}
 use Prim.Native.Nat.{ℕ, suc, _+_, _-_, _*_, _^_, _≤_, _<_}
@@ -12,10 +12,10 @@ use lib.Dec.{ltb, eqb}
 use lib.Pow.{pow-pos, pow-mono, pow-add}
 use borrow.Author.Tests.{ltb-true, ltb-false, eqb-false}
 use Rattle.definitions.specs.Reply.{Reply, Outcome, answer, refusal, if_then_else_, andThen}
-use Rattle.definitions.specs.Bytes.{Order, twosComplement}
+use Rattle.definitions.specs.Bytes.{twosComplement}
 use Rattle.definitions.specs.Unicode.{Encoding, textWritten}
 use Rattle.definitions.specs.Header.{headerOf, headerWritten}
-use Rattle.definitions.specs.DataType.{DataType, unsignedInteger, signedInteger, float, complex, string, byteArray, mimeSample, mimeStream, canOpenDate, canOpenTime, unknown, Kind, kindOf}
+use Rattle.definitions.specs.DataType.{DataType, unsignedInteger, signedInteger, float, complex, string, byteArray, mimeSample, mimeStream, canOpenDate, canOpenTime, unknown, kindOf}
 use Rattle.definitions.specs.Channel.{Channel, Value, ValidValue, signed, decoded, startOf, spanOf, numberIn, isNumber, isInteger, isFloating, valueBy, valueOf, validOf, validValueOf}
 use Rattle.definitions.specs.DataList.{listOf, listWritten, equal, variable}
 use Rattle.definitions.specs.Chain.{dataLength, fetched, valueFetched}
