@@ -10,8 +10,8 @@
  * output buffer must not overlap an input. Nothing is allocated and nothing is kept between calls, so calls from several
  * threads do not meet.
  *
- * What is lent must not change during a call. A record is fetched in two walks along its chain, one that tests and one
- * that copies: if someone changes the file's bytes between the two, the record may be a wrong one. (No call ever reads or
+ * What is lent must not change during a call. A fetch walks along the whole chain and tests it, and only then copies the
+ * record: if someone changes the file's bytes between the two, the record may be a wrong one. (No call ever reads or
  * writes outside the slices.) A log that is still being written is copied first, and the copy is read: a mapping with
  * MAP_PRIVATE is not enough, since its pages may still follow the file.
  *
@@ -231,7 +231,7 @@ typedef struct mf4_value {
     uint64_t length;
 } mf4_value;
 
-/* A value, and whether it is one: is_valid is 0 where the channel's flags or the record's bit say that it is not. */
+/* A value, and whether it is valid: is_valid is 0 where the channel's flags or the record's bit say that it is not. */
 typedef struct mf4_valid_value {
     uint32_t reply;
     uint32_t kind;

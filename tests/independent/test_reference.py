@@ -1,4 +1,4 @@
-"""Tests of reference.py: the document's examples, Python's own float() and codecs, and vectors from outside."""
+"""Tests of reference.py: the rules' examples, Python's own float() and codecs, and vectors from outside."""
 
 import codecs
 import random
@@ -60,7 +60,7 @@ def bits_of(double):
 
 NOTHING = Value(1)
 
-# ---- the document's examples -------------------------------------------------------------------------------------------
+# ---- the rules' examples -------------------------------------------------------------------------------------------
 
 
 def example_integers():

@@ -68,7 +68,7 @@ pub fn data_of(file: &[u8], block: DataBlock) -> &[u8]
 
 impl BlockRead {
     // Why the block was refused. Only a refusal is asked, so the second arm is never taken.
-    pub(crate) fn refusal(self) -> Refusal
+    pub fn refusal(self) -> Refusal
         requires { ⌜ ((why : Refusal) × (self ≡ BlockRead.Refused why)) ⌝ }
         ensures { λ r. ⌜ self ≡ BlockRead.Refused r ⌝ }
     {

@@ -1,4 +1,4 @@
--- Which of the paper's numbers each refusal has, and what it tells.
+-- Which number each refusal has by the rules, and what it tells.
 use Prim.Native.Nat.{ℕ}
 use Rattle.definitions.specs.Reply.{Reply, refusal}
 use Rattle.refusals.specs.declared.Refusal.{Refusal}

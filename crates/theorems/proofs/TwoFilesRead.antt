@@ -1,6 +1,6 @@
--- Demand 3 for the calls: `read_record`, `read_value` and their calls for C, on two files whose accepted chains join to the
--- same bytes j, with buffers that hold the same bytes, reply the same and leave the same; and it is what the definitions give
--- on j. Each theorem is about the call's own clause, `Learnt`.
+-- Two files whose accepted chains join to the same bytes j: the calls that read a chain, the library's and C's, reply the same
+-- for both and, lent buffers that hold the same bytes, leave the same; and it is what the definitions give on j. Each theorem
+-- is about the call's own clause, `Learnt`.
 use mathlib.Core.Path.{_≡_, sym, ap, _∙_}
 use mathlib.Core.List.{List}
 use Prim.Native.Nat.{ℕ}
