@@ -4,7 +4,7 @@ ghost use Prim.Native.Nat.{_+_, _*_, _/_, _%_, _^_, _≤_, _<_};
 ghost use lib.ListN.{length};
 ghost use Rattle.definitions.specs.Bytes.{little, big, bits, bytesFor, fieldAt};
 use crate::read::be_bytes;
-use crate::read::le_bytes;
+use crate::read::few_le_bytes;
 use crate::read::read_u64_be;
 use crate::read::read_u64_le;
 
@@ -73,7 +73,7 @@ pub fn field_le(s: &[u8], at: usize, offset: u32, count: u32) -> u64
     if 8 <= s.len() - at {
         return near_le(s, at, offset, count);
     }
-    cut(le_bytes(s, at, n), offset, count)
+    cut(few_le_bytes(s, at, n), offset, count)
 }
 
 // The same with the first the highest

@@ -26,6 +26,23 @@ pub fn le_bytes(s: &[u8], at: usize, n: usize) -> u64
     w
 }
 
+// The same where n is known only when it runs: one, two or four bytes are one load and need no loop.
+pub fn few_le_bytes(s: &[u8], at: usize, n: usize) -> u64
+    requires { ⌜ (n ≤ 8) × (at + n ≤ length (now s)) ⌝ }
+    ensures { λ r. ⌜ r ≡ numberOf little (span (now (s .entry)) at n) ⌝ }
+{
+    if n == 1 {
+        return le_bytes(s, at, 1);
+    }
+    if n == 2 {
+        return le_bytes(s, at, 2);
+    }
+    if n == 4 {
+        return le_bytes(s, at, 4);
+    }
+    le_bytes(s, at, n)
+}
+
 // The bytes of a word in the other order. The compiler makes one instruction of it.
 fn swapped(word: u64) -> u64
     ensures { λ r. ⌜ r ≡ numberOf big (le 8 word) ⌝ }
@@ -46,7 +63,7 @@ pub fn be_bytes(s: &[u8], at: usize, n: usize) -> u64
     requires { ⌜ (1 ≤ n) × (n ≤ 8) × (at + n ≤ length (now s)) ⌝ }
     ensures { λ r. ⌜ r ≡ numberOf big (span (now (s .entry)) at n) ⌝ }
 {
-    swapped(le_bytes(s, at, n)) >> (64 - 8 * n)
+    swapped(few_le_bytes(s, at, n)) >> (64 - 8 * n)
 }
 
 pub fn read_u32_le(s: &[u8], at: usize) -> u32

@@ -18,7 +18,7 @@ returns-2 c =
 returns-3 : tie.Need-returns-3
 returns-3 c =
     let a = c .before .before .before .before .before .args in
-    c .cut .ensures ∙ ap (λ (x : ℕ). bits x (a .offset) (a .count)) (c .before .le-bytes .ensures .0)
+    c .cut .ensures ∙ ap (λ (x : ℕ). bits x (a .offset) (a .count)) (c .before .few-le-bytes .ensures)
 
 pub field-le-spec : {M : Type 1} → statement M
 field-le-spec =
