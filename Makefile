@@ -1,25 +1,28 @@
-# The C side. To link a program of your own:
-#     cc -std=c99 -I include my_loader.c build/libmf4.a -o my_loader
-# Nothing else is needed: the archive allocates nothing and calls nothing outside itself.
+# The C side. README.md says what each command is for, what it needs and how long it takes. A program of your own:
+#     cc -std=c99 -Iinclude my_loader.c build/libmf4.a -o my_loader
+# Nothing else is needed: the library allocates nothing and calls nothing outside itself.
 
 # The kit that the proofs were last run with; `rt version` prints the kit at hand.
 KIT := rattle-kit-5b logic 064da1ca440f63e7
 
 CC := gcc
-CXX := g++
-C_FLAGS := -std=c99 -Wall -Wextra -pedantic -O1 -Iinclude
-SANITIZE := -g -fsanitize=address,undefined -fno-sanitize-recover=undefined
+C_FLAGS := -std=c99 -Wall -Wextra -Wconversion -pedantic -O1 -Iinclude
+PREFIX := /usr/local
 # How long `make fuzz` tries inputs, and how many `make compare` and `make check` compare.
 SECONDS := 60
 COUNT := 10000000
 CASES := 20000
 
-.PHONY: demo test archive ctest header check compare fuzz bench fmt kit
+# mf4.h tells the version. Before 1.0 a new minor version may break what is linked, so the shared object's name has it.
+VERSION := $(shell sed -n 's/^#define MF4_VERSION "\(.*\)"$$/\1/p' include/mf4.h)
+SONAME := libmf4.so.$(basename $(VERSION))
+SHARED := build/libmf4.so.$(VERSION)
+SOURCES := crates.txt $(shell find crates -name '*.rt' -o -name '*.antt')
+
+.PHONY: demo test quick archive shared install clean ctest installed check compare fuzz bench fmt kit
 
 # Writes a small pump log and reads it with the library.
-demo: archive
-	@$(CC) $(C_FLAGS) -o build/make_log examples/make_log.c build/libmf4.a
-	@$(CC) $(C_FLAGS) -o build/loader examples/loader.c build/libmf4.a
+demo: build/make_log build/loader
 	@build/make_log build/pump.mf4
 	@build/loader build/pump.mf4
 
@@ -27,23 +30,56 @@ demo: archive
 test: kit
 	@tests/run
 
-# The library as an archive. It is kept outside target/, which the gate removes.
-archive: kit
+# The C side alone: all that can be tried without the proofs of everything.
+quick: CASES := 2000
+quick: demo ctest check installed
+
+# The library, kept outside target/, which the gate removes. Only what has changed is proved again.
+archive: build/libmf4.a
+
+build/libmf4.a: $(SOURCES)
+	@$(MAKE) --no-print-directory kit
 	@mkdir -p build
-	@rt staticlib mf4
-	@cp target/staticlib/libmf4.a build/
+	@echo "proving the library and building it; build/archive.log has all that is said"
+	@{ rt staticlib mf4 2>&1; echo $$? >build/archive.status; } | tee build/archive.log \
+	    | sed -n 's/^rt: target.*/rt: mf4 proved and built/; s/^rt: /  /p'
+	@[ "$$(cat build/archive.status)" = 0 ] || { grep -m 1 ': error: ' build/archive.log >&2; echo "not built" >&2; exit 1; }
+	@cp target/staticlib/libmf4.a $@
 
-# Every call at its limits, between unreadable pages, then once more under the address and undefined-behaviour checkers.
-ctest: archive header
-	@$(CC) $(C_FLAGS) -o build/limits tests/c/limits.c build/libmf4.a
-	@build/limits
-	@$(CC) $(C_FLAGS) $(SANITIZE) -o build/limits_sanitized tests/c/limits.c build/libmf4.a
-	@build/limits_sanitized
+# The archive as a shared object: it imports nothing, not even the C library, and exports the calls of mf4.h alone.
+shared: $(SHARED)
 
-# The header alone, as C99 and as C++98.
-header:
-	@echo '#include "mf4.h"' | $(CC) -std=c99 -Wall -Wextra -Werror -pedantic -fsyntax-only -Iinclude -x c -
-	@echo '#include "mf4.h"' | $(CXX) -std=c++98 -Wall -Wextra -Werror -pedantic -fsyntax-only -Iinclude -x c++ -
+$(SHARED): build/libmf4.a
+	@echo '{ global: mf4_*; local: *; };' >build/exports
+	@$(CC) -shared -nostdlib -Wl,-z,defs -Wl,-soname,$(SONAME) -Wl,--version-script,build/exports \
+	    -Wl,--whole-archive build/libmf4.a -o $@
+
+build/%: examples/%.c examples/pump.h include/mf4.h build/libmf4.a
+	@$(CC) $(C_FLAGS) -o $@ $< build/libmf4.a
+
+# Below $(DESTDIR)$(PREFIX): header, archive, shared object, pkg-config file and licences.
+install: build/libmf4.a $(SHARED)
+	@install -d $(DESTDIR)$(PREFIX)/include $(DESTDIR)$(PREFIX)/lib/pkgconfig $(DESTDIR)$(PREFIX)/share/doc/mf4
+	@install -m 644 include/mf4.h $(DESTDIR)$(PREFIX)/include/
+	@install -m 644 build/libmf4.a $(DESTDIR)$(PREFIX)/lib/
+	@install -m 755 $(SHARED) $(DESTDIR)$(PREFIX)/lib/
+	@ln -sf $(notdir $(SHARED)) $(DESTDIR)$(PREFIX)/lib/$(SONAME)
+	@ln -sf $(SONAME) $(DESTDIR)$(PREFIX)/lib/libmf4.so
+	@sed 's|@PREFIX@|$(PREFIX)|; s|@VERSION@|$(VERSION)|' mf4.pc.in >$(DESTDIR)$(PREFIX)/lib/pkgconfig/mf4.pc
+	@install -m 644 LICENSE NOTICE $(DESTDIR)$(PREFIX)/share/doc/mf4/
+
+# Everything that was made, the proofs in target/ too: the next archive is proved from nothing.
+clean:
+	@rm -rf build target
+	@find tests -name __pycache__ -prune -exec rm -r {} +
+
+# The header, and every call at its limits, between unreadable pages and under the address and undefined-behaviour checkers.
+ctest: archive
+	@CC=$(CC) tests/c/run build/libmf4.a build/c
+
+# The library installed into a folder of its own, and the README's first use compiled and run against it.
+installed: build/make_log build/libmf4.a $(SHARED)
+	@tests/installed
 
 # An independent program, written from the rules alone, gives the same answers.
 check: archive

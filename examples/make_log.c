@@ -3,18 +3,27 @@
  *
  *     make_log FILE
  *
- * Six records of RECORD_SIZE bytes (pump.h) stand in five data blocks, which two data lists name one behind the other: the
- * first, at FIRST_LIST_AT, tells the offset of each block's data, the second tells one length for its blocks. The cuts fall
- * inside records, and one block is empty: a reader that took blocks for records would not get far.
+ * Six records of RECORD_SIZE bytes (pump.h) and the beginning of a seventh, whose pump lost power, stand in six data blocks,
+ * which two data lists name one behind the other: the first, at FIRST_LIST_AT, tells the offset of each block's data, the
+ * second tells one length for its blocks, of which the last is shorter. The cuts fall inside records, and one block is empty:
+ * a reader that took blocks for records would not get far.
  */
 #include <stdio.h>
 #include <string.h>
 
 #include "pump.h"
 
-enum { HEADER = 24, RECORDS = 6, DATA = RECORDS * RECORD_SIZE, MOST_FILE = 1024, BLOCKS = 5, BLOCKS_OF_FIRST_LIST = 3 };
+enum {
+    RECORDS = 6,
+    TAIL = 7,
+    DATA = RECORDS * RECORD_SIZE + TAIL,
+    MOST_FILE = 1024,
+    BLOCKS = 6,
+    BLOCKS_OF_FIRST_LIST = 3,
+    BLOCKS_OF_SECOND_LIST = BLOCKS - BLOCKS_OF_FIRST_LIST
+};
 
-static const size_t block_sizes[BLOCKS] = { 33, 0, 37, 25, 25 };
+static const size_t block_sizes[BLOCKS] = { 33, 0, 37, 25, 25, TAIL };
 
 typedef struct log_file {
     uint8_t bytes[MOST_FILE];
@@ -77,20 +86,20 @@ static int is_written(mf4_written written)
 
 static int add_data_block(log_file *file, const uint8_t *data, size_t size, uint64_t *address)
 {
-    mf4_block_header header = { '#' | '#' << 8 | 'D' << 16 | (uint32_t)'T' << 24, 0, 0, 0 };
-    header.block_len = HEADER + size;
+    mf4_block_header header = { .id = MF4_ID_DT, .block_len = MF4_HEADER_SIZE + size };
     *address = file->length;
     if (!is_written(mf4_write_header(header, file->bytes + file->length, MOST_FILE - file->length)))
         return 0;
-    memcpy(file->bytes + file->length + HEADER, data, size);
-    file->length += HEADER + size;
+    memcpy(file->bytes + file->length + MF4_HEADER_SIZE, data, size);
+    file->length += MF4_HEADER_SIZE + size;
     return 1;
 }
 
 /* The lists stand in front of the blocks, so their room is kept first and they are written last. */
 static int make_log(log_file *file, const uint8_t *data)
 {
-    const size_t first_size = HEADER + 8 + 3 * 8 + 8 + 3 * 8, second_size = HEADER + 8 + 2 * 8 + 8 + 8;
+    const size_t first_size = MF4_HEADER_SIZE + 8 + 8 * BLOCKS_OF_FIRST_LIST + 8 + 8 * BLOCKS_OF_FIRST_LIST;
+    const size_t second_size = MF4_HEADER_SIZE + 8 + 8 * BLOCKS_OF_SECOND_LIST + 8 + 8;
     const uint64_t second_list_at = FIRST_LIST_AT + first_size;
     uint64_t links[BLOCKS], offsets[BLOCKS], offset = 0;
     int i;
@@ -102,10 +111,10 @@ static int make_log(log_file *file, const uint8_t *data)
             return 0;
         offset += block_sizes[i];
     }
-    return is_written(mf4_write_list_variable(file->bytes + FIRST_LIST_AT, first_size, second_list_at, links,
-                                              BLOCKS_OF_FIRST_LIST, offsets, BLOCKS_OF_FIRST_LIST))
-        && is_written(mf4_write_list_equal(file->bytes + second_list_at, second_size, 0, links + BLOCKS_OF_FIRST_LIST,
-                                           BLOCKS - BLOCKS_OF_FIRST_LIST, block_sizes[BLOCKS_OF_FIRST_LIST]));
+    return is_written(mf4_write_list_variable(second_list_at, links, BLOCKS_OF_FIRST_LIST, offsets, BLOCKS_OF_FIRST_LIST,
+                                              file->bytes + FIRST_LIST_AT, first_size))
+        && is_written(mf4_write_list_equal(0, links + BLOCKS_OF_FIRST_LIST, BLOCKS_OF_SECOND_LIST,
+                                           block_sizes[BLOCKS_OF_FIRST_LIST], file->bytes + second_list_at, second_size));
 }
 
 static int save(const log_file *file, const char *path)
@@ -122,15 +131,16 @@ static int save(const log_file *file, const char *path)
 int main(int count, char **words)
 {
     static log_file file;
-    uint8_t data[DATA];
+    uint8_t data[DATA] = { 0 };
     if (count != 2) {
         fputs("use: make_log FILE\n", stderr);
         return 2;
     }
     make_records(data);
+    memcpy(data + RECORDS * RECORD_SIZE, "PX2\0" "47", TAIL);
     if (!make_log(&file, data) || !save(&file, words[1]))
         return 1;
-    printf("%s: %u bytes, %d records of %d bytes in %d data blocks, first data list at %d\n", words[1],
-           (unsigned)file.length, RECORDS, RECORD_SIZE, BLOCKS, FIRST_LIST_AT);
+    printf("%s: %u bytes, %d records of %d bytes and %d bytes of another in %d data blocks, first data list at %d\n",
+           words[1], (unsigned)file.length, RECORDS, RECORD_SIZE, TAIL, BLOCKS, FIRST_LIST_AT);
     return 0;
 }

@@ -24,10 +24,12 @@ enum {
     SERVICE_HOURS = 500
 };
 
-/* In the order of the fields: data type, channel type, bit offset, byte offset, bit count, flags, invalidation bit, data.
- * Flag bit 1 says that the channel has an invalidation bit. */
-static const mf4_channel serial_channel = { MF4_LATIN1, 0, 0, 0, 8 * SERIAL_SIZE, 0, 0, 0 };
-static const mf4_channel hours_channel = { MF4_UNSIGNED_LE, 0, HOURS_BIT_OFFSET, HOURS_AT, 64, 0, 0, 0 };
-static const mf4_channel temperature_channel = { MF4_FLOAT_LE, 0, 0, TEMPERATURE_AT, 32, 2, 0, 0 };
+static const mf4_channel serial_channel = { .data_type = MF4_LATIN1, .bit_count = 8 * SERIAL_SIZE };
+static const mf4_channel hours_channel = {
+    .data_type = MF4_UNSIGNED_LE, .bit_offset = HOURS_BIT_OFFSET, .byte_offset = HOURS_AT, .bit_count = 64
+};
+static const mf4_channel temperature_channel = {
+    .data_type = MF4_FLOAT_LE, .byte_offset = TEMPERATURE_AT, .bit_count = 32, .flags = MF4_CHANNEL_INVALIDATION_BIT
+};
 
 #endif

@@ -6,10 +6,16 @@
  * tells nothing), and the other fields are the answer's, all zero on a refusal. A refusal writes nothing. One exception:
  * mf4_record_value leaves a record that it has fetched in the buffer when the record's field is then refused.
  *
- * A pair (pointer, count) is a slice; the pointer may be NULL where the count is 0. An output buffer must not overlap an
- * input. Nothing is allocated and nothing is kept between calls, so calls from several threads do not meet.
+ * A pair (pointer, count) is a slice, lent for the time of the call; the pointer may be NULL where the count is 0. An
+ * output buffer must not overlap an input. Nothing is allocated and nothing is kept between calls, so calls from several
+ * threads do not meet.
  *
- * Link with libmf4.a. C99, C++98 or later.
+ * What is lent must not change during a call. A record is fetched in two walks along its chain, one that tests and one
+ * that copies: if someone changes the file's bytes between the two, the record may be a wrong one. (No call ever reads or
+ * writes outside the slices.) A log that is still being written is copied first, and the copy is read: a mapping with
+ * MAP_PRIVATE is not enough, since its pages may still follow the file.
+ *
+ * Link with libmf4.a or libmf4.so, for x86-64 Linux (System V calling convention). C99, C++98 or later.
  */
 #ifndef MF4_H
 #define MF4_H
@@ -18,9 +24,21 @@
 #include <stdint.h>
 #include <string.h>
 
+#define MF4_VERSION_MAJOR 0
+#define MF4_VERSION_MINOR 1
+#define MF4_VERSION_PATCH 0
+#define MF4_VERSION "0.1.0"
+
 #ifdef __cplusplus
 extern "C" {
 #endif
+
+/* ---- limits ----------------------------------------------------------------------------------------------------- */
+
+#define MF4_MAX_FILE_SIZE ((uint64_t)1 << 40) /* bytes of a file whose chain is read; more are refused with 7           */
+#define MF4_MAX_LISTS 256                     /* data lists of a chain; a 257th is refused with 8                       */
+#define MF4_MAX_FRAGMENTS 4096                /* data blocks of a chain (else 9), data links of a written list (else 5) */
+#define MF4_MAX_RECORD_SIZE 16384             /* bytes of a record; more are refused with 15                            */
 
 /* ---- replies ---------------------------------------------------------------------------------------------------- */
 
@@ -37,11 +55,14 @@ enum mf4_reply {
     MF4_TOO_MANY_FRAGMENTS = 9,  /* a chain of more than 4,096 data blocks                                        */
     MF4_LIST_DISAGREES = 10,     /* a list that contradicts itself: its count, or the length of its block         */
     MF4_NO_BLOCK_THERE = 11,     /* a start or a data link of 0, or an address without room for a header          */
-    MF4_BAD_DATA_BLOCK = 12,     /* what a list links is no whole ##DT block                                      */
+    MF4_BAD_DATA_BLOCK = 12,     /* what a list links is no whole ##DT block: damaged, compressed or another kind */
     MF4_UNTRUE_DECLARATION = 13, /* a list tells a length or an offset that is not so                             */
     MF4_DATA_TOO_LONG = 14,      /* more joined data than 2^63-1 bytes                                            */
     MF4_BAD_RECORD_SIZE = 15,    /* a record size of 0, over 16,384, or over the record buffer's                  */
-    MF4_NO_SUCH_RECORD = 16      /* a record that the joined data does not hold whole                             */
+    MF4_NO_SUCH_RECORD = 16,     /* a record that the joined data does not hold whole                             */
+
+    /* Numbers from 256 on are those of this header's own helpers, never the library's. */
+    MF4_NO_TEXT_TYPE = 256       /* mf4_text_by_type: a data type that is no text                                 */
 };
 
 /* A reply in words, for people. */
@@ -57,21 +78,37 @@ static inline const char *mf4_reply_text(uint32_t reply)
     case MF4_NO_ROOM: return "the output buffer is too small";
     case MF4_FILE_TOO_LONG: return "the file is longer than 2^40 bytes";
     case MF4_TOO_MANY_LISTS: return "the chain has over 256 lists";
-    case MF4_TOO_MANY_FRAGMENTS: return "the chain has over 4096 fragments";
+    case MF4_TOO_MANY_FRAGMENTS: return "the chain has over 4096 data blocks";
     case MF4_LIST_DISAGREES: return "a list's count or block length disagrees with its links";
     case MF4_NO_BLOCK_THERE: return "a link leads to no block";
-    case MF4_BAD_DATA_BLOCK: return "a data block is damaged";
+    case MF4_BAD_DATA_BLOCK: return "a list links something else than a whole ##DT block";
     case MF4_UNTRUE_DECLARATION: return "a list declares a length or an offset that is untrue";
     case MF4_DATA_TOO_LONG: return "the joined data passes 2^63-1 bytes";
     case MF4_BAD_RECORD_SIZE: return "the record size is 0 or over 16384, or the buffer is too short";
     case MF4_NO_SUCH_RECORD: return "the record is not inside the data";
+    case MF4_NO_TEXT_TYPE: return "the data type is no text";
     default: return "no reply of this library";
     }
 }
 
 /* ---- block headers ---------------------------------------------------------------------------------------------- */
 
-/* The 24 bytes in front of every block. id: the four raw bytes, the first the lowest. */
+#define MF4_HEADER_SIZE 24
+
+/* The ids that a loader meets on the way to its records: the four raw bytes as a number, the first the lowest. */
+enum mf4_block_id {
+    MF4_ID_HD = 0x44482323, /* ##HD, the file's header block */
+    MF4_ID_DG = 0x47442323, /* ##DG, a data group            */
+    MF4_ID_CG = 0x47432323, /* ##CG, a channel group         */
+    MF4_ID_CN = 0x4E432323, /* ##CN, a channel               */
+    MF4_ID_TX = 0x58542323, /* ##TX, a text                  */
+    MF4_ID_MD = 0x444D2323, /* ##MD, a text that is XML      */
+    MF4_ID_DL = 0x4C442323, /* ##DL, a data list             */
+    MF4_ID_DT = 0x54442323, /* ##DT, records                 */
+    MF4_ID_SD = 0x44532323  /* ##SD, payloads                */
+};
+
+/* The 24 bytes in front of every block. block_len counts them too. */
 typedef struct mf4_block_header {
     uint32_t id;
     uint32_t reserved0;
@@ -115,9 +152,13 @@ uint32_t mf4_default_bits(uint8_t code);
 
 /* ---- data lists ------------------------------------------------------------------------------------------------- */
 
+enum mf4_list_flag {
+    MF4_LIST_EQUAL_LENGTH = 1 /* one length for every fragment, in place of an offset for each */
+};
+
 /* links_at, links: where the data links stand in the bytes given, and how many; 8 bytes each, little-endian.
- * rest_at, rest: the same of the one length (flag bit 0) or of the offsets. Neither data_block_nr nor block_len is
- * compared with anything here. */
+ * rest_at, rest: the same of the one length (MF4_LIST_EQUAL_LENGTH in flags) or of the offsets. Neither data_block_nr nor
+ * block_len is compared with anything here. */
 typedef struct mf4_list {
     uint32_t reply;
     uint64_t told;
@@ -135,65 +176,87 @@ typedef struct mf4_list {
 /* Refuses with 2, 3, 4. */
 mf4_list mf4_read_list(const uint8_t *bytes, size_t bytes_len);
 
-/* A list whose fragments all have one length. Refuses with 5, then 6. */
-mf4_written mf4_write_list_equal(uint8_t *out, size_t out_len, uint64_t next, const uint64_t *links, size_t links_len,
-                                 uint64_t length);
+/* A list whose fragments all have one length, but for its last, which may be shorter. Refuses with 5, then 6. */
+mf4_written mf4_write_list_equal(uint64_t next, const uint64_t *links, size_t links_len, uint64_t length, uint8_t *out,
+                                 size_t out_len);
 
 /* A list with the offset of each fragment's data in the joined data. Refuses with 5, then 6. */
-mf4_written mf4_write_list_variable(uint8_t *out, size_t out_len, uint64_t next, const uint64_t *links, size_t links_len,
-                                    const uint64_t *offsets, size_t offsets_len);
+mf4_written mf4_write_list_variable(uint64_t next, const uint64_t *links, size_t links_len, const uint64_t *offsets,
+                                    size_t offsets_len, uint8_t *out, size_t out_len);
 
 /* ---- values ----------------------------------------------------------------------------------------------------- */
 
-/* A channel's description, as its channel block has it.
- * data_type: a code of enum mf4_data_type. channel_type: 1 for a channel of variable length, whose data is then the link
- * to its payloads. byte_offset counts from the byte behind the record id; bit_offset (0 to 7) is how far the field lies
- * above the lowest bit of the number that its bytes make, and bit_count its width. flags: bit 0, every value is invalid;
- * bit 1, a bit of the record tells which are, the one at pos_invalidation_bit behind the data bytes. */
+enum mf4_channel_type {
+    MF4_CHANNEL_FIXED_LENGTH = 0,
+    MF4_CHANNEL_VARIABLE_LENGTH = 1 /* the values are payloads in other blocks, which `data` links */
+};
+
+enum mf4_channel_flag {
+    MF4_CHANNEL_ALL_INVALID = 1,     /* every value is invalid                   */
+    MF4_CHANNEL_INVALIDATION_BIT = 2 /* a bit of each record tells if it is so   */
+};
+
+/* A channel's description, as its ##CN block has it. In C99, name the fields that you set, { .bit_offset = 4, .. }: the
+ * others are then 0, and none slips into another's place. */
 typedef struct mf4_channel {
-    uint8_t data_type;
-    uint8_t channel_type;
-    uint8_t bit_offset;
-    uint32_t byte_offset;
-    uint32_t bit_count;
-    uint32_t flags;
-    uint32_t pos_invalidation_bit;
-    uint64_t data;
+    uint8_t data_type;             /* a code of enum mf4_data_type                                                   */
+    uint8_t channel_type;          /* a code of enum mf4_channel_type, or another, which reads as a fixed length     */
+    uint8_t bit_offset;            /* 0 to 7: how far the field lies above the lowest bit of its bytes' number       */
+    uint32_t byte_offset;          /* where the field's bytes begin, counted from the byte behind the record id      */
+    uint32_t bit_count;            /* how wide the field is                                                          */
+    uint32_t flags;                /* of enum mf4_channel_flag                                                       */
+    uint32_t pos_invalidation_bit; /* which bit behind the data bytes, with MF4_CHANNEL_INVALIDATION_BIT             */
+    uint64_t data;                 /* the link to the payloads; 0 where there are none                               */
 } mf4_channel;
 
 enum mf4_kind {
-    MF4_NOTHING = 0,      /* on a refusal                                           */
-    MF4_UNSIGNED = 1,     /* unsigned_value                                         */
-    MF4_SIGNED = 2,       /* signed_value                                           */
-    MF4_DOUBLE = 3,       /* double_bits; mf4_double_of gives the double            */
-    MF4_TEXT = 4,         /* at, length: up to the text's stop, in the bytes given  */
-    MF4_BYTES = 5,        /* at, length                                             */
-    MF4_SAMPLE = 6,       /* at, length                                             */
-    MF4_STREAM = 7,       /* at, length                                             */
-    MF4_UNKNOWN = 8       /* a type without decoding here                           */
+    MF4_KIND_NOTHING = 0,  /* on a refusal                                                      */
+    MF4_KIND_UNSIGNED = 1, /* number                                                            */
+    MF4_KIND_SIGNED = 2,   /* number: the two's complement; mf4_signed_of gives the value       */
+    MF4_KIND_DOUBLE = 3,   /* number: the double's 64-bit pattern; mf4_double_of gives the value */
+    MF4_KIND_TEXT = 4,     /* at, length: up to the text's stop, in the bytes given             */
+    MF4_KIND_BYTES = 5,    /* at, length                                                        */
+    MF4_KIND_SAMPLE = 6,   /* at, length                                                        */
+    MF4_KIND_STREAM = 7,   /* at, length                                                        */
+    MF4_KIND_UNKNOWN = 8   /* a type without decoding here                                      */
 };
 
-typedef struct mf4_decoded {
-    uint32_t kind;
-    uint64_t unsigned_value;
-    int64_t signed_value;
-    uint64_t double_bits;
-    uint64_t at;
-    uint64_t length;
-} mf4_decoded;
-
+/* number, at and length are 0 where the kind has no use for them. */
 typedef struct mf4_value {
     uint32_t reply;
+    uint32_t kind;
     uint64_t told;
-    mf4_decoded value;
+    uint64_t number;
+    uint64_t at;
+    uint64_t length;
 } mf4_value;
 
+/* A value, and whether it is one: is_valid is 0 where the channel's flags or the record's bit say that it is not. */
 typedef struct mf4_valid_value {
     uint32_t reply;
+    uint32_t kind;
     uint64_t told;
-    mf4_decoded value;
+    uint64_t number;
+    uint64_t at;
+    uint64_t length;
     uint8_t is_valid;
 } mf4_valid_value;
+
+/* The value of a number of MF4_KIND_SIGNED. */
+static inline int64_t mf4_signed_of(uint64_t number)
+{
+    int64_t value;
+    memcpy(&value, &number, sizeof value);
+    return value;
+}
+
+/* The value of a number of MF4_KIND_DOUBLE, or of what mf4_decode_double gives. */
+static inline double mf4_double_of(uint64_t number)
+{
+    double value;
+    memcpy(&value, &number, sizeof value);
+    return value;
+}
 
 /* record_id_size: the bytes of the record id in front of each record. data_bytes: the bytes of channel data behind it; the
  * invalidation bits begin where they end. */
@@ -213,14 +276,6 @@ mf4_valid_value mf4_decode_valid_value(const uint8_t *record, size_t record_len,
  * for a payload, no value, or no number. */
 uint64_t mf4_decode_double(const uint8_t *record, size_t record_len, uint64_t record_id_size, mf4_channel channel);
 
-/* The double of a pattern. */
-static inline double mf4_double_of(uint64_t bits)
-{
-    double x;
-    memcpy(&x, &bits, sizeof x);
-    return x;
-}
-
 /* ---- texts ------------------------------------------------------------------------------------------------------ */
 
 /* damaged: the bytes are not well-formed, and a placeholder such as <Invalid UTF8> was written in their place. */
@@ -238,20 +293,61 @@ mf4_text mf4_text_utf8(const uint8_t *bytes, size_t bytes_len, uint8_t *out, siz
 mf4_text mf4_text_utf16_le(const uint8_t *bytes, size_t bytes_len, uint8_t *out, size_t out_len);
 mf4_text mf4_text_utf16_be(const uint8_t *bytes, size_t bytes_len, uint8_t *out, size_t out_len);
 
+/* The one of the four that a channel's data type asks for. Refuses with 256 where the type is no text, else with 6. */
+static inline mf4_text mf4_text_by_type(uint8_t data_type, const uint8_t *bytes, size_t bytes_len, uint8_t *out,
+                                        size_t out_len)
+{
+    const mf4_text no_text = { MF4_NO_TEXT_TYPE, 0, 0, 0 };
+    switch (data_type) {
+    case MF4_LATIN1: return mf4_text_latin1(bytes, bytes_len, out, out_len);
+    case MF4_UTF8: return mf4_text_utf8(bytes, bytes_len, out, out_len);
+    case MF4_UTF16_LE: return mf4_text_utf16_le(bytes, bytes_len, out, out_len);
+    case MF4_UTF16_BE: return mf4_text_utf16_be(bytes, bytes_len, out, out_len);
+    default: return no_text;
+    }
+}
+
+/* The room that suffices for every text of so many bytes, in each encoding and damaged or not, which is proved: twice the
+ * bytes, and at least the 17 of the longest placeholder. Where twice the bytes is no size_t: the largest one. */
+static inline size_t mf4_text_room(size_t bytes_len)
+{
+    const size_t largest = (size_t)-1, placeholder = 17;
+    if (bytes_len > largest / 2)
+        return largest;
+    return 2 * bytes_len > placeholder ? 2 * bytes_len : placeholder;
+}
+
 /* ---- records through a chain of data lists ---------------------------------------------------------------------- */
+
+/* A chain starts at the address `start` of the file, with a ##DL block; the data link of a ##DG block leads there. Its
+ * joined data is what its ##DT blocks hold behind their headers, end to end.
+ *
+ * Where that link leads to a single ##DT block instead, these calls refuse with 3, and no chain is needed: mf4_read_header
+ * at that address tells the id and block_len, and the data is the block after its first 24 bytes, provided that block_len
+ * is at least 24 and the file has that many bytes from there on. Record k stands at k * record size of it. */
+
+typedef struct mf4_length {
+    uint32_t reply;
+    uint64_t told;
+    uint64_t length;
+} mf4_length;
+
+/* The length of the joined data: length / record size records, and a tail of length % record size bytes, which is no
+ * record. Refuses with 7, then what the chain shows: 8, 11, 2, 3, 4, 10, 9, 12, 14, 13. */
+mf4_length mf4_data_length(const uint8_t *file, size_t file_len, uint64_t start);
 
 typedef struct mf4_fetched {
     uint32_t reply;
     uint64_t told;
 } mf4_fetched;
 
-/* Record `number` of the joined data of the chain that starts at the address `start` of the file: bytes
- * number * record_size up to (number + 1) * record_size, into the first record_size bytes of the buffer.
- * Refuses with 15, 7, then what the chain shows: 8, 11, 2, 3, 4, 10, 9, 12, 14, 13; then 16. */
+/* Record `number` of the joined data: bytes number * record_size up to (number + 1) * record_size, into the first
+ * record_size bytes of the buffer. Each call walks the chain, so fetch a record once and decode each channel from it.
+ * Refuses with 15, then as mf4_data_length, then with 16. */
 mf4_fetched mf4_read_record(const uint8_t *file, size_t file_len, uint64_t start, uint64_t number, uint64_t record_size,
                             uint8_t *buffer, size_t buffer_len);
 
-/* The record, and then a channel's value and validity in it. Refuses as mf4_read_record, then with 1, where the record
+/* The record, and then one channel's value and validity in it. Refuses as mf4_read_record, then with 1, where the record
  * stays in the buffer. */
 mf4_valid_value mf4_record_value(const uint8_t *file, size_t file_len, uint64_t start, uint64_t number,
                                  uint64_t record_size, uint64_t record_id_size, uint32_t data_bytes, mf4_channel channel,

@@ -135,19 +135,19 @@ def list_write_boundaries(rng):
     for links_count in (0, 1, 2, 3, 5):
         links = [edge_number(rng, U64) for _ in range(links_count)]
         for size in out_sizes(48 + 8 * links_count):
-            yield "write_list_equal", (out_buffer(rng, size), edge_number(rng, U64), links, edge_number(rng, U64))
+            yield "write_list_equal", (edge_number(rng, U64), links, edge_number(rng, U64), out_buffer(rng, size))
         for offsets_count in {max(0, links_count - 1), links_count, links_count + 1}:
             offsets = [edge_number(rng, U64) for _ in range(offsets_count)]
             for size in out_sizes(40 + 16 * links_count):
-                yield "write_list_variable", (out_buffer(rng, size), edge_number(rng, U64), links, offsets)
+                yield "write_list_variable", (edge_number(rng, U64), links, offsets, out_buffer(rng, size))
     for links_count in (4095, 4096, 4097):
         links = [rng.getrandbits(64) for _ in range(links_count)]
         for size in (0, 47 + 8 * links_count, 48 + 8 * links_count):
-            yield "write_list_equal", (bytes(size), rng.getrandbits(64), links, rng.getrandbits(64))
+            yield "write_list_equal", (rng.getrandbits(64), links, rng.getrandbits(64), bytes(size))
         for size in (0, 39 + 16 * links_count, 41 + 16 * links_count):
-            yield "write_list_variable", (bytes(size), rng.getrandbits(64), links, links[::-1])
-    yield "write_list_variable", (bytes(70000), 0, list(range(4096)), list(range(4097)))
-    yield "write_list_variable", (bytes(70000), 0, list(range(4096)), list(range(4095)))
+            yield "write_list_variable", (rng.getrandbits(64), links, links[::-1], bytes(size))
+    yield "write_list_variable", (0, list(range(4096)), list(range(4097)), bytes(70000))
+    yield "write_list_variable", (0, list(range(4096)), list(range(4095)), bytes(70000))
 
 
 def random_list_case(rng):
@@ -166,10 +166,10 @@ def random_list_case(rng):
         return "read_list", ((block + rng.randbytes(rng.choice([0, 0, 3])))[:cut],)
     if choice < 0.75:
         size = rng.choice(out_sizes(48 + 8 * links_count))
-        return "write_list_equal", (out_buffer(rng, size), fields["next"], fields["links"], edge_number(rng, U64))
+        return "write_list_equal", (fields["next"], fields["links"], edge_number(rng, U64), out_buffer(rng, size))
     size = rng.choice(out_sizes(40 + 16 * links_count))
     offsets = [edge_number(rng, U64) for _ in range(rng.choice([links_count] * 6 + [links_count + 1, 0]))]
-    return "write_list_variable", (out_buffer(rng, size), fields["next"], fields["links"], offsets)
+    return "write_list_variable", (fields["next"], fields["links"], offsets, out_buffer(rng, size))
 
 
 # ---- values ------------------------------------------------------------------------------------------------------------
@@ -460,6 +460,16 @@ def text_boundaries(rng):
                 yield call, (text, out_buffer(rng, size))
 
 
+def text_helper_boundaries(rng):
+    """The call by a type's code, also of types that are no text, and the room that always suffices."""
+    for code in range(256):
+        for text in (b"", b"A", b"\xe9\x00", b"\xd8\x00\xd8\x00"):
+            for size in (0, 1, 17):
+                yield "text_by_type", (code, text, out_buffer(rng, size))
+    for length in (*range(20), 2**32, 2**63 - 2, 2**63 - 1, 2**63, 2**63 + 1, U64 - 1, U64):
+        yield "text_room", (length,)
+
+
 def random_text_case(rng):
     call = rng.choice(list(TEXT_CALLS))
     kind = rng.random()
@@ -658,7 +668,9 @@ def record_buffer(rng, size):
 
 
 def chain_query(rng, file, start, joined_size, record_size=None, number=None):
-    """Asks a file for a record, or for a channel's value in it."""
+    """Asks a file for the length of its joined data, for a record, or for a channel's value in it."""
+    if rng.random() < 0.2:
+        return "data_length", (file, start)
     if record_size is None:
         fitting = rng.randint(1, min(12, joined_size)) if joined_size else 1
         record_size = rng.choice([1, 2, 3, 16, rng.randint(1, 12)] + 5 * [fitting])
@@ -845,20 +857,53 @@ def record_value_boundaries(rng):
             yield "record_value", (file, chain.start, number, 5, 1, 2, as_payload(rng, channel), b"\xee" * room)
 
 
+def asked_by_every_call(chain_cases):
+    """The same cases; and each chain that is asked for records is also asked once for its length and for a value."""
+    asked = None
+    for call, arguments in chain_cases:
+        yield call, arguments
+        if call == "read_record" and arguments[:2] != asked:
+            asked = arguments[:2]
+            yield "data_length", asked
+            yield "record_value", (*arguments[:4], 0, 0, Channel(bit_count=8), arguments[4])
+
+
 # ---- all of them -------------------------------------------------------------------------------------------------------
 
 BOUNDARIES = (header_boundaries, type_boundaries, list_read_boundaries, list_id_and_link_boundaries, list_write_boundaries,
               field_boundaries, place_boundaries, payload_boundaries, text_field_boundaries, validity_boundaries,
-              number_boundaries, text_boundaries, cut_boundaries, query_boundaries, long_file_boundaries, loop_boundaries,
-              order_boundaries, limit_boundaries, large_record_boundaries, record_value_boundaries)
+              number_boundaries, text_boundaries, text_helper_boundaries)
+
+CHAIN_BOUNDARIES = (cut_boundaries, query_boundaries, long_file_boundaries, loop_boundaries, order_boundaries,
+                    limit_boundaries, large_record_boundaries, record_value_boundaries)
 
 RANDOM_CASES = ([random_header_case] + [random_list_case] * 2 + [random_value_case] * 6 + [random_text_case] * 4
                 + [random_chain_case] * 5)
+
+# The replies of each call that has any, which the boundary cases reach. Reply 14 has no case: 4,096 fragments of at most
+# 2^40 bytes never pass 2^63-1.
+CHAIN_REPLIES = {0, 2, 3, 4, 7, 8, 9, 10, 11, 12, 13}
+REPLIES = {
+    "read_header": {0, 2},
+    "write_header": {0, 6},
+    "read_list": {0, 2, 3, 4},
+    "write_list_equal": {0, 5, 6},
+    "write_list_variable": {0, 5, 6},
+    "decode_value": {0, 1},
+    "decode_valid_value": {0, 1},
+    **{call: {0, 6} for call in TEXT_CALLS},
+    "text_by_type": {0, 6, 256},
+    "data_length": CHAIN_REPLIES,
+    "read_record": CHAIN_REPLIES | {15, 16},
+    "record_value": CHAIN_REPLIES | {1, 15, 16},
+}
 
 
 def boundary_cases(seed):
     for boundaries in BOUNDARIES:
         yield from boundaries(random.Random(f"{seed} {boundaries.__name__}"))
+    for boundaries in CHAIN_BOUNDARIES:
+        yield from asked_by_every_call(boundaries(random.Random(f"{seed} {boundaries.__name__}")))
 
 
 def random_cases(seed):

@@ -5,7 +5,7 @@
     check.py --self                                     the reference behind the line protocol, against itself
     check.py --serve                                    answers cases on standard input as the driver does
 
-Exit status: 0 if every result agrees, 1 on a difference, 2 if the driver cannot be run.
+Exit status: 0 if every result agrees and the boundary cases led to every reply, 1 if not, 2 if the driver cannot be run.
 """
 
 import argparse
@@ -76,6 +76,16 @@ class Tally:
             if sum(self.different.values()) <= MOST_SHOWN:
                 print(f"DIFFERENCE\n  case      {line}\n  reference {shown(expected)}\n  driver    {shown(found)}")
 
+    def replies_of(self, call):
+        """How often the reference gave each reply of a call that has replies."""
+        return {int(reply[6:]): count for (of, reply), count in self.replies.items()
+                if of == call and reply.startswith("reply=")}
+
+    def unreached(self):
+        """The replies that no case led to, in words."""
+        return [f"{call} {number}" for call, numbers in cases.REPLIES.items()
+                for number in sorted(numbers - self.replies_of(call).keys())]
+
     def report(self, show_replies):
         for call in protocol.CALLS:
             if self.compared[call]:
@@ -85,8 +95,7 @@ class Tally:
         print(f"{'all':20} {sum(self.compared.values()):8} compared {sum(self.different.values()):6} different")
 
     def report_replies(self, call):
-        numbers = {int(reply[6:]): count for (of, reply), count in self.replies.items()
-                   if of == call and reply.startswith("reply=")}
+        numbers = self.replies_of(call)
         if numbers:
             print("    replies " + ", ".join(f"{number}: {numbers[number]}" for number in sorted(numbers)))
 
@@ -154,7 +163,10 @@ def main():
         return 2
     tally.report(given.replies)
     print(f"seed {given.seed}, {time.time() - begun:.1f} s")
-    return 1 if tally.different else 0
+    unreached = [] if given.no_boundaries or given.only else tally.unreached()
+    if unreached:
+        print(f"replies that no case leads to: {', '.join(unreached)}")
+    return 1 if tally.different or unreached else 0
 
 
 if __name__ == "__main__":

@@ -281,12 +281,6 @@ static void print_number(const char *name, uint64_t number)
     separator = " ";
 }
 
-static void print_bits(const char *name, uint64_t bits)
-{
-    printf("%s%s=0x%016" PRIx64, separator, name, bits);
-    separator = " ";
-}
-
 static void print_reply(uint32_t reply, uint64_t told)
 {
     print_number("reply", reply);
@@ -299,16 +293,6 @@ static void print_header(mf4_block_header header)
     print_number("reserved0", header.reserved0);
     print_number("block_len", header.block_len);
     print_number("links_nr", header.links_nr);
-}
-
-static void print_decoded(mf4_decoded value)
-{
-    print_number("kind", value.kind);
-    print_number("unsigned_value", value.unsigned_value);
-    printf(" signed_value=%" PRId64, value.signed_value);
-    print_bits("double_bits", value.double_bits);
-    print_number("at", value.at);
-    print_number("length", value.length);
 }
 
 static void print_out(const slice *out)
@@ -329,11 +313,29 @@ static void print_written(mf4_written written, const slice *out)
     print_out(out);
 }
 
+static void print_value(mf4_value answer)
+{
+    print_number("reply", answer.reply);
+    print_number("kind", answer.kind);
+    print_number("told", answer.told);
+    print_number("number", answer.number);
+    print_number("at", answer.at);
+    print_number("length", answer.length);
+}
+
 static void print_valid_value(mf4_valid_value answer)
 {
-    print_reply(answer.reply, answer.told);
-    print_decoded(answer.value);
+    mf4_value value = { answer.reply, answer.kind, answer.told, answer.number, answer.at, answer.length };
+    print_value(value);
     print_number("is_valid", answer.is_valid);
+}
+
+static void print_text(mf4_text answer, const slice *out)
+{
+    print_reply(answer.reply, answer.told);
+    print_number("count", answer.count);
+    print_number("damaged", answer.damaged);
+    print_out(out);
 }
 
 /* ---- the calls -------------------------------------------------------------------------------------------------- */
@@ -395,26 +397,26 @@ static void read_list(void)
 
 static void write_list_equal(void)
 {
-    slice *out = next_output();
     uint64_t next = next_u64();
     slice *links = next_numbers();
     uint64_t length = next_u64();
+    slice *out = next_output();
     if (is_malformed)
         return;
-    print_written(mf4_write_list_equal(out->bytes, out->length, next, numbers_of(links), count_of_numbers(links), length),
+    print_written(mf4_write_list_equal(next, numbers_of(links), count_of_numbers(links), length, out->bytes, out->length),
                   out);
 }
 
 static void write_list_variable(void)
 {
-    slice *out = next_output();
     uint64_t next = next_u64();
     slice *links = next_numbers();
     slice *offsets = next_numbers();
+    slice *out = next_output();
     if (is_malformed)
         return;
-    print_written(mf4_write_list_variable(out->bytes, out->length, next, numbers_of(links), count_of_numbers(links),
-                                          numbers_of(offsets), count_of_numbers(offsets)),
+    print_written(mf4_write_list_variable(next, numbers_of(links), count_of_numbers(links), numbers_of(offsets),
+                                          count_of_numbers(offsets), out->bytes, out->length),
                   out);
 }
 
@@ -423,12 +425,9 @@ static void decode_value(void)
     slice *record = next_input();
     uint64_t record_id_size = next_u64();
     mf4_channel channel = next_channel();
-    mf4_value answer;
     if (is_malformed)
         return;
-    answer = mf4_decode_value(record->bytes, record->length, record_id_size, channel);
-    print_reply(answer.reply, answer.told);
-    print_decoded(answer.value);
+    print_value(mf4_decode_value(record->bytes, record->length, record_id_size, channel));
 }
 
 static void check_validity(void)
@@ -460,27 +459,52 @@ static void decode_double(void)
     mf4_channel channel = next_channel();
     if (is_malformed)
         return;
-    print_bits("answer", mf4_decode_double(record->bytes, record->length, record_id_size, channel));
+    print_number("answer", mf4_decode_double(record->bytes, record->length, record_id_size, channel));
 }
 
 static void text(mf4_text (*call)(const uint8_t *, size_t, uint8_t *, size_t))
 {
     slice *bytes = next_input();
     slice *out = next_output();
-    mf4_text answer;
     if (is_malformed)
         return;
-    answer = call(bytes->bytes, bytes->length, out->bytes, out->length);
-    print_reply(answer.reply, answer.told);
-    print_number("count", answer.count);
-    print_number("damaged", answer.damaged);
-    print_out(out);
+    print_text(call(bytes->bytes, bytes->length, out->bytes, out->length), out);
 }
 
 static void text_latin1(void) { text(mf4_text_latin1); }
 static void text_utf8(void) { text(mf4_text_utf8); }
 static void text_utf16_le(void) { text(mf4_text_utf16_le); }
 static void text_utf16_be(void) { text(mf4_text_utf16_be); }
+
+static void text_by_type(void)
+{
+    uint8_t data_type = next_u8();
+    slice *bytes = next_input();
+    slice *out = next_output();
+    if (is_malformed)
+        return;
+    print_text(mf4_text_by_type(data_type, bytes->bytes, bytes->length, out->bytes, out->length), out);
+}
+
+static void text_room(void)
+{
+    size_t length = (size_t)next_u64();
+    if (is_malformed)
+        return;
+    print_number("answer", mf4_text_room(length));
+}
+
+static void data_length(void)
+{
+    slice *file = next_input();
+    uint64_t start = next_u64();
+    mf4_length answer;
+    if (is_malformed)
+        return;
+    answer = mf4_data_length(file->bytes, file->length, start);
+    print_reply(answer.reply, answer.told);
+    print_number("length", answer.length);
+}
 
 static void read_record(void)
 {
@@ -533,6 +557,9 @@ static const struct {
     {"text_utf8", text_utf8},
     {"text_utf16_le", text_utf16_le},
     {"text_utf16_be", text_utf16_be},
+    {"text_by_type", text_by_type},
+    {"text_room", text_room},
+    {"data_length", data_length},
     {"read_record", read_record},
     {"record_value", record_value},
 };

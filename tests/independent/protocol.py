@@ -10,7 +10,7 @@ A case is a call's name and its arguments in the order of reference.py. As words
     header      4 numbers, channel: 8 numbers, in the order of their C structs
 
 A result is the fields of the C struct as name=number words in the order of mf4.h, a plain answer as answer=number, and
-the output buffer afterwards as out=x and hex digits. Bits of doubles are 0x and 16 hex digits.
+the output buffer afterwards as out=x and hex digits.
 """
 
 import reference
@@ -44,8 +44,8 @@ CALLS = {
     "type_code": (reference.type_code, (NUMBER,)),
     "default_bits": (reference.default_bits, (NUMBER,)),
     "read_list": (reference.read_list, (BYTES,)),
-    "write_list_equal": (reference.write_list_equal, (BYTES, NUMBER, NUMBERS, NUMBER)),
-    "write_list_variable": (reference.write_list_variable, (BYTES, NUMBER, NUMBERS, NUMBERS)),
+    "write_list_equal": (reference.write_list_equal, (NUMBER, NUMBERS, NUMBER, BYTES)),
+    "write_list_variable": (reference.write_list_variable, (NUMBER, NUMBERS, NUMBERS, BYTES)),
     "decode_value": (reference.decode_value, ON_RECORD),
     "check_validity": (reference.check_validity, ON_RECORD_WITH_VALIDITY),
     "decode_valid_value": (reference.decode_valid_value, ON_RECORD_WITH_VALIDITY),
@@ -54,6 +54,9 @@ CALLS = {
     "text_utf8": (reference.text_utf8, ON_TEXT),
     "text_utf16_le": (reference.text_utf16_le, ON_TEXT),
     "text_utf16_be": (reference.text_utf16_be, ON_TEXT),
+    "text_by_type": (reference.text_by_type, (NUMBER, BYTES, BYTES)),
+    "text_room": (reference.text_room, (NUMBER,)),
+    "data_length": (reference.data_length, (BYTES, NUMBER)),
     "read_record": (reference.read_record, (BYTES, NUMBER, NUMBER, NUMBER, BYTES)),
     "record_value": (reference.record_value,
                      (BYTES, NUMBER, NUMBER, NUMBER, NUMBER, NUMBER, CHANNEL, BYTES)),
@@ -135,8 +138,6 @@ def field_words(struct):
     for name, field in zip(struct._fields, struct):
         if isinstance(field, tuple):
             words.extend(field_words(field))
-        elif name == "double_bits":
-            words.append(f"double_bits=0x{field:016x}")
         else:
             words.append(f"{name}={field}")
     return words
@@ -144,8 +145,6 @@ def field_words(struct):
 
 def result_line(call, arguments):
     result = CALLS[call][0](*arguments)
-    if call == "decode_double":
-        return f"answer=0x{result:016x}"
     if isinstance(result, int):
         return f"answer={result}"
     if hasattr(result, "_fields"):

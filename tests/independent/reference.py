@@ -40,6 +40,7 @@ UNTRUE_DECLARATION = 13
 DATA_TOO_LONG = 14
 BAD_RECORD_SIZE = 15
 NO_SUCH_RECORD = 16
+NO_TEXT_TYPE = 256  # of a helper of mf4.h, not of the library
 
 
 class Refusal(Exception):
@@ -101,25 +102,23 @@ class Channel(NamedTuple):
     data: int = 0
 
 
-class Decoded(NamedTuple):
+class Value(NamedTuple):
+    """number: an unsigned integer, the two's complement of a signed one, or a double's bits."""
+    reply: int = ANSWER
     kind: int = 0
-    unsigned_value: int = 0
-    signed_value: int = 0
-    double_bits: int = 0
+    told: int = 0
+    number: int = 0
     at: int = 0
     length: int = 0
 
 
-class Value(NamedTuple):
-    reply: int = ANSWER
-    told: int = 0
-    value: Decoded = Decoded()
-
-
 class ValidValue(NamedTuple):
     reply: int = ANSWER
+    kind: int = 0
     told: int = 0
-    value: Decoded = Decoded()
+    number: int = 0
+    at: int = 0
+    length: int = 0
     is_valid: int = 0
 
 
@@ -128,6 +127,12 @@ class Text(NamedTuple):
     told: int = 0
     count: int = 0
     damaged: int = 0
+
+
+class Length(NamedTuple):
+    reply: int = ANSWER
+    told: int = 0
+    length: int = 0
 
 
 class Fetched(NamedTuple):
@@ -248,7 +253,7 @@ def list_bytes(next_list, links, flags, rest):
             + flags_and_count + b"".join(little_bytes(number, 8) for number in rest))
 
 
-def write_list(out, unwritable, next_list, links, flags, rest):
+def write_list(unwritable, next_list, links, flags, rest, out):
     try:
         refuse_if(unwritable, UNWRITABLE_LIST)
         content = list_bytes(next_list, links, flags, rest)
@@ -257,13 +262,13 @@ def write_list(out, unwritable, next_list, links, flags, rest):
         return Written(refusal.number, refusal.told), out
 
 
-def write_list_equal(out, next_list, links, length):
-    return write_list(out, len(links) > MOST_FRAGMENTS, next_list, links, 1, [length])
+def write_list_equal(next_list, links, length, out):
+    return write_list(len(links) > MOST_FRAGMENTS, next_list, links, 1, [length], out)
 
 
-def write_list_variable(out, next_list, links, offsets):
+def write_list_variable(next_list, links, offsets, out):
     unwritable = len(links) > MOST_FRAGMENTS or len(links) != len(offsets)
-    return write_list(out, unwritable, next_list, links, 0, offsets)
+    return write_list(unwritable, next_list, links, 0, offsets, out)
 
 
 # ---- doubles -----------------------------------------------------------------------------------------------------------
@@ -341,11 +346,16 @@ def number_of(span_bytes, channel):
     order = "big" if channel.data_type in BIG_ENDIAN_NUMBERS else "little"
     field = int.from_bytes(span_bytes, order) // 2**channel.bit_offset % 2**channel.bit_count
     if channel.data_type in (UNSIGNED_LE, UNSIGNED_BE):
-        return Decoded(UNSIGNED_KIND, unsigned_value=field)
+        return Value(kind=UNSIGNED_KIND, number=field)
     if channel.data_type in (SIGNED_LE, SIGNED_BE):
         is_negative = field >= 2**(channel.bit_count - 1)
-        return Decoded(SIGNED_KIND, signed_value=field - 2**channel.bit_count if is_negative else field)
-    return Decoded(DOUBLE_KIND, double_bits=widened(field) if channel.bit_count == 32 else field)
+        return Value(kind=SIGNED_KIND, number=(field - 2**channel.bit_count if is_negative else field) % 2**64)
+    return Value(kind=DOUBLE_KIND, number=widened(field) if channel.bit_count == 32 else field)
+
+
+def signed_of(number):
+    """The value of a number of the signed kind."""
+    return number - 2**64 if number >= 2**63 else number
 
 
 def length_up_to_stop(field, encoding):
@@ -364,17 +374,17 @@ def value_of(record, id_size, channel):
     if channel.data_type in NUMBERS:
         return number_of(field, channel)
     if channel.data_type in TEXTS:
-        return Decoded(TEXT_KIND, at=place, length=length_up_to_stop(field, channel.data_type))
+        return Value(kind=TEXT_KIND, at=place, length=length_up_to_stop(field, channel.data_type))
     if channel.data_type in PLAIN_BYTES:
-        return Decoded(KIND_OF_PLAIN_BYTES[channel.data_type], at=place, length=span)
-    return Decoded(UNKNOWN_KIND)
+        return Value(kind=KIND_OF_PLAIN_BYTES[channel.data_type], at=place, length=span)
+    return Value(kind=UNKNOWN_KIND)
 
 
 def decode_value(record, id_size, channel):
     try:
-        return Value(value=value_of(record, id_size, channel))
+        return value_of(record, id_size, channel)
     except Refusal as refusal:
-        return Value(refusal.number, refusal.told)
+        return Value(refusal.number, told=refusal.told)
 
 
 def check_validity(record, id_size, data_bytes, channel):
@@ -389,23 +399,21 @@ def check_validity(record, id_size, data_bytes, channel):
 
 
 def decode_valid_value(record, id_size, data_bytes, channel):
-    try:
-        value = value_of(record, id_size, channel)
-        return ValidValue(value=value, is_valid=check_validity(record, id_size, data_bytes, channel))
-    except Refusal as refusal:
-        return ValidValue(refusal.number, refusal.told)
+    value = decode_value(record, id_size, channel)
+    is_valid = check_validity(record, id_size, data_bytes, channel) if value.reply == ANSWER else 0
+    return ValidValue(*value, is_valid)
 
 
 def decode_double(record, id_size, channel):
     if is_variable_length(channel):
         return NAN  # even where the payload holds a number
-    value = decode_value(record, id_size, channel).value
+    value = decode_value(record, id_size, channel)
     if value.kind == UNSIGNED_KIND:
-        return nearest_double(value.unsigned_value)
+        return nearest_double(value.number)
     if value.kind == SIGNED_KIND:
-        return nearest_double(value.signed_value)
+        return nearest_double(signed_of(value.number))
     if value.kind == DOUBLE_KIND:
-        return value.double_bits
+        return value.number
     return NAN
 
 
@@ -529,6 +537,16 @@ def text_utf16_be(text, out):
     return text_as_utf8(text, UTF16_BE, out)
 
 
+def text_by_type(data_type, text, out):
+    if data_type not in TEXTS:
+        return Text(NO_TEXT_TYPE), out
+    return text_as_utf8(text, data_type, out)
+
+
+def text_room(length):
+    return min(max(2 * length, 17), LARGEST)
+
+
 # ---- from chain to record ----------------------------------------------------------------------------------------------
 
 
@@ -570,10 +588,11 @@ def is_declared_truly(read, declared, index, data_before, data):
 
 
 def joined_data(file, start):
-    """The data of the chain's fragments, joined in chain order.
+    """The data of the chain's fragments, joined in chain order; refused with 7 first.
 
     Only a next link of 0 ends the chain: a list that links back to itself is read again, until a limit is passed.
     """
+    refuse_if(len(file) > MOST_FILE_BYTES, FILE_TOO_LONG)
     joined = bytearray()
     lists, fragments, address = 0, 0, start
     while True:
@@ -593,9 +612,15 @@ def joined_data(file, start):
         address = read.next
 
 
+def data_length(file, start):
+    try:
+        return Length(length=len(joined_data(file, start)))
+    except Refusal as refusal:
+        return Length(refusal.number, refusal.told)
+
+
 def record_of(file, start, number, record_size, buffer_size):
     refuse_if(record_size == 0 or record_size > MOST_RECORD_BYTES or buffer_size < record_size, BAD_RECORD_SIZE)
-    refuse_if(len(file) > MOST_FILE_BYTES, FILE_TOO_LONG)
     joined = joined_data(file, start)
     refuse_if((number + 1) * record_size > len(joined), NO_SUCH_RECORD)
     return joined[number * record_size:(number + 1) * record_size]
@@ -611,6 +636,6 @@ def read_record(file, start, number, record_size, buffer):
 def record_value(file, start, number, record_size, id_size, data_bytes, channel, buffer):
     fetched, after = read_record(file, start, number, record_size, buffer)
     if fetched.reply != ANSWER:
-        return ValidValue(fetched.reply, fetched.told), after
+        return ValidValue(fetched.reply, told=fetched.told), after
     # The field is read from the record's bytes alone, and the record stays even if its field is refused.
     return decode_valid_value(after[:record_size], id_size, data_bytes, channel), after

@@ -55,16 +55,12 @@ def reply_words(reply, answer):
 
 
 def value_words(value):
-    content = {
-        1: (value.unsigned_value, 0),
-        2: (value.signed_value, 0),
-        3: (value.double_bits, 0),
-    }.get(value.kind, (value.at, value.length))
-    return number_words(value.kind, *content)
+    has_number = value.kind in (reference.UNSIGNED_KIND, reference.SIGNED_KIND, reference.DOUBLE_KIND)
+    return number_words(value.kind, *((value.number, 0) if has_number else (value.at, value.length)))
 
 
 def valid_value_words(reply):
-    return reply_words(reply, lambda r: value_words(r.value) + number_words(r.is_valid))
+    return reply_words(reply, lambda r: value_words(r) + number_words(r.is_valid))
 
 
 def written_words(outcome):
@@ -98,12 +94,12 @@ def list_read_answer(words):
 
 def list_write_equal_answer(words):
     out, next_list, length = words.buffer(), words.number(), words.number()
-    return written_words(reference.write_list_equal(out, next_list, words.numbers(), length))
+    return written_words(reference.write_list_equal(next_list, words.numbers(), length, out))
 
 
 def list_write_variable_answer(words):
     out, next_list, links = words.buffer(), words.number(), words.numbers()
-    return written_words(reference.write_list_variable(out, next_list, links, words.numbers()))
+    return written_words(reference.write_list_variable(next_list, links, words.numbers(), out))
 
 
 def field(words):
@@ -112,7 +108,7 @@ def field(words):
 
 def value_answer(words):
     record, id_size, _, channel = field(words)
-    return reply_words(reference.decode_value(record, id_size, channel), lambda r: value_words(r.value))
+    return reply_words(reference.decode_value(record, id_size, channel), value_words)
 
 
 def validity_answer(words):

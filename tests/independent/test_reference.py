@@ -9,7 +9,7 @@ from fractions import Fraction
 import cases
 import protocol
 import reference as r
-from reference import Channel, Decoded, Header
+from reference import Channel, Header, Value
 
 failures = 0
 
@@ -37,17 +37,17 @@ def field(data_type, bit_count, bit_offset=0, byte_offset=0, **others):
 
 
 def unsigned(record, channel):
-    return value(record, channel).unsigned_value
+    return value(record, channel).number
 
 
 def signed(record, channel):
-    return value(record, channel).signed_value
+    return r.signed_of(value(record, channel).number)
 
 
 def value(record, channel):
     answer = r.decode_value(record, 0, channel)
     check(f"{channel} is answered", (answer.reply, answer.told), (0, 0))
-    return answer.value
+    return answer
 
 
 def double_of(bits):
@@ -58,15 +58,15 @@ def bits_of(double):
     return struct.unpack("<Q", struct.pack("<d", double))[0]
 
 
-NOTHING = r.Value(1, 0, Decoded())
+NOTHING = Value(1)
 
 # ---- the document's examples -------------------------------------------------------------------------------------------
 
 
 def example_integers():
     record = hexed("34 12")
-    check("unsigned LE", value(record, field(r.UNSIGNED_LE, 16)), Decoded(r.UNSIGNED_KIND, unsigned_value=4660))
-    check("unsigned BE", value(record, field(r.UNSIGNED_BE, 16)), Decoded(r.UNSIGNED_KIND, unsigned_value=13330))
+    check("unsigned LE", value(record, field(r.UNSIGNED_LE, 16)), Value(kind=r.UNSIGNED_KIND, number=4660))
+    check("unsigned BE", value(record, field(r.UNSIGNED_BE, 16)), Value(kind=r.UNSIGNED_KIND, number=13330))
     check("8 bits from bit 4 LE", unsigned(record, field(r.UNSIGNED_LE, 8, 4)), 35)
     check("8 bits from bit 4 BE", unsigned(record, field(r.UNSIGNED_BE, 8, 4)), 65)
     for digits, wanted in (("F0", -1), ("80", -8), ("70", 7)):
@@ -75,14 +75,14 @@ def example_integers():
     check("signed 1 bit", signed(hexed("01"), field(r.SIGNED_LE, 1)), -1)
     nine = bytes(8) + b"\x0f"
     check("64 bits in 9 bytes", value(nine, field(r.SIGNED_LE, 64, 4)),
-          Decoded(r.SIGNED_KIND, signed_value=-1152921504606846976))
+          Value(kind=r.SIGNED_KIND, number=2**64 - 1152921504606846976))
     check("64 bits in 8 bytes", r.decode_value(nine[:8], 0, field(r.SIGNED_LE, 64, 4)), NOTHING)
 
 
 def example_floats():
-    check("1.0", value(hexed("00 00 80 3F"), field(r.FLOAT_LE, 32)), Decoded(r.DOUBLE_KIND, double_bits=bits_of(1.0)))
+    check("1.0", value(hexed("00 00 80 3F"), field(r.FLOAT_LE, 32)), Value(kind=r.DOUBLE_KIND, number=bits_of(1.0)))
     check("smallest single", value(hexed("01 00 00 00"), field(r.FLOAT_LE, 32)),
-          Decoded(r.DOUBLE_KIND, double_bits=0x36A0000000000000))
+          Value(kind=r.DOUBLE_KIND, number=0x36A0000000000000))
     check("float of 16 bits", r.decode_value(hexed("00 00 80 3F"), 0, field(r.FLOAT_LE, 16)), NOTHING)
 
 
@@ -94,9 +94,9 @@ def example_doubles():
 
 def example_texts():
     serial = hexed("50 58 31 00 39")
-    check("Latin-1 stops at NUL", value(serial, field(r.LATIN1, 40)), Decoded(r.TEXT_KIND, at=0, length=3))
+    check("Latin-1 stops at NUL", value(serial, field(r.LATIN1, 40)), Value(kind=r.TEXT_KIND, at=0, length=3))
     for data_type in r.TEXTS:
-        check("7 bits at the end", value(b"ab", field(data_type, 7, 0, 2)), Decoded(r.TEXT_KIND, at=2, length=0))
+        check("7 bits at the end", value(b"ab", field(data_type, 7, 0, 2)), Value(kind=r.TEXT_KIND, at=2, length=0))
         check("7 bits past the end", r.decode_value(b"ab", 0, field(data_type, 7, 0, 3)), NOTHING)
     check("UTF-16 with an odd byte", r.text_utf16_le(hexed("41 00 42"), b"...."), (r.Text(count=1), b"A..."))
     check("half a pair", r.text_utf16_le(hexed("00 D8"), b"." * 18), (r.Text(count=17, damaged=1), b"<Invalid UTF16LE>."))
@@ -109,7 +109,7 @@ def example_validity():
         channel = field(r.UNSIGNED_LE, 16, flags=flags, pos_invalidation_bit=position)
         check(f"validity, flags {flags}, position {position}", r.check_validity(record, 0, 2, channel), wanted)
         check("both", r.decode_valid_value(record, 0, 2, channel),
-              r.ValidValue(value=Decoded(r.UNSIGNED_KIND, unsigned_value=4660), is_valid=wanted))
+              r.ValidValue(kind=r.UNSIGNED_KIND, number=4660, is_valid=wanted))
 
 
 def example_lists():
@@ -122,8 +122,8 @@ def example_lists():
           r.ListReply(header=Header(id_number, 0, 40, 1), links_at=32, links=0, rest_at=40, rest=0))
     check("one length", r.read_list(one_link(1)), r.ListReply(2, 48))
     check("very many links", r.read_list(one_link(0, 2**64 - 1)), r.ListReply(2, 18446744073709551615))
-    equal, equal_bytes = r.write_list_equal(bytes(100), 0, [100, 200], 5)
-    variable, variable_bytes = r.write_list_variable(bytes(100), 0, [100, 200], [0, 5])
+    equal, equal_bytes = r.write_list_equal(0, [100, 200], 5, bytes(100))
+    variable, variable_bytes = r.write_list_variable(0, [100, 200], [0, 5], bytes(100))
     check("two links with one length", equal, r.Written(count=64))
     check("two links with offsets", variable, r.Written(count=72))
     check("one length, in bytes", equal_bytes[:64],
@@ -143,7 +143,7 @@ def example_chain():
         check("record 1", r.read_record(chain.file(), chain.start, 1, 2, b"..."), (r.Fetched(), hexed("03 04") + b"."))
         check("record 3", r.read_record(chain.file(), chain.start, 3, 2, b".."), (r.Fetched(16), b".."))
         check("field of record 1", r.record_value(chain.file(), chain.start, 1, 2, 0, 2, field(r.UNSIGNED_LE, 16), b".."),
-              (r.ValidValue(value=Decoded(r.UNSIGNED_KIND, unsigned_value=0x0403), is_valid=1), hexed("03 04")))
+              (r.ValidValue(kind=r.UNSIGNED_KIND, number=0x0403, is_valid=1), hexed("03 04")))
         check("refused field of record 1", r.record_value(chain.file(), chain.start, 1, 2, 1, 2, field(0, 16), b".."),
               (r.ValidValue(1), hexed("03 04")))
 
@@ -167,15 +167,15 @@ def rules_of_headers():
 
 def rules_of_writing():
     for links, offsets in (([1], []), ([], [1]), ([0] * 4097, [0] * 4097)):
-        check("unwritable before no room", r.write_list_variable(b"", 0, links, offsets), (r.Written(5), b""))
-    check("too many links", r.write_list_equal(b"", 0, [0] * 4097, 0), (r.Written(5), b""))
-    check("no room", r.write_list_equal(b"\7", 0, [0] * 4096, 0), (r.Written(6, 48 + 8 * 4096), b"\7"))
+        check("unwritable before no room", r.write_list_variable(0, links, offsets, b""), (r.Written(5), b""))
+    check("too many links", r.write_list_equal(0, [0] * 4097, 0, b""), (r.Written(5), b""))
+    check("no room", r.write_list_equal(0, [0] * 4096, 0, b"\7"), (r.Written(6, 48 + 8 * 4096), b"\7"))
     rng = random.Random(2)
     for _ in range(300):
         links = [rng.getrandbits(64) for _ in range(rng.randint(0, 6))]
         offsets = [rng.getrandbits(64) for _ in links]
         next_list = rng.getrandbits(64)
-        written, out = r.write_list_variable(bytes(200), next_list, links, offsets)
+        written, out = r.write_list_variable(next_list, links, offsets, bytes(200))
         read = r.read_list(out[:written.count])
         check("what was written reads back", (read.reply, read.next, read.flags, read.data_block_nr, read.header.block_len),
               (0, next_list, 0, len(links), written.count))
@@ -186,20 +186,30 @@ def rules_of_writing():
 def rules_of_values():
     payload = Channel(r.UNSIGNED_LE, 1, 4, 99, 8, data=7)
     check("payload number", r.decode_value(hexed("34 12"), 2**64 - 1, payload),
-          r.Value(value=Decoded(r.UNSIGNED_KIND, unsigned_value=0x23)))
+          Value(kind=r.UNSIGNED_KIND, number=0x23))
     check("payload number too short", r.decode_value(hexed("34"), 0, payload), NOTHING)
     check("payload as a double", r.decode_double(hexed("34 12"), 0, payload), r.NAN)
     check("payload text", r.decode_value(b"abc", 5, payload._replace(data_type=r.UTF8, bit_count=0)),
-          r.Value(value=Decoded(r.TEXT_KIND, at=0, length=3)))
+          Value(kind=r.TEXT_KIND, at=0, length=3))
     check("no payload without a data link", r.decode_value(b"abc", 5, payload._replace(data=0)), NOTHING)
     check("sum past 2^64", r.decode_value(b"abc", 2**64 - 1, field(0, 8, 0, 1)), NOTHING)
     check("65 bits", r.decode_value(bytes(20), 0, field(0, 65)), NOTHING)
-    check("unknown type", r.decode_value(b"a", 0, field(99, 0)), r.Value(value=Decoded(r.UNKNOWN_KIND)))
+    check("unknown type", r.decode_value(b"a", 0, field(99, 0)), Value(kind=r.UNKNOWN_KIND))
     check("unknown type past the end", r.decode_value(b"", 0, field(99, 0)), NOTHING)
-    check("64-bit NaN keeps its bits", value(hexed("01 00 00 00 00 00 f0 7f"), field(r.FLOAT_LE, 64)).double_bits,
+    check("64-bit NaN keeps its bits", value(hexed("01 00 00 00 00 00 f0 7f"), field(r.FLOAT_LE, 64)).number,
           0x7FF0000000000001)
-    check("32-bit NaN", value(hexed("ff ff ff ff"), field(r.FLOAT_LE, 32)).double_bits, r.NAN)
+    check("32-bit NaN", value(hexed("ff ff ff ff"), field(r.FLOAT_LE, 32)).number, r.NAN)
     check("text as a double", r.decode_double(b"1", 0, field(r.UTF8, 8)), r.NAN)
+
+
+def rules_of_text_helpers():
+    for code, call in zip(r.TEXTS, (r.text_latin1, r.text_utf8, r.text_utf16_le, r.text_utf16_be)):
+        check(f"text of type {code}", r.text_by_type(code, b"\xe9A", bytes(17)), call(b"\xe9A", bytes(17)))
+    for code in set(range(256)) - set(r.TEXTS):
+        check(f"no text of type {code}", r.text_by_type(code, b"A", b"."), (r.Text(256), b"."))
+    check("room", [r.text_room(length) for length in (0, 8, 9, 2**63 - 1, 2**63)], [17, 17, 18, 2**64 - 2, 2**64 - 1])
+    for call, (text, _out) in cases.text_boundaries(random.Random(10)):
+        check(f"room of {call} {text.hex()}", getattr(r, call)(text, bytes(r.text_room(len(text))))[0].reply, 0)
 
 
 def rules_of_chains():
@@ -207,7 +217,14 @@ def rules_of_chains():
     def asked(fault, number=0, size=1, room=1, start=None, is_equal=False):
         chain = cases.Chain(random.Random(3), [b"\1\2", b"\3\4", b"\5"], [([0, 1], is_equal), ([2], is_equal)])
         fault(chain)
-        return tuple(r.read_record(chain.file(), chain.start if start is None else start, number, size, bytes(room))[0])
+        file, asked_start = chain.file(), chain.start if start is None else start
+        fetched = r.read_record(file, asked_start, number, size, bytes(room))[0]
+        length = r.data_length(file, asked_start)
+        if fetched.reply in (0, 16):
+            check("length of an accepted chain", length, r.Length(length=5))
+        elif fetched.reply != 15:
+            check("length of a refused chain", length, r.Length(*fetched))
+        return tuple(fetched)
 
     def no_fault(_chain):
         pass
@@ -244,6 +261,8 @@ def rules_of_chains():
     check("number that would wrap", asked(no_fault, number=2**63, size=2, room=2), (16, 0))
     check("long file", r.read_record(protocol.LongFile(2**40 + 1), 0, 0, 1, bytes(1))[0], r.Fetched(7))
     check("longest file", r.read_record(protocol.LongFile(2**40), 0, 0, 1, bytes(1))[0], r.Fetched(11))
+    check("length of a long file", r.data_length(protocol.LongFile(2**40 + 1), 0), r.Length(7))
+    check("length of the longest file", r.data_length(protocol.LongFile(2**40), 0), r.Length(11))
 
 
 # ---- vectors from outside ----------------------------------------------------------------------------------------------
@@ -318,8 +337,9 @@ def python_integers():
         wanted = int(digits, 2)
         if data_type in (2, 3) and digits[0] == "1":
             wanted = -int("".join("10"[int(digit)] for digit in digits), 2) - 1
-        answer = value(record, field(data_type, bit_count, bit_offset))
-        check(f"{record.hex()} {data_type} {bit_offset} {bit_count}", answer.unsigned_value + answer.signed_value, wanted)
+        read = signed if data_type in (2, 3) else unsigned
+        check(f"{record.hex()} {data_type} {bit_offset} {bit_count}", read(record, field(data_type, bit_count, bit_offset)),
+              wanted)
 
 
 def python_text(text, call):
@@ -365,6 +385,7 @@ def joined_equal_chains():
             split = rng.randint(0, len(blocks))
             chain = cases.Chain(rng, blocks, [(list(range(split)), False), (list(range(split, len(blocks))), False)])
             check("record", r.read_record(chain.file(), chain.start, number, size, b"." * (size + 1)), wanted)
+            check("length", r.data_length(chain.file(), chain.start), r.Length(length=len(data)))
 
 
 def lines_read_back():
@@ -387,6 +408,7 @@ def main():
     section("rules of headers", rules_of_headers)
     section("rules of writing lists", rules_of_writing)
     section("rules of values", rules_of_values)
+    section("rules of the helpers for texts", rules_of_text_helpers)
     section("rules of chains", rules_of_chains)
     section("IEEE 754 vectors", outside_doubles)
     section("Unicode vectors", outside_unicode)

@@ -7,7 +7,7 @@ use Rattle.definitions.specs.Chain.{Block}
 use Rattle.definitions.proofs.Replies.{one-by}
 use Rattle.refusals.proofs.Back.{refusalOf, back}
 use Rattle.chain.specs.Meaning.{blockReply, chainReply, recordReply, fetchedBy}
-use Rattle.chain.specs.Walk.{Found, aBlock, aList, theEnd, stepReply}
+use Rattle.chain.specs.Walk.{Onward, aList, theEnd, nextReply}
 use Rattle.chain.specs.declared.block.DataBlock.{DataBlock}
 use Rattle.chain.specs.declared.block.BlockRead.{BlockRead}
 use Rattle.chain.specs.declared.block.BlockRead.the-variants.{Block as ABlock, Refused as NoBlock}
@@ -15,8 +15,8 @@ use Rattle.chain.specs.declared.acceptance.ChainRead.{ChainRead}
 use Rattle.chain.specs.declared.acceptance.ChainRead.the-variants.{Whole, Refused as NoChain}
 use Rattle.chain.specs.declared.record.RecordRead.{RecordRead}
 use Rattle.chain.specs.declared.record.RecordRead.the-variants.{Record, Refused as NoRecord}
-use Rattle.chain.specs.declared.step.Step.{Step}
-use Rattle.chain.specs.declared.step.Step.the-variants.{Data, Moved, End, Refused as NoStep}
+use Rattle.chain.specs.declared.next.NextRead.{NextRead}
+use Rattle.chain.specs.declared.next.NextRead.the-variants.{List as AList, End, Refused as NoList}
 
 -- ---- a data block
 
@@ -34,22 +34,20 @@ block-back (NoBlock r) = ap NoBlock (back r)
 pub block-one : (a b : BlockRead) → blockReply a ≡ blockReply b → a ≡ b
 block-one = one-by blockReply blockAgain block-back
 
--- ---- a step
+-- ---- the next list
 
-abbrev pub stepAgain : Reply Found → Step
-stepAgain (answer (aBlock b p)) = Data (blockMeaning b) p
-stepAgain (answer (aList p)) = Moved p
-stepAgain (answer (theEnd n)) = End (record { 0 = n })
-stepAgain (refusal n t) = NoStep (refusalOf n t)
+abbrev pub nextAgain : Reply Onward → NextRead
+nextAgain (answer (aList p)) = AList p
+nextAgain (answer (theEnd n)) = End (record { 0 = n })
+nextAgain (refusal n t) = NoList (refusalOf n t)
 
-pub step-back : (r : Step) → stepAgain (stepReply r) ≡ r
-step-back (Data b p) = refl
-step-back (Moved p) = refl
-step-back (End q) = refl
-step-back (NoStep r) = ap NoStep (back r)
+pub next-back : (r : NextRead) → nextAgain (nextReply r) ≡ r
+next-back (AList p) = refl
+next-back (End q) = refl
+next-back (NoList r) = ap NoList (back r)
 
-pub step-one : (a b : Step) → stepReply a ≡ stepReply b → a ≡ b
-step-one = one-by stepReply stepAgain step-back
+pub next-one : (a b : NextRead) → nextReply a ≡ nextReply b → a ≡ b
+next-one = one-by nextReply nextAgain next-back
 
 -- ---- the chain
 

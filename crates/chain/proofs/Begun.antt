@@ -7,10 +7,11 @@ use native.Mathlib.Omega.{arith}
 use lib.ListN.{length, take, drop, length-append, length-drop}
 use lib.Seq.{take-append-le, drop-append-le}
 use lib.Dec.{eqb}
-use Rattle.definitions.specs.Reply.{answer, if_then_else_}
+use Rattle.definitions.specs.Reply.{answer, if_then_else_, andThen}
 use Rattle.definitions.specs.DataList.{DataList}
-use Rattle.definitions.specs.Chain.{Block, joined, fragmentOf, fragments, listAt, lists, chainOf}
-use Rattle.chain.specs.Walk.{listsFrom}
+use Rattle.definitions.specs.Chain.{Block, listLimit, joined, fragmentOf, fragments, listAt, lists, chainOf}
+use Rattle.chain.specs.Walk.{ended, listFrom, listsBehind, chainFrom}
+use Rattle.chain.specs.declared.place.Place.{Place}
 use Rattle.chain.specs.Window.{laid, joinedOf}
 use Rattle.definitions.proofs.Replies.{not-answered}
 use Rattle.chain.proofs.Answers.{followed, answered}
@@ -51,15 +52,20 @@ module _ (id f : List ℕ) where
       (on-begin k (d .next) (eqb (d .next) 0) (g .0) all (lists-begin k (d .next) (g .0) all) (g .2))
 
   -- from any place of the walk on
-  from-begin : (k a n i : ℕ) (before all : List Block) → listsFrom id f k a n i before ≡ answer all → Begins before all
-  unfolding listsFrom
-  from-begin zero a n i before all e = not-answered all 8 0 e
-  from-begin (suc k) a n i before all e =
-      let l = followed (listAt f n a) _ all e in
-      let d : DataList = l .0 in
-      let g = followed (fragments id f (drop a f) d i (d .links - i) before) _ all (l .2) in
-      joint before (g .0) all (fragments-begin (drop a f) d i (d .links - i) before (g .0) (g .1))
-      (on-begin k (d .next) (eqb (d .next) 0) (g .0) all (lists-begin k (d .next) (g .0) all) (g .2))
+  list-begin : (p : Place) (t : Bool) (before all : List Block)
+      → (if t then answer before else andThen (listAt f (p .fragments) (p .list .address .0))
+      (λ d. fragments id f (drop (p .list .address .0) f) d (p .index) (d .links - p .index) before)) ≡ answer all → Begins before all
+  list-begin p true before all e = ([], sym (answered e) ∙ sym (append-nil before))
+  list-begin p false before all e =
+      let l = followed (listAt f (p .fragments) (p .list .address .0)) _ all e in
+      fragments-begin (drop (p .list .address .0) f) (l .0) (p .index) (l .0 .links - p .index) before all (l .2)
+
+  from-begin : (p : Place) (before all : List Block) → chainFrom id f p before ≡ answer all → Begins before all
+  unfolding listFrom listsBehind
+  from-begin p before all e =
+      let g = followed (listFrom id f p before) (listsBehind id f p) all e in
+      joint before (g .0) all (list-begin p (eqb (p .lists) 0) before (g .0) (g .1))
+      (on-begin (listLimit - p .lists) (p .list .next .0) (ended p) (g .0) all (lists-begin (listLimit - p .lists) (p .list .next .0) (g .0) all) (g .2))
 
 joined-append : (f : List ℕ) (bs cs : List Block) → joined f (bs ++ cs) ≡ joined f bs ++ joined f cs
 unfolding joined
@@ -76,10 +82,10 @@ laid-front d from xs ys h =
     ∙ ap (take (length d)) (drop-append-le from xs ys low) ∙ take-append-le (length d) (drop from xs) ys room
     ∙ sym (laid-whole d from xs h)
 
-pub lay-full : (d : List ℕ) (from : ℕ) (id f : List ℕ) (start k a n i : ℕ) (bs all : List Block) (out : List ℕ)
-    → chainOf id f start ≡ answer all → chainOf id f start ≡ listsFrom id f k a n i bs
+pub lay-full : (d : List ℕ) (from : ℕ) (id f : List ℕ) (start : ℕ) (p : Place) (bs all : List Block) (out : List ℕ)
+    → chainOf id f start ≡ answer all → chainOf id f start ≡ chainFrom id f p bs
     → from + length d ≤ length (joined f bs) → out ≡ laid d from 0 (joined f bs) → out ≡ laid d from 0 (joinedOf id f start)
-lay-full d from id f start k a n i bs all out e r full so =
-    let g = from-begin id f k a n i bs all (sym r ∙ e) in
+lay-full d from id f start p bs all out e r full so =
+    let g = from-begin id f p bs all (sym r ∙ e) in
     lay-end d from id f start all out e
     (so ∙ sym (ap (λ (xs : List Block). laid d from 0 (joined f xs)) (g .1) ∙ ap (laid d from 0) (joined-append f bs (g .0)) ∙ laid-front d from (joined f bs) (joined f (g .0)) full))

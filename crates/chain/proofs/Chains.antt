@@ -8,7 +8,7 @@ use lib.ListN.{length, drop, length-append}
 use lib.Dec.{eqb}
 use Rattle.definitions.specs.Reply.{Reply, answer, if_then_else_}
 use Rattle.definitions.specs.DataList.{DataList}
-use Rattle.definitions.specs.Chain.{Block, dataOf, joined, total, fragmentOf, fragments, listAt, lists, chainOf}
+use Rattle.definitions.specs.Chain.{Block, dataLimit, listLimit, fragmentLimit, dataOf, joined, total, fragmentOf, fragments, listAt, lists, chainOf}
 use Rattle.definitions.proofs.Replies.{not-answered}
 use Rattle.words.proofs.Spans.{length-span}
 use Rattle.chain.proofs.Answers.{followed, answered}
@@ -22,8 +22,8 @@ Inside f (b ∷ bs) = (b .address + 24 + b .size ≤ length f) × Inside f bs
 
 pub record Stand (f : List ℕ) (bs : List Block) : Type 0 where
   pub inside : Inside f bs
-  pub few : length bs ≤ 4096
-  pub bounded : total bs ≤ 9223372036854775807
+  pub few : length bs ≤ fragmentLimit
+  pub bounded : total bs ≤ dataLimit
 
 -- ---- one block more
 
@@ -43,7 +43,7 @@ module _ (f : List ℕ) (b : Block) where
   inside-more [] h r = (r, tt)
   inside-more (c ∷ cs) h r = (h .0, inside-more cs (h .1) r)
 
-  pub stand-more : (bs : List Block) → Stand f bs → length bs < 4096 → Taken f (total bs) b → Stand f (bs ++ (b ∷ []))
+  pub stand-more : (bs : List Block) → Stand f bs → length bs < fragmentLimit → Taken f (total bs) b → Stand f (bs ++ (b ∷ []))
   stand-more bs h l t = record {
     inside = inside-more bs (h .inside) (t .inside);
     few = omega (arith, length-append bs (b ∷ []));
@@ -60,7 +60,7 @@ joined-length f (b ∷ bs) h =
 -- ---- all of them
 
 module _ (id f : List ℕ) where
-  fragments-stand : (s : List ℕ) (d : DataList) (n i : ℕ) (before bs : List Block) → Stand f before → length before + n ≤ 4096
+  fragments-stand : (s : List ℕ) (d : DataList) (n i : ℕ) (before bs : List Block) → Stand f before → length before + n ≤ fragmentLimit
       → fragments id f s d i n before ≡ answer bs → Stand f bs
   unfolding fragments
   fragments-stand s d zero i before bs h l e = subst (Stand f) (answered e) h
@@ -89,4 +89,4 @@ module _ (id f : List ℕ) where
   -- the blocks of an accepted chain lie in the file, are not too many, and hold no more data than a chain may
   pub chain-stands : (start : ℕ) (bs : List Block) → chainOf id f start ≡ answer bs → Stand f bs
   unfolding chainOf Inside total
-  chain-stands start bs e = lists-stand 256 start [] bs (record { inside = tt; few = omega arith; bounded = omega arith }) e
+  chain-stands start bs e = lists-stand listLimit start [] bs (record { inside = tt; few = omega arith; bounded = omega arith }) e

@@ -1,5 +1,5 @@
--- The laws of a chain. What later readers cite: rest-step and step-tells of Steps, chain-stands and joined-length of
--- Chains, what a loop keeps in Walks, and the windows of Laying.
+-- The laws of a chain. What later readers cite: rest-fragment, rest-next and next-tells of Steps, chain-stands and
+-- joined-length of Chains, what a loop keeps in Walks, and the windows of Laying.
 pub mod Answers
 pub mod Addresses
 pub mod Blocks

@@ -1,5 +1,5 @@
 -- The ways through a list of the chain, and what an answer tells of it.
-use mathlib.Core.Path.{_≡_, refl, sym, ap, _∙_}
+use mathlib.Core.Path.{_≡_, refl, sym, ap, subst, _∙_}
 use mathlib.Core.Bool.{true, false, not}
 use mathlib.Core.List.{List}
 use Prim.Native.Nat.{ℕ, _+_, _-_, _*_, _≤_, _<_}
@@ -11,9 +11,10 @@ use Rattle.definitions.specs.Reply.{answer, refusal}
 use Rattle.definitions.specs.Bytes.{idAt}
 use Rattle.definitions.specs.Header.{Header, headerOf}
 use Rattle.definitions.specs.DataList.{DataList, idDL, listOf, linksOf, restOf, listIn, restIn, restCount, flagsAt}
-use Rattle.definitions.specs.Chain.{hasHeader, agrees, admitted, listAt}
+use Rattle.definitions.specs.Chain.{fragmentLimit, hasHeader, agrees, admitted, listAt}
 use Rattle.blocks.proofs.Headers.{needed}
-use Rattle.chain.specs.Walk.{Readable}
+use Rattle.chain.specs.Walk.{opened, Opens, LinkWithin}
+use Rattle.chain.specs.declared.place.OpenList.{OpenList}
 use Rattle.definitions.proofs.Replies.{both}
 use Rattle.chain.proofs.Answers.{passed, followed, answered}
 
@@ -44,11 +45,11 @@ module _ (f : List ℕ) (n a : ℕ) where
       list-disagrees g = rw (there, h, g)
 
       module _ (g : agrees d ≡ true) where
-        pub list-many : ltb 4096 (n + d .links) ≡ true → refusal 9 0 ≡ listAt f n a
+        pub list-many : ltb fragmentLimit (n + d .links) ≡ true → refusal 9 0 ≡ listAt f n a
         unfolding listAt
         list-many l = rw (there, h, g, l)
 
-        pub list-admitted : ltb 4096 (n + d .links) ≡ false → answer d ≡ listAt f n a
+        pub list-admitted : ltb fragmentLimit (n + d .links) ≡ false → answer d ≡ listAt f n a
         unfolding listAt
         list-admitted l = rw (there, h, g, l)
 
@@ -79,7 +80,7 @@ module _ (s : List ℕ) where
 pub record Listed (s : List ℕ) (n : ℕ) (d : DataList) : Type 0 where
   pub lies : Lies s d
   pub count : d .count ≡ d .links
-  pub few : n + d .links ≤ 4096
+  pub few : n + d .links ≤ fragmentLimit
 
 pub list-stands : (f : List ℕ) (n a : ℕ) (d : DataList) → listAt f n a ≡ answer d → (hasHeader f a ≡ true) × Listed (drop a f) n d
 unfolding listAt
@@ -88,7 +89,7 @@ list-stands f n a d h =
     let read = followed (listOf (drop a f)) (admitted n) d (there .1) in
     let x = read .0 in
     let agreed = passed (not (agrees x)) _ _ _ _ (read .2) in
-    let few = passed (ltb 4096 (n + x .links)) _ _ _ _ (agreed .1) in
+    let few = passed (ltb fragmentLimit (n + x .links)) _ _ _ _ (agreed .1) in
     let e : Listed (drop a f) n x = record {
       lies = list-lies (drop a f) x (read .1);
       count = eqb-true _ _ (both _ _ (not-false _ (agreed .0)) .0);
@@ -96,13 +97,13 @@ list-stands f n a d h =
     } in
     (not-false _ (there .0), rw (answered (few .1)) at e)
 
--- link i can be read, and what the list declares of that fragment; s is the file from the list on
-pub list-readable : (t s : List ℕ) (n i : ℕ) (d : DataList) → s ≡ t → Listed t n d → i < d .links → Readable s d i
-list-readable t s n i d e l h =
-    rw e
-    (record {
-      one = h;
-      link = l .lies .links;
-      rest = l .lies .rest;
-      counted = l .lies .counted ∙ ap (restCount (d .flags)) (l .count);
-    })
+-- link i of a list that is kept can be read, and what the list declares of that fragment
+pub link-within : (s : List ℕ) (n i : ℕ) (l : OpenList) (d : DataList) → Listed s n d → Opens l d → i < l .links → LinkWithin s l i
+link-within s n i l d h k m =
+    let e : d .rest ≡ restCount (d .flags) (d .links) = h .lies .counted ∙ ap (restCount (d .flags)) (h .count) in
+    let within : i < d .links → LinkWithin s (opened (l .address) d) i = λ j. record {
+      one = j;
+      link = h .lies .links;
+      rest = rw e at (h .lies .rest);
+    } in
+    subst (λ (x : OpenList). i < x .links → LinkWithin s x i) (sym k) within m

@@ -1,5 +1,5 @@
 -- The ways through a record that is fetched.
-use mathlib.Core.Path.{_≡_, refl, sym, ap, _∙_}
+use mathlib.Core.Path.{_≡_, refl, ap, _∙_}
 use mathlib.Core.Bool.{Bool, true, false, _||_}
 use mathlib.Core.List.{List, _++_}
 use Prim.Native.Nat.{ℕ, suc, _+_, _-_, _*_, _/_, _≤_, _<_}
@@ -11,7 +11,7 @@ use lib.Dec.{eqb, leb, ltb}
 use borrow.Author.Tests.{eq-eqb, ne-eqb, lt-ltb, le-ltb, le-leb, lt-leb, ltb-true, ltb-false, eqb-false}
 use Rattle.definitions.specs.Reply.{answer, refusal, if_then_else_}
 use Rattle.definitions.specs.Bytes.{span}
-use Rattle.definitions.specs.Chain.{Block, fileLimit, idDT, joined, chainOf, totalOf, dataLength, badSize, recordOf, fetched}
+use Rattle.definitions.specs.Chain.{Block, fileLimit, recordLimit, idDT, joined, chainOf, totalOf, dataLength, badSize, recordOf, fetched}
 use Rattle.chain.specs.Window.{laid, joinedOf}
 use Rattle.chain.proofs.Answers.{passed, followed, answered, unfollowed}
 use Rattle.chain.proofs.Chains.{joined-length, chain-stands}
@@ -27,16 +27,16 @@ module _ (size room : ℕ) where
   pub size-none : size ≡ 0 → true ≡ badSize size room
   size-none z = rw (eq-eqb _ _ z)
 
-  pub size-large : (size ≡ 0 → ⊥) → 16384 < size → true ≡ badSize size room
+  pub size-large : (size ≡ 0 → ⊥) → recordLimit < size → true ≡ badSize size room
   size-large z l = rw (ne-eqb _ _ z, lt-ltb _ _ l)
 
-  pub size-by-room : (size ≡ 0 → ⊥) → size ≤ 16384 → ltb room size ≡ badSize size room
+  pub size-by-room : (size ≡ 0 → ⊥) → size ≤ recordLimit → ltb room size ≡ badSize size room
   size-by-room z l = rw (ne-eqb _ _ z, le-ltb _ _ l)
 
   pub size-good : badSize size room ≡ false → (0 < size) × (size ≤ room)
   size-good h =
-      let fits = neither (eqb size 0 || ltb 16384 size) (ltb room size) h in
-      let some = neither (eqb size 0) (ltb 16384 size) (fits .0) in
+      let fits = neither (eqb size 0 || ltb recordLimit size) (ltb room size) h in
+      let some = neither (eqb size 0) (ltb recordLimit size) (fits .0) in
       omega (arith, eqb-false size 0 (some .0), ltb-false room size (fits .1))
 
 -- ---- a record's end

@@ -1,166 +1,187 @@
--- A step: the ways out of it, what it tells, and that stepping is what the definitions say of the chain.
+-- What a walk meets: the ways to the next list, what it tells, and that to go on is what the definitions say of the chain.
 use mathlib.Core.Path.{_≡_, refl, sym, ap, subst, _∙_}
 use mathlib.Core.Bool.{Bool, true, false}
 use mathlib.Core.List.{List, [], _∷_, _++_}
-use Prim.Native.Nat.{ℕ, zero, suc, _+_, _-_, _≤_, _<_}
-use native.Mathlib.Nat.{sub-zero}
+use Prim.Native.Nat.{ℕ, suc, _+_, _-_, _≤_, _<_}
 use native.Mathlib.Omega.{arith}
 use lib.ListN.{length, drop}
-use lib.Dec.{leb, ltb, eqb}
-use borrow.Author.Tests.{eq-eqb, ne-eqb, lt-ltb, le-ltb, lt-leb, le-leb, ltb-true, ltb-false, leb-true, leb-false}
+use lib.Dec.{leb, eqb}
+use borrow.Author.Tests.{eq-eqb, ne-eqb, lt-leb, le-leb, leb-true, leb-false, eqb-false}
 use Rattle.definitions.specs.Reply.{Reply, answer, refusal, if_then_else_, andThen}
 use Rattle.definitions.specs.DataList.{DataList}
-use Rattle.definitions.specs.Chain.{Block, total, fragmentOf, fragments, listAt, lists}
-use Rattle.chain.specs.Walk.{behind, nextList, Found, aBlock, aList, theEnd, arriving, leaving, stepIn, stepOf, listsFrom, chainFrom, goOn}
-use Rattle.chain.specs.declared.place.FileAddress.{FileAddress}
+use Rattle.definitions.specs.Chain.{Block, fragmentLimit, listLimit, total, hasHeader, fragmentOf, fragments, listAt, lists}
+use Rattle.chain.specs.Walk.{Opens, LinkWithin, Known, behind, entered, fragmentAt, Onward, aList, theEnd, ended, nextOf, listFrom, listsBehind, chainFrom, goOn}
+use Rattle.chain.specs.declared.place.OpenList.{OpenList}
 use Rattle.chain.specs.declared.place.Place.{Place}
 use Rattle.chain.proofs.Answers.{passed, followed, answered}
-use Rattle.chain.proofs.Lists.{list-stands}
-use Rattle.chain.proofs.Fragments.{Taken, fragment-stands}
+use Rattle.chain.proofs.Lists.{list-stands, link-within}
 
--- ---- the ways out
+-- ---- where a walk stands
 
-module _ (p : Place) (d : DataList) where
-  pub leaving-end : d .next ≡ 0 → theEnd (p .position .0) ≡ leaving p d
-  unfolding leaving
-  leaving-end z = rw (eq-eqb _ _ z)
+-- inside a list, that list
+pub the-list : (f : List ℕ) (p : Place) → Known f p → p .index < p .list .links
+    → (d : DataList) × (listAt f (p .fragments) (p .list .address .0) ≡ answer d) × Opens (p .list) d
+the-list f p k h = k .read (omega (arith, k .none))
 
-  pub leaving-on : (d .next ≡ 0 → ⊥) → aList (nextList p (record { 0 = d .next })) ≡ leaving p d
-  unfolding leaving
-  leaving-on z = rw (ne-eqb _ _ z)
+pub the-link : (f s : List ℕ) (p : Place) → Known f p → p .index < p .list .links → s ≡ drop (p .list .address .0) f
+    → (hasHeader f (p .list .address .0) ≡ true) × LinkWithin s (p .list) (p .index)
+the-link f s p k h from =
+    let read = the-list f p k h in
+    let there = list-stands f (p .fragments) (p .list .address .0) (read .0) (read .1) in
+    (there .0, rw from (link-within _ (p .fragments) (p .index) (p .list) (read .0) (there .1) (read .2) h))
 
-module _ (p : Place) (r : Reply Block) where
-  pub over-refused : (n t : ℕ) → r ≡ refusal n t → refusal n t ≡ andThen r (arriving p)
-  over-refused n t e = rw e
+module _ (f : List ℕ) (p : Place) (k : Known f p) where
+  pub known-behind : (n : ℕ) → p .index < p .list .links → Known f (behind p n)
+  known-behind n h = record { inside = omega arith; few = k .few; none = k .none; read = k .read }
 
-  pub over-taken : (b : Block) → r ≡ answer b → answer (aBlock b (behind p (b .size))) ≡ andThen r (arriving p)
-  over-taken b e = rw e
+  pub known-entered : (d : DataList) → listAt f (p .fragments + p .index) (p .list .next .0) ≡ answer d → Known f (entered p d)
+  known-entered d e =
+      let few : p .fragments + p .index + d .links ≤ fragmentLimit = list-stands f (p .fragments + p .index) (p .list .next .0) d e .1 .few in
+      record { inside = omega arith; few = few; none = omega arith; read = λ l. (d, e, refl) }
 
-module _ (id f : List ℕ) (p : Place) where
-  pub step-many : 256 ≤ p .lists → refusal 8 0 ≡ stepOf id f p
-  unfolding stepOf
-  step-many l = rw (le-leb _ _ l)
+-- ---- the ways to the next list
 
-  module _ (l : p .lists < 256) where
-    pub step-refused : (n t : ℕ) → listAt f (p .fragments) (p .list .0) ≡ refusal n t → refusal n t ≡ stepOf id f p
-    unfolding stepOf
-    step-refused n t e = rw (lt-leb _ _ l, e)
+module _ (p : Place) where
+  pub ended-not : p .lists ≡ 0 → false ≡ ended p
+  ended-not z = rw (eq-eqb _ _ z)
 
-    module _ (d : DataList) (e : listAt f (p .fragments) (p .list .0) ≡ answer d) where
-      pub step-over : (s : List ℕ) → s ≡ drop (p .list .0) f → p .index < d .links
-          → andThen (fragmentOf id f s d (p .index) (p .position .0)) (arriving p) ≡ stepOf id f p
-      unfolding stepOf stepIn
-      step-over s from h = rw (lt-leb _ _ l, e, lt-ltb _ _ h, from)
+  pub ended-by : (p .lists ≡ 0 → ⊥) → eqb (p .list .next .0) 0 ≡ ended p
+  ended-by z = rw (ne-eqb _ _ z)
 
-      pub step-out : d .links ≤ p .index → answer (leaving p d) ≡ stepOf id f p
-      unfolding stepOf stepIn
-      step-out h = rw (lt-leb _ _ l, e, le-ltb _ _ h)
+module _ (f : List ℕ) (p : Place) where
+  pub next-end : ended p ≡ true → answer (theEnd (p .position .0)) ≡ nextOf f p
+  unfolding nextOf
+  next-end t = rw t
 
--- ---- the law of a step
+  module _ (t : ended p ≡ false) where
+    pub next-many : listLimit ≤ p .lists → refusal 8 0 ≡ nextOf f p
+    unfolding nextOf
+    next-many l = rw (t, le-leb _ _ l)
 
--- at a list's first fragment the rest is that of the definitions
-pub lists-from : (id f : List ℕ) (k a n : ℕ) (before : List Block) → length before ≡ n → lists id f k a before ≡ listsFrom id f k a n 0 before
-unfolding lists listsFrom
-lists-from id f zero a n before e = refl
-lists-from id f (suc k) a n before e = simp (e, sub-zero)
+    module _ (l : p .lists < listLimit) where
+      pub next-refused : (n m : ℕ) → listAt f (p .fragments + p .index) (p .list .next .0) ≡ refusal n m → refusal n m ≡ nextOf f p
+      unfolding nextOf
+      next-refused n m e = rw (t, lt-leb _ _ l, e)
 
-module _ (id f : List ℕ) (p : Place) (before : List Block) (size : total before ≡ p .position .0) (count : length before ≡ p .fragments + p .index) where
-  module _ (h : p .lists < 256) where
-    -- behind the fragments of the list
-    next : DataList → List Block → Reply (List Block)
-    next d bs = if eqb (d .next) 0 then answer bs else lists id f (256 - (p .lists + 1)) (d .next) bs
+      pub next-read : (d : DataList) → listAt f (p .fragments + p .index) (p .list .next .0) ≡ answer d → answer (aList (entered p d)) ≡ nextOf f p
+      unfolding nextOf
+      next-read d e = rw (t, lt-leb _ _ l, e)
 
-    rest-is : (i : ℕ) (bs : List Block)
-        → listsFrom id f (256 - p .lists) (p .list .0) (p .fragments) i bs
-        ≡ andThen (listAt f (p .fragments) (p .list .0)) (λ d. andThen (fragments id f (drop (p .list .0) f) d i (d .links - i) bs) (next d))
-    unfolding listsFrom next
-    rest-is i bs =
-        let e : 256 - p .lists ≡ suc (256 - (p .lists + 1)) = omega arith in
-        ap (λ (k : ℕ). listsFrom id f k (p .list .0) (p .fragments) i bs) e
-
-    module _ (d : DataList) (l : listAt f (p .fragments) (p .list .0) ≡ answer d) where
-      -- over a fragment, by what it gives
-      over-by : (r : Reply Block)
-          → andThen (andThen r (λ b. fragments id f (drop (p .list .0) f) d (p .index + 1) (d .links - (p .index + 1)) (before ++ (b ∷ [])))) (next d)
-          ≡ andThen (andThen r (arriving p)) (goOn id f before)
-      over-by (refusal n t) = refl
-      over-by (answer b) =
-          sym (rest-is (p .index + 1) (before ++ (b ∷ []))
-          ∙ ap (λ (x : Reply DataList). andThen x (λ d. andThen (fragments id f (drop (p .list .0) f) d (p .index + 1) (d .links - (p .index + 1)) (before ++ (b ∷ []))) (next d))) l)
-
-      -- out of the list, by its next link
-      out-by : (t : Bool)
-          → (if t then answer before else lists id f (256 - (p .lists + 1)) (d .next) before)
-          ≡ goOn id f before (if t then theEnd (p .position .0) else aList (nextList p (record { 0 = d .next })))
-      out-by true = refl
-      out-by false = lists-from id f (256 - (p .lists + 1)) (d .next) (p .fragments + p .index) before count
-
-      in-by : (t : Bool) → ltb (p .index) (d .links) ≡ t
-          → andThen (fragments id f (drop (p .list .0) f) d (p .index) (d .links - p .index) before) (next d)
-          ≡ andThen (if t then andThen (fragmentOf id f (drop (p .list .0) f) d (p .index) (p .position .0)) (arriving p) else answer (leaving p d)) (goOn id f before)
-      unfolding fragments next leaving
-      in-by true e =
-          let t = ltb-true (p .index) (d .links) e in
-          let n : d .links - p .index ≡ suc (d .links - (p .index + 1)) = omega arith in
-          rw (n, size) (over-by (fragmentOf id f (drop (p .list .0) f) d (p .index) (p .position .0)))
-      in-by false e =
-          let t = ltb-false (p .index) (d .links) e in
-          let n : d .links - p .index ≡ 0 = omega arith in
-          rw n (out-by (eqb (d .next) 0))
-
-    list-by : (r : Reply DataList) → listAt f (p .fragments) (p .list .0) ≡ r
-        → andThen r (λ d. andThen (fragments id f (drop (p .list .0) f) d (p .index) (d .links - p .index) before) (next d))
-        ≡ andThen (andThen r (stepIn id f p)) (goOn id f before)
-    unfolding stepIn
-    list-by (refusal n t) e = refl
-    list-by (answer d) e = in-by d e (ltb (p .index) (d .links)) refl
-
-  step-by : (t : Bool) → leb 256 (p .lists) ≡ t
-      → chainFrom id f p before
-      ≡ andThen (if t then refusal 8 0 else andThen (listAt f (p .fragments) (p .list .0)) (stepIn id f p)) (goOn id f before)
-  unfolding listsFrom
-  step-by true e =
-      let h = leb-true 256 (p .lists) e in
-      let z : 256 - p .lists ≡ 0 = omega arith in
-      ap (λ (k : ℕ). listsFrom id f k (p .list .0) (p .fragments) (p .index) before) z
-  step-by false e =
-      let h : p .lists < 256 = leb-false 256 (p .lists) e in
-      rest-is h (p .index) before ∙ list-by h (listAt f (p .fragments) (p .list .0)) refl
-
-  -- the rest of the chain at a place is what the step taken there gives
-  pub rest-step : chainFrom id f p before ≡ andThen (stepOf id f p) (goOn id f before)
-  unfolding stepOf
-  rest-step = step-by (leb 256 (p .lists)) refl
-
--- ---- what a step tells
-
--- one fragment more, and room for it; one list more; or the end
-unfoldable pub Tells : List ℕ → Place → Found → Type 0
-Tells f p (aBlock b q) = (q ≡ behind p (b .size)) × Taken f (p .position .0) b × (p .fragments + p .index < 4096)
-Tells f p (aList q) = (a : FileAddress) × (q ≡ nextList p a) × (p .lists < 256)
+-- one list more, or the end
+unfoldable pub Tells : List ℕ → Place → Onward → Type 0
+Tells f p (aList q) = (d : DataList) × (listAt f (p .fragments + p .index) (p .list .next .0) ≡ answer d) × (entered p d ≡ q) × (p .lists < listLimit)
 Tells f p (theEnd n) = n ≡ p .position .0
 
-module _ (id f : List ℕ) (p : Place) (h : p .lists < 256) (d : DataList) (l : listAt f (p .fragments) (p .list .0) ≡ answer d) where
-  tells-out : (t : Bool) → Tells f p (if t then theEnd (p .position .0) else aList (nextList p (record { 0 = d .next })))
-  unfolding Tells
-  tells-out true = refl
-  tells-out false = (record { 0 = d .next }, refl, h)
-
-  tells-in : (t : Bool) → ltb (p .index) (d .links) ≡ t → (x : Found)
-      → (if t then andThen (fragmentOf id f (drop (p .list .0) f) d (p .index) (p .position .0)) (arriving p) else answer (leaving p d)) ≡ answer x
+module _ (f : List ℕ) (p : Place) where
+  tells-by : (t : Bool) (x : Onward)
+      → (if t then answer (theEnd (p .position .0))
+      else if leb listLimit (p .lists) then refusal 8 0
+      else andThen (listAt f (p .fragments + p .index) (p .list .next .0)) (λ d. answer (aList (entered p d)))) ≡ answer x
       → Tells f p x
-  unfolding Tells leaving
-  tells-in true e x a =
-      let read = followed (fragmentOf id f (drop (p .list .0) f) d (p .index) (p .position .0)) (arriving p) x a in
-      let few : p .fragments + p .index < 4096 = omega (arith, ltb-true (p .index) (d .links) e, list-stands f (p .fragments) (p .list .0) d l .1 .few) in
-      let y : Tells f p (aBlock (read .0) (behind p (read .0 .size))) = (refl, fragment-stands id f (drop (p .list .0) f) d (p .index) (p .position .0) (read .0) (read .1), few) in
+  unfolding Tells
+  tells-by true x a = let y : Tells f p (theEnd (p .position .0)) = refl in subst (Tells f p) (answered a) y
+  tells-by false x a =
+      let few = passed (leb listLimit (p .lists)) _ _ _ _ a in
+      let read = followed (listAt f (p .fragments + p .index) (p .list .next .0)) (λ d. answer (aList (entered p d))) x (few .1) in
+      let y : Tells f p (aList (entered p (read .0))) = (read .0, read .1, refl, leb-false listLimit (p .lists) (few .0)) in
       subst (Tells f p) (answered (read .2)) y
-  tells-in false e x a = subst (Tells f p) (answered a) (tells-out (eqb (d .next) 0))
 
-module _ (id f : List ℕ) (p : Place) where
-  pub step-tells : (x : Found) → stepOf id f p ≡ answer x → Tells f p x
-  unfolding stepOf stepIn
-  step-tells x a =
-      let few = passed (leb 256 (p .lists)) _ _ _ _ a in
-      let read = followed (listAt f (p .fragments) (p .list .0)) (stepIn id f p) x (few .1) in
-      tells-in id f p (leb-false 256 (p .lists) (few .0)) (read .0) (read .1) (ltb (p .index) (read .0 .links)) refl x (read .2)
+  pub next-tells : (x : Onward) → nextOf f p ≡ answer x → Tells f p x
+  unfolding nextOf
+  next-tells x a = tells-by (ended p) x a
+
+-- ---- the rest of the chain
+
+-- in a list that is read
+opened-rest : (id f : List ℕ) (q : Place) (d : DataList) (bs : List Block) → 0 < q .lists → listAt f (q .fragments) (q .list .address .0) ≡ answer d
+    → chainFrom id f q bs ≡ andThen (fragments id f (drop (q .list .address .0) f) d (q .index) (d .links - q .index) bs) (listsBehind id f q)
+unfolding listFrom
+opened-rest id f q d bs some e = let no : eqb (q .lists) 0 ≡ false = ne-eqb (q .lists) 0 (λ z. omega arith) in rw (no, e)
+
+module _ (id f : List ℕ) (p : Place) (before : List Block) (k : Known f p) where
+  module _ (size : total before ≡ p .position .0) (h : p .index < p .list .links) where
+    some : 0 < p .lists
+    some = omega (arith, k .none)
+
+    module _ (d : DataList) (e : listAt f (p .fragments) (p .list .address .0) ≡ answer d) (o : Opens (p .list) d) where
+      -- over a fragment, by what it gives
+      over-by : (r : Reply Block)
+          → andThen (andThen r (λ b. fragments id f (drop (p .list .address .0) f) d (p .index + 1) (d .links - (p .index + 1)) (before ++ (b ∷ [])))) (listsBehind id f p)
+          ≡ andThen r (λ b. chainFrom id f (behind p (b .size)) (before ++ (b ∷ [])))
+      unfolding listsBehind
+      over-by (refusal n t) = refl
+      over-by (answer b) = sym (opened-rest id f (behind p (b .size)) d (before ++ (b ∷ [])) some e)
+
+      over : chainFrom id f p before ≡ andThen (fragmentAt id f p) (λ b. chainFrom id f (behind p (b .size)) (before ++ (b ∷ [])))
+      unfolding fragments fragmentAt
+      over =
+          let n : d .links - p .index ≡ suc (d .links - (p .index + 1)) = omega (arith, ap (λ (x : OpenList). x .links) o) in
+          opened-rest id f p d before some e
+          ∙ rw (n, size, e) (over-by (fragmentOf id f (drop (p .list .address .0) f) d (p .index) (p .position .0)))
+
+    -- inside a list the rest is what the fragment gives, and the rest behind it
+    pub rest-fragment : chainFrom id f p before ≡ andThen (fragmentAt id f p) (λ b. chainFrom id f (behind p (b .size)) (before ++ (b ∷ [])))
+    rest-fragment = let r = the-list f p k h in over (r .0) (r .1) (r .2)
+
+  module _ (count : length before ≡ p .fragments + p .index) (h : p .list .links ≤ p .index) where
+    done-in : (d : DataList) → listAt f (p .fragments) (p .list .address .0) ≡ answer d → Opens (p .list) d → 0 < p .lists
+        → chainFrom id f p before ≡ listsBehind id f p before
+    unfolding fragments
+    done-in d e o some =
+        let n : d .links - p .index ≡ 0 = omega (arith, ap (λ (x : OpenList). x .links) o) in
+        opened-rest id f p d before some e ∙ rw n
+
+    -- nothing is left of the list
+    done-by : (t : Bool) → eqb (p .lists) 0 ≡ t → chainFrom id f p before ≡ listsBehind id f p before
+    unfolding listFrom
+    done-by true e = rw e
+    done-by false e =
+        let some : 0 < p .lists = omega (arith, eqb-false (p .lists) 0 e) in
+        let r = k .read some in
+        done-in (r .0) (r .1) (r .2) some
+
+    behind-entered : (d : DataList) (r : Reply (List Block)) → andThen r (listsBehind id f (entered p d))
+        ≡ andThen r (λ bs. if eqb (d .next) 0 then answer bs else lists id f (listLimit - (p .lists + 1)) (d .next) bs)
+    unfolding listsBehind
+    behind-entered d (refusal n t) = refl
+    behind-entered d (answer bs) =
+        let no : eqb (p .lists + 1) 0 ≡ false = ne-eqb (p .lists + 1) 0 (λ z. omega arith) in
+        rw no
+
+    -- into the next list, by what its reading gives
+    enter-by : (r : Reply DataList) → listAt f (p .fragments + p .index) (p .list .next .0) ≡ r
+        → andThen r (λ d. andThen (fragments id f (drop (p .list .next .0) f) d 0 (d .links) before)
+        (λ bs. if eqb (d .next) 0 then answer bs else lists id f (listLimit - (p .lists + 1)) (d .next) bs))
+        ≡ andThen (andThen r (λ d. answer (aList (entered p d)))) (goOn id f before)
+    enter-by (refusal n t) e = refl
+    enter-by (answer d) e =
+        let all : d .links - 0 ≡ d .links = omega arith in
+        sym (opened-rest id f (entered p d) d before (omega arith) e
+        ∙ ap (λ (n : ℕ). andThen (fragments id f (drop (p .list .next .0) f) d 0 n before) (listsBehind id f (entered p d))) all
+        ∙ behind-entered d (fragments id f (drop (p .list .next .0) f) d 0 (d .links) before))
+
+    many-by : (t : Bool) → leb listLimit (p .lists) ≡ t
+        → lists id f (listLimit - p .lists) (p .list .next .0) before
+        ≡ andThen (if t then refusal 8 0 else andThen (listAt f (p .fragments + p .index) (p .list .next .0)) (λ d. answer (aList (entered p d)))) (goOn id f before)
+    unfolding lists
+    many-by true e =
+        let l : listLimit ≤ p .lists = leb-true listLimit (p .lists) e in
+        let z : listLimit - p .lists ≡ 0 = omega arith in
+        rw z
+    many-by false e =
+        let l : p .lists < listLimit = leb-false listLimit (p .lists) e in
+        let n : listLimit - p .lists ≡ suc (listLimit - (p .lists + 1)) = omega arith in
+        rw (n, count) (enter-by (listAt f (p .fragments + p .index) (p .list .next .0)) refl)
+
+    end-by : (t : Bool)
+        → (if t then answer before else lists id f (listLimit - p .lists) (p .list .next .0) before)
+        ≡ andThen (if t then answer (theEnd (p .position .0))
+        else if leb listLimit (p .lists) then refusal 8 0
+        else andThen (listAt f (p .fragments + p .index) (p .list .next .0)) (λ d. answer (aList (entered p d)))) (goOn id f before)
+    end-by true = refl
+    end-by false = many-by (leb listLimit (p .lists)) refl
+
+    -- behind the last fragment of a list the rest is what the next one gives, and the rest behind that
+    pub rest-next : chainFrom id f p before ≡ andThen (nextOf f p) (goOn id f before)
+    unfolding listsBehind nextOf
+    rest-next = done-by (eqb (p .lists) 0) refl ∙ end-by (ended p)

@@ -1,91 +1,116 @@
 -- What every reader's loop keeps: where it stands, the blocks so far, and that the chain gives what it gives from here on.
-use mathlib.Core.Path.{_≡_, refl, sym, ap, _∙_}
+use mathlib.Core.Path.{_≡_, refl, sym, ap, subst, _∙_}
 use mathlib.Core.List.{List, [], _∷_, _++_}
 use Prim.Native.Nat.{ℕ, _+_, _-_, _*_, _≤_, _<_}
 use native.Mathlib.Omega.{arith}
-use lib.ListN.{length, length-append}
+use lib.ListN.{length, drop, length-append}
 use borrow.Author.Tests.{lt-ltb, le-ltb}
 use Rattle.definitions.specs.Reply.{Reply, answer, refusal, andThen}
-use Rattle.definitions.specs.Chain.{Block, fileLimit, idDT, total, chainOf, totalOf, dataLength}
-use Rattle.chain.specs.Walk.{startAt, Found, aBlock, aList, theEnd, stepOf, chainFrom, goOn}
+use Rattle.definitions.specs.Chain.{Block, fileLimit, listLimit, fragmentLimit, idDT, total, listAt, chainOf, totalOf, dataLength}
+use Rattle.chain.specs.Walk.{Known, startAt, behind, entered, fragmentAt, Onward, aList, theEnd, nextOf, listFrom, listsBehind, chainFrom, goOn}
 use Rattle.chain.specs.declared.place.FileAddress.{FileAddress}
 use Rattle.chain.specs.declared.place.Place.{Place}
-use Rattle.chain.proofs.Fragments.{Taken}
+use Rattle.chain.proofs.Answers.{followed}
+use Rattle.chain.proofs.Fragments.{Taken, fragment-stands}
 use Rattle.chain.proofs.Chains.{Inside, Stand, total-more, stand-more}
-use Rattle.chain.proofs.Steps.{lists-from, rest-step, Tells, step-tells}
+use Rattle.chain.proofs.Steps.{known-behind, known-entered, rest-fragment, rest-next, Tells, next-tells}
 
 -- p₀ is where the walk began
 pub record At (id f : List ℕ) (p₀ p : Place) (before : List Block) : Type 0 where
+  pub known : Known f p
   pub stand : Stand f before
   pub count : length before ≡ p .fragments + p .index
   pub size : total before ≡ p .position .0
-  pub rest : chainOf id f (p₀ .list .0) ≡ chainFrom id f p before
+  pub rest : chainOf id f (p₀ .list .next .0) ≡ chainFrom id f p before
 
--- the turns that are left
-abbrev pub left : Place → ℕ
-left p = (256 - p .lists) * 4097 + (4096 - p .index)
+-- no walk makes more turns than this
+abbrev pub turnsLeft : Place → ℕ
+turnsLeft p = (listLimit - p .lists) * (fragmentLimit + 1) + (p .list .links - p .index)
 
 module _ (id f : List ℕ) (p₀ : Place) where
   module _ (a : FileAddress) (begun : p₀ ≡ startAt a) where
     pub at-start : At id f p₀ p₀ []
-    unfolding chainOf total Inside
+    unfolding chainOf total Inside listFrom listsBehind
     at-start =
         rw begun
         (record {
+          known = record { inside = omega arith; few = omega arith; none = omega arith; read = λ some. let no : ⊥ = omega arith in absurd no };
           stand = record { inside = tt; few = omega arith; bounded = omega arith };
           count = refl;
           size = refl;
-          rest = lists-from id f 256 (a .0) 0 [] refl;
+          rest = refl;
         })
 
-    from-start : chainOf id f (a .0) ≡ chainOf id f (p₀ .list .0)
+    from-start : chainOf id f (a .0) ≡ chainOf id f (p₀ .list .next .0)
     from-start = rw begun
 
   module _ (p : Place) (before : List Block) (m : At id f p₀ p before) where
-    pub placed : p .fragments + p .index ≤ 4096
-    placed = omega (arith, m .stand .few, m .count)
+    pub few-before : p .fragments + p .index ≤ fragmentLimit
+    few-before = omega (arith, m .known .inside, m .known .few)
 
-    -- the chain gives what the step gives
-    stepped : (x : Reply Found) → stepOf id f p ≡ x → chainOf id f (p₀ .list .0) ≡ andThen x (goOn id f before)
-    stepped x e = m .rest ∙ rest-step id f p before (m .size) (m .count) ∙ ap (λ (y : Reply Found). andThen y (goOn id f before)) e
+    -- ---- inside a list
 
-    module _ (a : FileAddress) (begun : p₀ ≡ startAt a) where
-      pub at-refused : (n t : ℕ) → stepOf id f p ≡ refusal n t → chainOf id f (a .0) ≡ refusal n t
-      at-refused n t e = from-start a begun ∙ stepped _ e
+    module _ (h : p .index < p .list .links) where
+      -- the chain gives what the fragment gives
+      over : (r : Reply Block) → fragmentAt id f p ≡ r
+          → chainOf id f (p₀ .list .next .0) ≡ andThen r (λ b. chainFrom id f (behind p (b .size)) (before ++ (b ∷ [])))
+      over r e =
+          m .rest ∙ rest-fragment id f p before (m .known) (m .size) h
+          ∙ ap (λ (x : Reply Block). andThen x (λ b. chainFrom id f (behind p (b .size)) (before ++ (b ∷ [])))) e
 
-      pub at-end : (n : ℕ) → stepOf id f p ≡ answer (theEnd n) → (chainOf id f (a .0) ≡ answer before) × (total before ≡ n)
+      pub refused-here : (a : FileAddress) → p₀ ≡ startAt a → (n t : ℕ) → fragmentAt id f p ≡ refusal n t → chainOf id f (a .0) ≡ refusal n t
+      refused-here a begun n t e = from-start a begun ∙ over _ e
+
+      module _ (b : Block) (e : fragmentAt id f p ≡ answer b) where
+        -- the fragment lies in the file, and there is room for one more
+        pub taken-here : Taken f (p .position .0) b × (p .index + 1 < 18446744073709551616) × (p .position .0 + b .size < 18446744073709551616)
+        unfolding fragmentAt
+        taken-here =
+            let read = followed (listAt f (p .fragments) (p .list .address .0)) _ b e in
+            let t = fragment-stands id f (drop (p .list .address .0) f) (read .0) (p .index) (p .position .0) b (read .2) in
+            (t, omega (arith, m .known .few), omega (arith, t .bounded))
+
+        pub at-behind : (q : Place) → q ≡ behind p (b .size) → At id f p₀ q (before ++ (b ∷ [])) × (turnsLeft q < turnsLeft p)
+        at-behind q is =
+            let here : Taken f (total before) b = rw (m .size) (taken-here .0) in
+            let there : At id f p₀ (behind p (b .size)) (before ++ (b ∷ [])) × (turnsLeft (behind p (b .size)) < turnsLeft p) = (
+              record {
+                known = known-behind f p (m .known) (b .size) h;
+                stand = stand-more f b before (m .stand) (omega (arith, m .count, m .known .few)) here;
+                count = omega (arith, length-append before (b ∷ []), m .count);
+                size = omega (arith, total-more b before, m .size);
+                rest = over _ e;
+              },
+              omega arith,
+            ) in
+            subst (λ (x : Place). At id f p₀ x (before ++ (b ∷ [])) × (turnsLeft x < turnsLeft p)) (sym is) there
+
+    -- ---- behind its last fragment
+
+    module _ (h : p .list .links ≤ p .index) where
+      -- the chain gives what the next list gives
+      onward : (r : Reply Onward) → nextOf f p ≡ r → chainOf id f (p₀ .list .next .0) ≡ andThen r (goOn id f before)
+      onward r e = m .rest ∙ rest-next id f p before (m .known) (m .count) h ∙ ap (λ (x : Reply Onward). andThen x (goOn id f before)) e
+
+      module _ (a : FileAddress) (begun : p₀ ≡ startAt a) where
+        pub refused-next : (n t : ℕ) → nextOf f p ≡ refusal n t → chainOf id f (a .0) ≡ refusal n t
+        refused-next n t e = from-start a begun ∙ onward _ e
+
+        pub at-end : (n : ℕ) → nextOf f p ≡ answer (theEnd n) → (chainOf id f (a .0) ≡ answer before) × (total before ≡ n)
+        unfolding Tells
+        at-end n e = (from-start a begun ∙ onward _ e, m .size ∙ sym (next-tells f p (theEnd n) e))
+
+      pub at-list : (q : Place) → nextOf f p ≡ answer (aList q) → At id f p₀ q before × (turnsLeft q < turnsLeft p)
       unfolding Tells
-      at-end n e = (from-start a begun ∙ stepped _ e, m .size ∙ sym (step-tells id f p (theEnd n) e))
-
-    pub at-moved : (q : Place) → stepOf id f p ≡ answer (aList q) → At id f p₀ q before × (left q < left p)
-    unfolding Tells
-    at-moved q e =
-        let t = step-tells id f p (aList q) e in
-        let fragments : q .fragments ≡ p .fragments + p .index = ap (λ (x : Place). x .fragments) (t .1) in
-        let index : q .index ≡ 0 = ap (λ (x : Place). x .index) (t .1) in
-        let size : q .position .0 ≡ p .position .0 = ap (λ (x : Place). x .position .0) (t .1) in
-        let lists : q .lists ≡ p .lists + 1 = ap (λ (x : Place). x .lists) (t .1) in
-        (record { stand = m .stand; count = omega (arith, m .count); size = m .size ∙ sym size; rest = stepped _ e }, omega (arith, t .2))
-
-    pub at-data : (b : Block) (q : Place) → stepOf id f p ≡ answer (aBlock b q)
-        → At id f p₀ q (before ++ (b ∷ [])) × (left q < left p) × Taken f (p .position .0) b
-    unfolding Tells
-    at-data b q e =
-        let t = step-tells id f p (aBlock b q) e in
-        let fragments : q .fragments ≡ p .fragments = ap (λ (x : Place). x .fragments) (t .0) in
-        let index : q .index ≡ p .index + 1 = ap (λ (x : Place). x .index) (t .0) in
-        let size : q .position .0 ≡ p .position .0 + b .size = ap (λ (x : Place). x .position .0) (t .0) in
-        let lists : q .lists ≡ p .lists = ap (λ (x : Place). x .lists) (t .0) in
-        let here : Taken f (total before) b = rw (m .size) (t .1) in (
-          record {
-            stand = stand-more f b before (m .stand) (omega (arith, m .count, t .2)) here;
-            count = omega (arith, length-append before (b ∷ []), m .count);
-            size = omega (arith, total-more b before, m .size);
-            rest = stepped _ e;
-          },
-          omega (arith, t .2),
-          t .1,
-        )
+      at-list q e =
+          let t = next-tells f p (aList q) e in
+          let known = known-entered f p (m .known) (t .0) (t .1) in
+          let gone : chainOf id f (p₀ .list .next .0) ≡ chainFrom id f (entered p (t .0)) before = onward _ (e ∙ ap (λ (x : Place). answer (aList x)) (sym (t .2))) in
+          let there : At id f p₀ (entered p (t .0)) before × (turnsLeft (entered p (t .0)) < turnsLeft p) = (
+            record { known = known; stand = m .stand; count = omega (arith, m .count); size = m .size; rest = gone },
+            omega (arith, t .3, known .few),
+          ) in
+          subst (λ (x : Place). At id f p₀ x before × (turnsLeft x < turnsLeft p)) (t .2) there
 
 -- ---- the length of the joined data
 

@@ -1,25 +1,52 @@
--- One step of a walk along a chain, and what the chain gives from a place on. f is the file, and id the id of its data
--- blocks.
+-- A walk along a chain: where it stands, what it meets there, and what the chain gives from there on. f is the file, and
+-- id the id of its data blocks.
 use mathlib.Core.Path.{_≡_}
-use Prim.Native.Nat.{ℕ, zero, suc, _+_, _-_, _*_, _≤_, _<_}
-use mathlib.Core.List.{List, [], _∷_, _++_}
+use mathlib.Core.Bool.{Bool, false}
+use Prim.Native.Nat.{ℕ, _+_, _-_, _*_, _≤_, _<_}
+use mathlib.Core.List.{List}
 use lib.ListN.{length, drop}
-use lib.Dec.{ltb, leb, eqb}
+use lib.Dec.{leb, eqb}
 use Rattle.definitions.specs.Reply.{Reply, answer, refusal, if_then_else_, andThen}
 use Rattle.definitions.specs.DataList.{DataList, restCount}
-use Rattle.definitions.specs.Chain.{Block, fragmentOf, fragments, listAt, lists}
+use Rattle.definitions.specs.Chain.{Block, fragmentLimit, listLimit, fragmentOf, fragments, listAt, lists}
 use Rattle.refusals.specs.Meaning.{refused}
-use Rattle.chain.specs.Meaning.{blockMeant}
 use Rattle.chain.specs.declared.place.FileAddress.{FileAddress}
 use Rattle.chain.specs.declared.place.DataPosition.{DataPosition}
+use Rattle.chain.specs.declared.place.OpenList.{OpenList}
 use Rattle.chain.specs.declared.place.Place.{Place}
-use Rattle.chain.specs.declared.step.Step.{Step}
-use Rattle.chain.specs.declared.step.Step.the-variants.{Data, Moved, End, Refused}
+use Rattle.chain.specs.declared.next.NextRead.{NextRead}
+use Rattle.chain.specs.declared.next.NextRead.the-variants.{List as AList, End, Refused}
+
+-- ---- a list that is read
+
+-- what a walk keeps of the list d at an address
+abbrev pub opened : FileAddress → DataList → OpenList
+opened a d = record {
+  address = a;
+  «links_at» = d .linksAt;
+  links = d .links;
+  flags = d .flags;
+  «rest_at» = d .restAt;
+  next = record { 0 = d .next };
+}
+
+abbrev pub Opens : OpenList → DataList → Type 0
+Opens l d = l ≡ opened (l .address) d
+
+-- before the first list, which is at an address
+abbrev pub unopened : FileAddress → OpenList
+unopened a = record { address = record { 0 = 0 }; «links_at» = 0; links = 0; flags = 0; «rest_at» = 0; next = a }
+
+-- link i of the list, and what it declares of that fragment, lie in the bytes s
+pub record LinkWithin (s : List ℕ) (l : OpenList) (i : ℕ) : Type 0 where
+  pub one : i < l .links
+  pub link : l .«links_at» + l .links * 8 ≤ length s
+  pub rest : l .«rest_at» + restCount (l .flags) (l .links) * 8 ≤ length s
 
 -- ---- places
 
 abbrev pub startAt : FileAddress → Place
-startAt a = record { list = a; lists = 0; fragments = 0; index = 0; position = record { 0 = 0 } }
+startAt a = record { list = unopened a; lists = 0; fragments = 0; index = 0; position = record { 0 = 0 } }
 
 abbrev pub further : DataPosition → ℕ → DataPosition
 further q n = record { 0 = q .0 + n }
@@ -34,72 +61,70 @@ behind p n = record {
   position = further (p .position) n;
 }
 
--- at the next list
-abbrev pub nextList : Place → FileAddress → Place
-nextList p a = record {
-  list = a;
+-- in the next list, which is d
+abbrev pub entered : Place → DataList → Place
+entered p d = record {
+  list = opened (p .list .next) d;
   lists = p .lists + 1;
   fragments = p .fragments + p .index;
   index = 0;
   position = p .position;
 }
 
--- the list's link i, and what it declares of that fragment, lie in its bytes
-pub record Readable (s : List ℕ) (d : DataList) (i : ℕ) : Type 0 where
-  pub one : i < d .links
-  pub link : d .linksAt + d .links * 8 ≤ length s
-  pub rest : d .restAt + d .rest * 8 ≤ length s
-  pub counted : d .rest ≡ restCount (d .flags) (d .links)
+-- what a place keeps of its list is what stands in the file
+pub record Known (f : List ℕ) (p : Place) : Type 0 where
+  pub inside : p .index ≤ p .list .links
+  pub few : p .fragments + p .list .links ≤ fragmentLimit
+  -- before the first list there are no links
+  pub none : p .list .links ≤ p .lists * fragmentLimit
+  pub read : 0 < p .lists → (d : DataList) × (listAt f (p .fragments) (p .list .address .0) ≡ answer d) × Opens (p .list) d
 
--- ---- a step
+-- ---- what a walk meets
 
--- what a step finds: a fragment's block with the place behind it, the next list, or the end with the length of the data
-pub data Found : Type 0 where
-  aBlock : Block → Place → Found
-  aList : Place → Found
-  theEnd : ℕ → Found
+-- the fragment at a place
+unfoldable pub fragmentAt : List ℕ → List ℕ → Place → Reply Block
+fragmentAt id f p =
+    andThen (listAt f (p .fragments) (p .list .address .0))
+    (λ d. fragmentOf id f (drop (p .list .address .0) f) d (p .index) (p .position .0))
 
-abbrev pub stepReply : Step → Reply Found
-stepReply (Data b p) = answer (aBlock (blockMeant b) p)
-stepReply (Moved p) = answer (aList p)
-stepReply (End q) = answer (theEnd (q .0))
-stepReply (Refused r) = refused r
+-- behind the last fragment of a list: the next one, or the end with the length of the data
+pub data Onward : Type 0 where
+  aList : Place → Onward
+  theEnd : ℕ → Onward
 
--- at a fragment
-abbrev pub arriving : Place → Block → Reply Found
-arriving p b = answer (aBlock b (behind p (b .size)))
+abbrev pub nextReply : NextRead → Reply Onward
+nextReply (AList p) = answer (aList p)
+nextReply (End q) = answer (theEnd (q .0))
+nextReply (Refused r) = refused r
 
--- behind the last one of a list
-unfoldable pub leaving : Place → DataList → Found
-leaving p d = if eqb (d .next) 0 then theEnd (p .position .0) else aList (nextList p (record { 0 = d .next }))
+-- whether the list read last links no further one
+abbrev pub ended : Place → Bool
+ended p = if eqb (p .lists) 0 then false else eqb (p .list .next .0) 0
 
-unfoldable pub stepIn : List ℕ → List ℕ → Place → DataList → Reply Found
-stepIn id f p d =
-    if ltb (p .index) (d .links)
-    then andThen (fragmentOf id f (drop (p .list .0) f) d (p .index) (p .position .0)) (arriving p)
-    else answer (leaving p d)
-
-unfoldable pub stepOf : List ℕ → List ℕ → Place → Reply Found
-stepOf id f p =
-    if leb 256 (p .lists) then refusal 8 0 else andThen (listAt f (p .fragments) (p .list .0)) (stepIn id f p)
+unfoldable pub nextOf : List ℕ → Place → Reply Onward
+nextOf f p =
+    if ended p then answer (theEnd (p .position .0))
+    else if leb listLimit (p .lists) then refusal 8 0
+    else andThen (listAt f (p .fragments + p .index) (p .list .next .0)) (λ d. answer (aList (entered p d)))
 
 -- ---- the rest of the chain
 
--- k lists at most from the one at a on, this one from its fragment i on, with n fragments in the lists before it: the
--- same as `lists` of the definitions at i = 0 and n = length before
-unfoldable pub listsFrom : List ℕ → List ℕ → ℕ → ℕ → ℕ → ℕ → List Block → Reply (List Block)
-listsFrom id f zero a n i before = refusal 8 0
-listsFrom id f (suc k) a n i before =
-    andThen (listAt f n a)
-    (λ d. andThen (fragments id f (drop a f) d i (d .links - i) before)
-    (λ bs. if eqb (d .next) 0 then answer bs else lists id f k (d .next) bs))
+-- what is left of the list read last, added to the blocks before
+unfoldable pub listFrom : List ℕ → List ℕ → Place → List Block → Reply (List Block)
+listFrom id f p before =
+    if eqb (p .lists) 0 then answer before
+    else andThen (listAt f (p .fragments) (p .list .address .0))
+    (λ d. fragments id f (drop (p .list .address .0) f) d (p .index) (d .links - p .index) before)
+
+-- the lists behind it
+unfoldable pub listsBehind : List ℕ → List ℕ → Place → List Block → Reply (List Block)
+listsBehind id f p bs = if ended p then answer bs else lists id f (listLimit - p .lists) (p .list .next .0) bs
 
 -- what the chain gives in all, where the walk stands at p and the blocks so far are `before`
 abbrev pub chainFrom : List ℕ → List ℕ → Place → List Block → Reply (List Block)
-chainFrom id f p before = listsFrom id f (256 - p .lists) (p .list .0) (p .fragments) (p .index) before
+chainFrom id f p before = andThen (listFrom id f p before) (listsBehind id f p)
 
--- the same after a step
-abbrev pub goOn : List ℕ → List ℕ → List Block → Found → Reply (List Block)
-goOn id f before (aBlock b p) = chainFrom id f p (before ++ (b ∷ []))
+-- the same behind a list
+abbrev pub goOn : List ℕ → List ℕ → List Block → Onward → Reply (List Block)
 goOn id f before (aList p) = chainFrom id f p before
 goOn id f before (theEnd n) = answer before

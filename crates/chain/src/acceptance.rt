@@ -2,13 +2,15 @@
 ghost use mathlib.Core.Path.{_≡_};
 ghost use Rattle.definitions.specs.Chain.{dataLength, totalOf};
 ghost use Rattle.chain.specs.Meaning.{chainReply};
+use crate::block::BlockRead;
 use crate::block::DataBlock;
+use crate::fragment::fragment_at;
 use crate::limits::FILE_LIMIT;
+use crate::next::NextRead;
+use crate::next::next_list;
 use crate::place::DataPosition;
 use crate::place::FileAddress;
 use crate::place::Place;
-use crate::step::Step;
-use crate::step::advance;
 use refusals::Refusal;
 
 pub enum ChainRead {
@@ -22,19 +24,24 @@ pub fn accept(file: &[u8], start: FileAddress, id: &[u8; 4]) -> ChainRead
 {
     let mut place = Place::start(start);
     loop {
-        let step = advance(file, place, id);
-        match step {
-            Step::Refused(refusal) => {
-                return ChainRead::Refused(refusal);
-            }
-            Step::End(total) => {
-                return ChainRead::Whole(total);
-            }
-            Step::Moved(next) => {
-                place = next;
-            }
-            Step::Data(_, next) => {
-                place = next;
+        if place.index < place.list.links {
+            let read = fragment_at(file, place, id);
+            let BlockRead::Block(block) = read else {
+                return ChainRead::Refused(read.refusal());
+            };
+            place = place.behind(block.size);
+        } else {
+            let next = next_list(file, place);
+            match next {
+                NextRead::Refused(why) => {
+                    return ChainRead::Refused(why);
+                }
+                NextRead::End(total) => {
+                    return ChainRead::Whole(total);
+                }
+                NextRead::List(entered) => {
+                    place = entered;
+                }
             }
         }
     }

@@ -6,12 +6,14 @@ ghost use lib.ListN.{length};
 ghost use Rattle.definitions.specs.Reply.{answer};
 ghost use Rattle.definitions.specs.Chain.{Block, chainOf};
 ghost use Rattle.chain.specs.Window.{overwritten, laid, joinedOf};
+use crate::block::BlockRead;
 use crate::block::data_of;
+use crate::fragment::fragment_at;
+use crate::next::NextRead;
+use crate::next::next_list;
 use crate::place::DataPosition;
 use crate::place::FileAddress;
 use crate::place::Place;
-use crate::step::Step;
-use crate::step::advance;
 
 // a less b, and 0 where that is less
 fn less(a: u64, b: u64) -> u64
@@ -63,25 +65,31 @@ pub fn window(file: &[u8], start: FileAddress, id: &[u8; 4], from: DataPosition,
 {
     let mut place = Place::start(start);
     loop {
-        let step = advance(file, place, id);
-        match step {
-            Step::Refused(_) => {
+        if place.index < place.list.links {
+            let read = fragment_at(file, place, id);
+            let BlockRead::Block(block) = read else {
+                return;
+            };
+            let data = data_of(file, block);
+            let position = place.position;
+            lay(data, position, from, out);
+            place = place.behind(block.size);
+            let reached = place.position;
+            if reached.is_behind(from, out.len() as u64) {
                 return;
             }
-            Step::End(_) => {
-                return;
-            }
-            Step::Moved(next) => {
-                place = next;
-            }
-            Step::Data(block, next) => {
-                let data = data_of(file, block);
-                let position = place.position;
-                lay(data, position, from, out);
-                if next.position.is_behind(from, out.len() as u64) {
+        } else {
+            let next = next_list(file, place);
+            match next {
+                NextRead::Refused(_) => {
                     return;
                 }
-                place = next;
+                NextRead::End(_) => {
+                    return;
+                }
+                NextRead::List(entered) => {
+                    place = entered;
+                }
             }
         }
     }

@@ -4,8 +4,10 @@ ghost use Prim.Native.Nat.{_+_, _≤_, _<_};
 ghost use lib.ListN.{length, drop};
 ghost use lib.Dec.{ltb, leb};
 ghost use Rattle.definitions.specs.Chain.{dataLimit, hasHeader};
-ghost use Rattle.chain.specs.Walk.{startAt, further, behind, nextList};
+ghost use Rattle.blocks.specs.Meaning.{listMeant};
+ghost use Rattle.chain.specs.Walk.{startAt, further, behind, ended, entered};
 use crate::limits::DATA_LIMIT;
+use blocks::DataListBlock;
 
 // where a block stands in the file
 pub struct FileAddress(pub u64);
@@ -13,12 +15,24 @@ pub struct FileAddress(pub u64);
 // how many bytes of the joined data are before
 pub struct DataPosition(pub u64);
 
-// Before fragment `index` of the list at `list`
+// What a walk keeps of a list that it has read, so that the list is read once
+pub struct OpenList {
+    pub address: FileAddress,
+    // the data links: where in the bytes from the address on, and how many
+    pub links_at: u64,
+    pub links: u64,
+    pub flags: u8,
+    // where the one length or the offsets stand in those bytes
+    pub rest_at: u64,
+    pub next: FileAddress,
+}
+
+// Before fragment `index` of the list read last. At the start no list is read, and the next one is the first.
 pub struct Place {
-    pub list: FileAddress,
-    // the lists before this one
+    pub list: OpenList,
+    // how many lists are read
     pub lists: u64,
-    // the fragments of those lists
+    // the fragments of the lists before the last
     pub fragments: u64,
     pub index: u64,
     // the data of all fragments before
@@ -90,12 +104,19 @@ impl DataPosition {
 }
 
 impl Place {
-    // before the first fragment of a chain's first list
-    pub fn start(list: FileAddress) -> Place
-        ensures { λ r. ⌜ r ≡ startAt list ⌝ }
+    // before a chain's first list
+    pub fn start(first: FileAddress) -> Place
+        ensures { λ r. ⌜ r ≡ startAt first ⌝ }
     {
         Place {
-            list,
+            list: OpenList {
+                address: FileAddress(0),
+                links_at: 0,
+                links: 0,
+                flags: 0,
+                rest_at: 0,
+                next: first,
+            },
             lists: 0,
             fragments: 0,
             index: 0,
@@ -104,7 +125,7 @@ impl Place {
     }
 
     // behind a fragment with so many bytes of data
-    pub(crate) fn behind(self, size: u64) -> Place
+    pub fn behind(self, size: u64) -> Place
         requires { ⌜ (self .index + 1 < 18446744073709551616) × (self .position .0 + size < 18446744073709551616) ⌝ }
         ensures { λ r. ⌜ r ≡ behind self size ⌝ }
     {
@@ -119,14 +140,33 @@ impl Place {
         }
     }
 
-    // before the first fragment of the next list
-    pub(crate) fn next_list(self, list: FileAddress) -> Place
-        requires { ⌜ (self .lists + 1 < 18446744073709551616) × (self .fragments + self .index < 18446744073709551616) ⌝ }
-        ensures { λ r. ⌜ r ≡ nextList self list ⌝ }
+    // whether the list read last links no further one
+    pub(crate) fn has_ended(self) -> bool
+        ensures { λ r. ⌜ r ≡ ended self ⌝ }
     {
+        if self.lists == 0 {
+            return false;
+        }
+        self.list.next.0 == 0
+    }
+
+    // before the first fragment of the next list, which was read
+    pub(crate) fn enter(self, list: DataListBlock) -> Place
+        requires { ⌜ (self .lists + 1 < 18446744073709551616) × (self .fragments + self .index < 18446744073709551616) ⌝ }
+        ensures { λ r. ⌜ r ≡ entered self (listMeant list) ⌝ }
+    {
+        let last = self.list;
+        let address = last.next;
         let position = self.position;
         Place {
-            list,
+            list: OpenList {
+                address,
+                links_at: list.links_at,
+                links: list.links,
+                flags: list.flags,
+                rest_at: list.rest_at,
+                next: FileAddress(list.next),
+            },
             lists: self.lists + 1,
             fragments: self.fragments + self.index,
             index: 0,

@@ -5,9 +5,9 @@ use Prim.Native.Nat.{ℕ, _+_, _*_, _≤_, _<_}
 use mathlib.Core.List.{List, [], _∷_, _++_}
 use lib.ListN.{length, drop}
 use Rattle.definitions.specs.Reply.{answer}
-use Rattle.definitions.specs.Bytes.{u64At, idAt}
+use Rattle.definitions.specs.Bytes.{u64At, idAt, bit}
 use Rattle.definitions.specs.DataList.{DataList, listOf}
-use Rattle.definitions.specs.Chain.{Block, total, declared, listLimit, fragmentLimit, dataLimit}
+use Rattle.definitions.specs.Chain.{Block, total, listLimit, fragmentLimit, dataLimit}
 
 -- P holds of each element of a list, with those before it and those after it
 unfoldable pub Each : {A : Type 0} → (List A → A → List A → Type 0) → List A → List A → Type 0
@@ -38,12 +38,21 @@ pub record BlockStands (id f : List ℕ) (b : Block) : Type 0 where
   pub links : u64At f (b .address + 16) ≡ 0
   pub blockLength : u64At f (b .address + 8) ≡ 24 + b .size
 
--- block i of the list d at a is the one that its data link i names, and the list tells the truth of it, p bytes of data
--- being before
-pub record BlockListed (id f : List ℕ) (a : ℕ) (d : DataList) (p i : ℕ) (b : Block) : Type 0 where
-  pub link : u64At (drop a f) (d .linksAt + i * 8) ≡ b .address
+-- What the list d, the first of the bytes s, declares of a fragment is true: with i fragments of the list before it and `more`
+-- behind it, its data has n bytes and follows p bytes of the chain's.
+pub record Truthful (s : List ℕ) (d : DataList) (p i more n : ℕ) : Type 0 where
+  -- flag bit 0: one length, that of the data without the header. No fragment is longer, and only the list's last may be shorter
+  pub longest : bit (d .flags) 0 ≡ 1 → n ≤ u64At s (d .restAt)
+  pub full : bit (d .flags) 0 ≡ 1 → 0 < more → n ≡ u64At s (d .restAt)
+  -- without it: an offset for each fragment, which is the length of all data before it
+  pub offset : bit (d .flags) 0 ≡ 0 → u64At s (d .restAt + i * 8) ≡ p
+
+-- Behind the blocks `before` of the list d at a comes b, then `after`: it is the block that its data link names, and the list
+-- tells the truth of it, p bytes of data being before the list.
+pub record BlockListed (id f : List ℕ) (a : ℕ) (d : DataList) (p : ℕ) (before : List Block) (b : Block) (after : List Block) : Type 0 where
+  pub link : u64At (drop a f) (d .linksAt + length before * 8) ≡ b .address
   pub stands : BlockStands id f b
-  pub truthful : declared (drop a f) d i p (b .size) ≡ true
+  pub truthful : Truthful (drop a f) d (p + total before) (length before) (length after) (b .size)
 
 -- a list stands at its address, agrees with itself, links its blocks, and names the list after it, or 0
 pub record PartStands (id f : List ℕ) (before : List Part) (q : Part) (after : List Part) : Type 0 where
@@ -53,7 +62,7 @@ pub record PartStands (id f : List ℕ) (before : List Part) (q : Part) (after :
   pub count : q .list .count ≡ q .list .links
   pub blockLength : q .list .restAt + q .list .rest * 8 ≤ q .list .header .blockLength
   pub links : length (q .blocks) ≡ q .list .links
-  pub each : Each (λ bs b cs. BlockListed id f (q .address) (q .list) (total (blocksOf before) + total bs) (length bs) b) [] (q .blocks)
+  pub each : Each (BlockListed id f (q .address) (q .list) (total (blocksOf before))) [] (q .blocks)
   pub next : q .list .next ≡ linkTo after
 
 pub record Accepted (id f : List ℕ) (start : ℕ) (blocks : List Block) : Type 0 where

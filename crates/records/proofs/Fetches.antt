@@ -9,7 +9,7 @@ use lib.Dec.{ltb, eqb}
 use borrow.Author.Tests.{ltb-false}
 use Rattle.definitions.specs.Reply.{Reply, Outcome, answer, refusal, if_then_else_}
 use Rattle.definitions.specs.Channel.{Channel, ValidValue, validValueOf}
-use Rattle.definitions.specs.Chain.{badSize, fetched, fieldOf, valueFetched}
+use Rattle.definitions.specs.Chain.{recordLimit, badSize, fetched, fieldOf, valueFetched}
 use Rattle.refusals.specs.Meaning.{refused}
 use Rattle.refusals.specs.declared.Refusal.{Refusal}
 use Rattle.chain.specs.Meaning.{fetchedBy}
@@ -25,7 +25,7 @@ module _ (f : List ℕ) (start k size : ℕ) (out : List ℕ) where
   by-size : (b : Bool) (o : Outcome (Unit {0})) → badSize size (length out) ≡ b
       → (if b then record { reply = refusal 15 0; buffer = out } else o) .reply ≡ answer tt → size ≤ length out
   by-size true o e h = let z : _≡_ {A = ℕ} 0 1 = cc in let no : ⊥ = omega arith in absurd no
-  by-size false o e h = ltb-false (length out) size (last-of (eqb size 0 || ltb 16384 size) (ltb (length out) size) e)
+  by-size false o e h = ltb-false (length out) size (last-of (eqb size 0 || ltb recordLimit size) (ltb (length out) size) e)
 
   room : fetched f start k size out .reply ≡ answer tt → size ≤ length out
   unfolding fetched

@@ -30,7 +30,7 @@ at-place : (e : Encoding) (s : List ℕ) (at : ℕ)
 unfolding charAt
 at-place e s at = simp (length-drop, getD-drop, add-zero)
 
-modest-by : (e : Encoding) (n a b c d : ℕ) (r : Character) → Byte e a → Byte e b → Byte e c → Byte e d → inside n (charOf e a b c d) ≡ r → Modest r
+pub modest-by : (e : Encoding) (n a b c d : ℕ) (r : Character) → Byte e a → Byte e b → Byte e c → Byte e d → inside n (charOf e a b c d) ≡ r → Modest r
 modest-by e n a b c d (scalar v m) ha hb hc hd h =
     let s : Spelt e a b c d v m = char-spelt e a b c d v m ha hb hc hd (of-inside n (charOf e a b c d) v m h .0) in
     (scalar-below v (s .value), s .grows)

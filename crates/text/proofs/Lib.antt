@@ -15,4 +15,5 @@ pub mod Verbatim
 pub mod Bytewise
 pub mod Result
 pub mod Behind
+pub mod Room
 pub mod Back

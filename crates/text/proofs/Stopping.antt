@@ -15,14 +15,14 @@ use Rattle.definitions.specs.Unicode.{Encoding, latin1, utf8, utf16, beforeNul,
 
 -- t is the front of s
 record Front (s t : List ℕ) : Type 0 where
-  within : length t ≤ length s
+  shorter : length t ≤ length s
   front : take (length t) s ≡ t
 
 front-none : (s : List ℕ) → Front s []
-front-none s = record { within = omega arith; front = refl }
+front-none s = record { shorter = omega arith; front = refl }
 
 front-cons : (b : ℕ) (s t : List ℕ) → Front s t → Front (b ∷ s) (b ∷ t)
-front-cons b s t f = record { within = omega (arith, f .within); front = ap (λ (l : List ℕ). b ∷ l) (f .front) }
+front-cons b s t f = record { shorter = omega (arith, f .shorter); front = ap (λ (l : List ℕ). b ∷ l) (f .front) }
 
 front-if : (p : Bool) (s t u : List ℕ) → Front s t → Front s u → Front s (if p then t else u)
 front-if true s t u f g = f
@@ -49,23 +49,23 @@ stopped-front (utf16 o) s = front-unit s
 
 -- where the text stops, as a number
 pub stop-within : (e : Encoding) (s : List ℕ) (n : ℕ) → n ≡ length (stopped e s) → n ≤ length s
-stop-within e s n h = omega (arith, stopped-front e s .within)
+stop-within e s n h = omega (arith, stopped-front e s .shorter)
 
 pub stop-kept : (e : Encoding) (s : List ℕ) (n : ℕ) → n ≡ length (stopped e s) → take n s ≡ stopped e s
 stop-kept e s n h = rw h (stopped-front e s .front)
 
 -- a scan: i bytes are kept, and the rule goes on behind them
 pub record Passed (rule : List ℕ → List ℕ) (s : List ℕ) (i : ℕ) : Type 0 where
-  pub within : i ≤ length s
+  pub reached : i ≤ length s
   pub count : i + length (rule (drop i s)) ≡ length (rule s)
 
 pub passed-start : (rule : List ℕ → List ℕ) (s : List ℕ) → Passed rule s 0
-passed-start rule s = record { within = omega arith; count = zero-add _ }
+passed-start rule s = record { reached = omega arith; count = zero-add _ }
 
 -- the rule keeps k bytes more
 pub passed-turn : (rule : List ℕ → List ℕ) (s : List ℕ) (i k : ℕ) → Passed rule s i → i + k ≤ length s
     → length (rule (drop i s)) ≡ k + length (rule (drop (i + k) s)) → Passed rule s (i + k)
-passed-turn rule s i k p h e = record { within = h; count = omega (arith, p .count) }
+passed-turn rule s i k p h e = record { reached = h; count = omega (arith, p .count) }
 
 -- the rule keeps nothing of the rest
 pub passed-end : (rule : List ℕ → List ℕ) (s : List ℕ) (i : ℕ) → Passed rule s i → rule (drop i s) ≡ [] → i ≡ length (rule s)

@@ -71,14 +71,14 @@ damage-here e s at r h q read =
 
 -- a pass that looks for damage: there is none before at
 pub record Checked (e : Encoding) (s : List ℕ) (at : ℕ) : Type 0 where
-  pub within : at ≤ length s
+  pub reached : at ≤ length s
   pub same : allSound (rest e s at) ≡ allSound (chars e 0 s)
 
 pub checked-start : (e : Encoding) (s : List ℕ) → Checked e s 0
-checked-start e s = record { within = omega arith; same = refl }
+checked-start e s = record { reached = omega arith; same = refl }
 
 pub checked-turn : (e : Encoding) (s : List ℕ) (at c m : ℕ) → Checked e s at → Turn e s at c m → Checked e s (at + 1 + m)
-checked-turn e s at c m i t = record { within = t .inside; same = sym (ap allSound (t .step)) ∙ i .same }
+checked-turn e s at c m i t = record { reached = t .inside; same = sym (ap allSound (t .step)) ∙ i .same }
 
 pub checked-sound : (e : Encoding) (s : List ℕ) (at : ℕ) → Checked e s at → length s ≤ at → true ≡ allSound (chars e 0 s)
 checked-sound e s at i h = sym (ap allSound (rest-end e s at h)) ∙ i .same
@@ -116,13 +116,13 @@ measured-damage e s at n i q = simp (sym (checked-damage e s at (i .checked) q))
 
 -- a pass that writes: writing what is left at n makes the buffer what the whole text makes of it
 pub record Wrote (e : Encoding) (s out₀ out : List ℕ) (at n : ℕ) : Type 0 where
-  pub within : at ≤ length s
+  pub reached : at ≤ length s
   pub long : length out ≡ length out₀
   pub count : n + length (charsUtf8 (rest e s at)) ≡ length (charsUtf8 (chars e 0 s))
   pub same : sets out n (charsUtf8 (rest e s at)) ≡ sets out₀ 0 (charsUtf8 (chars e 0 s))
 
 pub wrote-start : (e : Encoding) (s out : List ℕ) → Wrote e s out out 0 0
-wrote-start e s out = record { within = omega arith; long = refl; count = zero-add _; same = refl }
+wrote-start e s out = record { reached = omega arith; long = refl; count = zero-add _; same = refl }
 
 -- the character at hand fits
 pub wrote-room : (e : Encoding) (s out₀ out : List ℕ) (at n c m : ℕ) → Wrote e s out₀ out at n → Turn e s at c m
@@ -133,7 +133,7 @@ pub wrote-turn : (e : Encoding) (s out₀ out out′ : List ℕ) (at n n′ c m 
     → n′ ≡ n + length (utf8Of c) → out′ ≡ sets out n (utf8Of c) → Wrote e s out₀ out′ (at + 1 + m) n′
 wrote-turn e s out₀ out out′ at n n′ c m i t p o =
     record {
-      within = t .inside;
+      reached = t .inside;
       long = ap length o ∙ length-sets out n (utf8Of c) ∙ i .long;
       count = omega (arith, i .count, t .size);
       same = rw (o, p) (sym (sets-append out n (utf8Of c) (charsUtf8 (rest e s (at + 1 + m))))) ∙ ap (sets out n) (sym (ap charsUtf8 (t .step))) ∙ i .same;
@@ -144,7 +144,7 @@ pub wrote-damage : (e : Encoding) (s out₀ out : List ℕ) (at n : ℕ) → Wro
 wrote-damage e s out₀ out at n i h q =
     let rs : charsUtf8 (rest e s at) ≡ charsUtf8 (rest e s (at + 1)) = ap charsUtf8 q in
     record {
-      within = omega arith;
+      reached = omega arith;
       long = i .long;
       count = omega (arith, i .count, ap length rs);
       same = ap (sets out n) (sym rs) ∙ i .same;

@@ -10,7 +10,7 @@ pub enum Char {
 }
 
 // a character that does not end within the bytes left is damage
-pub fn within(read: Char, left: usize) -> Char
+pub fn inside(read: Char, left: usize) -> Char
     ensures { λ r. ⌜ charMeant r ≡ inside left (charMeant read) ⌝ }
 {
     match read {

@@ -8,7 +8,7 @@ ghost use Rattle.text.specs.Meaning.{orderMeant, charMeant, wrote};
 ghost use Rattle.text.specs.Parts.{highByte, CharRead, sizeOf, wholeText};
 use crate::answer::TextWrite;
 use crate::character::Char;
-use crate::character::within;
+use crate::character::inside;
 use crate::damaged::write_damaged_utf16;
 use crate::encode::put_utf8;
 use crate::encode::utf8_width;
@@ -69,9 +69,9 @@ fn char_at(text: &[u8], at: usize, big_endian: bool) -> Char
     let unit = unit_at(text, at, big_endian);
     let left = text.len() - at;
     if left < 4 {
-        return within(utf16_char(unit, 0), left);
+        return inside(utf16_char(unit, 0), left);
     }
-    within(utf16_char(unit, unit_at(text, at + 2, big_endian)), left)
+    inside(utf16_char(unit, unit_at(text, at + 2, big_endian)), left)
 }
 
 // what a text takes as UTF-8

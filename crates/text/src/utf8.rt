@@ -7,7 +7,7 @@ ghost use Rattle.text.specs.Meaning.{charMeant, wrote};
 ghost use Rattle.text.specs.Parts.{CharRead, wholeText};
 use crate::answer::TextWrite;
 use crate::character::Char;
-use crate::character::within;
+use crate::character::inside;
 use crate::damaged::write_damaged_utf8;
 use crate::unchanged::write_unchanged;
 
@@ -135,7 +135,7 @@ fn char_at(text: &[u8], at: usize) -> Char
     let b = byte_at(text, at + 1);
     let c = byte_at(text, at + 2);
     let d = byte_at(text, at + 3);
-    within(utf8_char(a, b, c, d), text.len() - at)
+    inside(utf8_char(a, b, c, d), text.len() - at)
 }
 
 // an ASCII byte decides alone

@@ -3,14 +3,15 @@ use mathlib.Core.Path.{_≡_, refl, sym, ap, _∙_}
 use mathlib.Core.Bool.{Bool, true, false}
 use mathlib.Core.List.{List, [], _∷_, _++_, append-assoc, append-nil}
 use Prim.Native.Nat.{ℕ, zero, suc, _+_, _≤_, _<_}
+use native.Mathlib.Nat.{zero-add}
 use native.Mathlib.Omega.{arith}
 use lib.ListN.{length, drop, length-append}
 use lib.Dec.{eqb}
 use borrow.Author.Tests.{eqb-true, eq-eqb, ne-eqb}
 use Rattle.definitions.specs.Reply.{answer, if_then_else_}
 use Rattle.definitions.specs.DataList.{DataList}
-use Rattle.definitions.specs.Chain.{Block, total, declared, fragmentOf, fragments, listAt, lists, chainOf}
-use Rattle.definitions.specs.Accepted.{Each, Part, blocksOf, linkTo, BlockListed, PartStands, Accepted}
+use Rattle.definitions.specs.Chain.{Block, total, listLimit, fragmentLimit, dataLimit, fragmentOf, fragments, listAt, lists, chainOf}
+use Rattle.definitions.specs.Accepted.{Each, Part, blocksOf, linkTo, Truthful, BlockListed, PartStands, Accepted}
 use Rattle.definitions.proofs.Replies.{not-answered}
 use Rattle.chain.proofs.Answers.{followed}
 use Rattle.theorems.proofs.BlocksStand.{fragment-stands, fragment-taken, list-there, list-taken}
@@ -35,7 +36,7 @@ blocks-append (p ∷ ps) qs = rw (blocks-append ps qs) (sym (append-assoc (p .bl
 module _ (id f : List ℕ) (a : ℕ) (d : DataList) (old : List Block) where
   -- `new` are blocks of it, behind those in `bs`
   abbrev Listed : List Block → List Block → Type 0
-  Listed bs new = Each (λ xs b ys. BlockListed id f a d (total old + total xs) (length xs) b) bs new
+  Listed bs new = Each (BlockListed id f a d (total old)) bs new
 
   one-on : (bs : List Block) (b : Block) (n : ℕ)
       → fragments id f (drop a f) d (length bs + 1) n (old ++ bs ++ (b ∷ [])) ≡ fragments id f (drop a f) d (length (bs ++ (b ∷ []))) n (old ++ (bs ++ (b ∷ [])))
@@ -46,34 +47,35 @@ module _ (id f : List ℕ) (a : ℕ) (d : DataList) (old : List Block) where
   moved : (bs : List Block) (b : Block) (new : List Block) → old ++ (bs ++ (b ∷ [])) ++ new ≡ old ++ bs ++ (b ∷ new)
   moved bs b new = simp append-assoc
 
-  fragments-stand : (n : ℕ) (bs all : List Block) → total (old ++ bs) ≤ 9223372036854775807
+  fragments-stand : (n : ℕ) (bs all : List Block) → length bs + n ≡ d .links → total (old ++ bs) ≤ dataLimit
       → fragments id f (drop a f) d (length bs) n (old ++ bs) ≡ answer all
-      → (new : List Block) × (all ≡ old ++ bs ++ new) × (length new ≡ n) × Listed bs new × (total all ≤ 9223372036854775807)
+      → (new : List Block) × (all ≡ old ++ bs ++ new) × (length new ≡ n) × Listed bs new × (total all ≤ dataLimit)
   unfolding fragments Each
-  fragments-stand zero bs all t h =
+  fragments-stand zero bs all l t h =
       let same : old ++ bs ≡ all = cc in
       ([], sym same ∙ sym (append-nil (old ++ bs)), refl, tt, rw (sym same) t)
-  fragments-stand (suc n) bs all t h =
+  fragments-stand (suc n) bs all l t h =
       let g = followed (fragmentOf id f (drop a f) d (length bs) (total (old ++ bs))) (λ b. fragments id f (drop a f) d (length bs + 1) n (old ++ bs ++ (b ∷ []))) all h in
       let b : Block = g .0 in
-      let k = fragment-stands id f (drop a f) d (length bs) (total (old ++ bs)) b (g .1) in
-      let more : total (old ++ (bs ++ (b ∷ []))) ≤ 9223372036854775807 =
+      let k = fragment-stands id f (drop a f) d (length bs) n (total (old ++ bs)) (omega arith) b (g .1) in
+      let more : total (old ++ (bs ++ (b ∷ []))) ≤ dataLimit =
       omega (arith, total-append old (bs ++ (b ∷ [])), total-append bs (b ∷ []), total-append old bs, total-one b, k .3) in
-      let r = fragments-stand n (bs ++ (b ∷ [])) all more (sym (one-on bs b n) ∙ g .2) in
-      (b ∷ r .0, r .1 ∙ moved bs b (r .0), ap suc (r .2), (record { link = k .0; stands = k .1; truthful = rw (sym (total-append old bs)) (k .2) }, r .3), r .4)
+      let r = fragments-stand n (bs ++ (b ∷ [])) all (omega (arith, length-append bs (b ∷ []))) more (sym (one-on bs b n) ∙ g .2) in
+      let true : Truthful (drop a f) d (total old + total bs) (length bs) (length (r .0)) (b .size) = rw (sym (total-append old bs), r .2) (k .2) in
+      (b ∷ r .0, r .1 ∙ moved bs b (r .0), ap suc (r .2), (record { link = k .0; stands = k .1; truthful = true }, r .3), r .4)
 
-  fragments-taken : (new bs : List Block) → Listed bs new → total (old ++ bs ++ new) ≤ 9223372036854775807
+  fragments-taken : (new bs : List Block) → length bs + length new ≡ d .links → Listed bs new → total (old ++ bs ++ new) ≤ dataLimit
       → fragments id f (drop a f) d (length bs) (length new) (old ++ bs) ≡ answer (old ++ bs ++ new)
   unfolding fragments Each
-  fragments-taken [] bs l t = ap answer (sym (append-nil (old ++ bs)))
-  fragments-taken (b ∷ new) bs l t =
-      let more : total (old ++ (bs ++ (b ∷ [])) ++ new) ≤ 9223372036854775807 = rw (moved bs b new) t in
-      let room : total (old ++ bs) + b .size ≤ 9223372036854775807 =
+  fragments-taken [] bs n l t = ap answer (sym (append-nil (old ++ bs)))
+  fragments-taken (b ∷ new) bs n l t =
+      let more : total (old ++ (bs ++ (b ∷ [])) ++ new) ≤ dataLimit = rw (moved bs b new) t in
+      let room : total (old ++ bs) + b .size ≤ dataLimit =
       omega (arith, total-append (old ++ bs) (b ∷ new), total-append (b ∷ []) new, total-one b) in
-      let true : declared (drop a f) d (length bs) (total (old ++ bs)) (b .size) ≡ true = rw (total-append old bs) (l .0 .truthful) in
+      let true : Truthful (drop a f) d (total (old ++ bs)) (length bs) (length new) (b .size) = rw (total-append old bs) (l .0 .truthful) in
       let here : fragmentOf id f (drop a f) d (length bs) (total (old ++ bs)) ≡ answer b =
-      fragment-taken id f (drop a f) d (length bs) (total (old ++ bs)) b (l .0 .link) (l .0 .stands) true room in
-      rw here (one-on bs b (length new) ∙ fragments-taken new (bs ++ (b ∷ [])) (l .1) more ∙ ap answer (moved bs b new))
+      fragment-taken id f (drop a f) d (length bs) (length new) (total (old ++ bs)) (omega arith) b (l .0 .link) (l .0 .stands) true room in
+      rw here (one-on bs b (length new) ∙ fragments-taken new (bs ++ (b ∷ [])) (omega (arith, length-append bs (b ∷ []))) (l .1) more ∙ ap answer (moved bs b new))
 
 -- ---- the lists of the chain
 
@@ -86,8 +88,8 @@ module _ (id f : List ℕ) where
     pub few : length qs ≤ k
     pub each : Each (PartStands id f) ps qs
     pub together : all ≡ blocksOf (ps ++ qs)
-    pub fewBlocks : length all ≤ 4096
-    pub bounded : total all ≤ 9223372036854775807
+    pub fewBlocks : length all ≤ fragmentLimit
+    pub bounded : total all ≤ dataLimit
 
   blocks-one : (ps : List Part) (q : Part) → blocksOf (ps ++ (q ∷ [])) ≡ blocksOf ps ++ q .blocks
   unfolding blocksOf
@@ -97,18 +99,18 @@ module _ (id f : List ℕ) where
   parts-on ps q qs = simp append-assoc
 
   -- the part that a list and its fragments make
-  part-stands : (a : ℕ) (ps : List Part) (d : DataList) (bs : List Block) → total (blocksOf ps) ≤ 9223372036854775807
+  part-stands : (a : ℕ) (ps : List Part) (d : DataList) (bs : List Block) → total (blocksOf ps) ≤ dataLimit
       → listAt f (length (blocksOf ps)) a ≡ answer d → fragments id f (drop a f) d 0 (d .links) (blocksOf ps) ≡ answer bs
-      → (new : List Block) × (bs ≡ blocksOf ps ++ new) × (length bs ≤ 4096) × (total bs ≤ 9223372036854775807)
+      → (new : List Block) × (bs ≡ blocksOf ps ++ new) × (length bs ≤ fragmentLimit) × (total bs ≤ dataLimit)
       × ((after : List Part) → d .next ≡ linkTo after → PartStands id f ps (record { address = a; list = d; blocks = new }) after)
   part-stands a ps d bs t there got =
       let known = list-there f (length (blocksOf ps)) a d there in
       let old : blocksOf ps ++ [] ≡ blocksOf ps = append-nil (blocksOf ps) in
-      let t′ : total (blocksOf ps ++ []) ≤ 9223372036854775807 = rw old t in
+      let t′ : total (blocksOf ps ++ []) ≤ dataLimit = rw old t in
       let got′ : fragments id f (drop a f) d 0 (d .links) (blocksOf ps ++ []) ≡ answer bs = rw old got in
-      let r = fragments-stand id f a d (blocksOf ps) (d .links) [] bs t′ got′ in
+      let r = fragments-stand id f a d (blocksOf ps) (d .links) [] bs (zero-add (d .links)) t′ got′ in
       let all : bs ≡ blocksOf ps ++ r .0 = r .1 ∙ ap (λ (x : List Block). x ++ r .0) old in
-      let few : length bs ≤ 4096 = omega (arith, ap length all, length-append (blocksOf ps) (r .0), r .2, known .5) in (
+      let few : length bs ≤ fragmentLimit = omega (arith, ap length all, length-append (blocksOf ps) (r .0), r .2, known .5) in (
         r .0,
         all,
         few,
@@ -127,8 +129,8 @@ module _ (id f : List ℕ) where
 
   -- the last list, or the rest of the chain behind it
   on-next : (k a : ℕ) (ps : List Part) (d : DataList) (bs all : List Block) (b : Bool)
-      → ((c : ℕ) (qs : List Part) → total (blocksOf qs) ≤ 9223372036854775807 → lists id f k c (blocksOf qs) ≡ answer all → Chained k c qs all)
-      → total (blocksOf ps) ≤ 9223372036854775807
+      → ((c : ℕ) (qs : List Part) → total (blocksOf qs) ≤ dataLimit → lists id f k c (blocksOf qs) ≡ answer all → Chained k c qs all)
+      → total (blocksOf ps) ≤ dataLimit
       → listAt f (length (blocksOf ps)) a ≡ answer d → fragments id f (drop a f) d 0 (d .links) (blocksOf ps) ≡ answer bs
       → eqb (d .next) 0 ≡ b → (if b then answer bs else lists id f k (d .next) bs) ≡ answer all → Chained (suc k) a ps all
   unfolding Each
@@ -162,7 +164,7 @@ module _ (id f : List ℕ) where
         bounded = c .bounded;
       }
 
-  lists-stand : (k a : ℕ) (ps : List Part) (all : List Block) → total (blocksOf ps) ≤ 9223372036854775807
+  lists-stand : (k a : ℕ) (ps : List Part) (all : List Block) → total (blocksOf ps) ≤ dataLimit
       → lists id f k a (blocksOf ps) ≡ answer all → Chained k a ps all
   unfolding lists
   lists-stand zero a ps all t h = not-answered all 8 0 h
@@ -174,7 +176,7 @@ module _ (id f : List ℕ) where
 
   -- a part that stands is taken
   module _ (k : ℕ) (ps : List Part) (q : Part) (after : List Part) (h : PartStands id f ps q after)
-      (few : length (blocksOf (ps ++ (q ∷ []))) ≤ 4096) (t : total (blocksOf (ps ++ (q ∷ []))) ≤ 9223372036854775807) where
+      (few : length (blocksOf (ps ++ (q ∷ []))) ≤ fragmentLimit) (t : total (blocksOf (ps ++ (q ∷ []))) ≤ dataLimit) where
     list-here : listAt f (length (blocksOf ps)) (q .address) ≡ answer (q .list)
     list-here =
         let links = h .links in
@@ -184,10 +186,10 @@ module _ (id f : List ℕ) where
     fragments-here : fragments id f (drop (q .address) f) (q .list) 0 (q .list .links) (blocksOf ps) ≡ answer (blocksOf (ps ++ (q ∷ [])))
     fragments-here =
         let old : blocksOf ps ++ [] ≡ blocksOf ps = append-nil (blocksOf ps) in
-        let room : total (blocksOf ps ++ [] ++ q .blocks) ≤ 9223372036854775807 = rw (old, sym (blocks-one ps q)) t in
+        let room : total (blocksOf ps ++ [] ++ q .blocks) ≤ dataLimit = rw (old, sym (blocks-one ps q)) t in
         ap (λ (n : ℕ). fragments id f (drop (q .address) f) (q .list) 0 n (blocksOf ps)) (sym (h .links))
         ∙ ap (fragments id f (drop (q .address) f) (q .list) 0 (length (q .blocks))) (sym old)
-        ∙ fragments-taken id f (q .address) (q .list) (blocksOf ps) (q .blocks) [] (h .each) room
+        ∙ fragments-taken id f (q .address) (q .list) (blocksOf ps) (q .blocks) [] (zero-add (length (q .blocks)) ∙ h .links) (h .each) room
         ∙ ap (λ (bs : List Block). answer (bs ++ q .blocks)) old ∙ ap answer (sym (blocks-one ps q))
 
     part-taken : lists id f (suc k) (q .address) (blocksOf ps)
@@ -201,7 +203,7 @@ module _ (id f : List ℕ) where
       (omega (arith, length-append (blocksOf ps) (blocksOf qs)), omega (arith, total-append (blocksOf ps) (blocksOf qs)))
 
   lists-taken : (qs ps : List Part) (k a : ℕ) → Each (PartStands id f) ps qs → linkTo qs ≡ a → 0 < a → length qs ≤ k
-      → length (blocksOf (ps ++ qs)) ≤ 4096 → total (blocksOf (ps ++ qs)) ≤ 9223372036854775807
+      → length (blocksOf (ps ++ qs)) ≤ fragmentLimit → total (blocksOf (ps ++ qs)) ≤ dataLimit
       → lists id f k a (blocksOf ps) ≡ answer (blocksOf (ps ++ qs))
   unfolding Each
   lists-taken [] ps k a h e z few m t = let no : ⊥ = omega arith in absurd no
@@ -224,7 +226,7 @@ module _ (id f : List ℕ) (start : ℕ) where
   pub accepted : (blocks : List Block) → chainOf id f start ≡ answer blocks → Accepted id f start blocks
   unfolding chainOf blocksOf total
   accepted blocks h =
-      let c = lists-stand id f 256 start [] blocks (omega arith) h in
+      let c = lists-stand id f listLimit start [] blocks (omega arith) h in
       record {
         parts = c .qs;
         some = c .some;
@@ -240,7 +242,7 @@ module _ (id f : List ℕ) (start : ℕ) where
   unfolding chainOf blocksOf
   accepts blocks h =
       let e = h .together in
-      lists-taken id f (h .parts) [] 256 start (h .each) (h .first) (h .some) (h .fewLists) (rw (sym e) (h .fewBlocks)) (rw (sym e) (h .bounded)) ∙ ap answer (sym e)
+      lists-taken id f (h .parts) [] listLimit start (h .each) (h .first) (h .some) (h .fewLists) (rw (sym e) (h .fewBlocks)) (rw (sym e) (h .bounded)) ∙ ap answer (sym e)
 
   -- so a chain has its blocks and no others
   pub accepted-once : (bs cs : List Block) → Accepted id f start bs → Accepted id f start cs → bs ≡ cs

@@ -1,27 +1,31 @@
 -- No definition is met by refusing always: each answers exactly where its condition holds.
-use mathlib.Core.Path.{_≡_, refl}
+use mathlib.Core.Path.{_≡_, refl, sym, ap, _∙_}
 use mathlib.Core.Logic.{_⊎_, inl, inr}
 use mathlib.Core.Bool.{Bool, true, false, not, _||_, true≢false}
-use mathlib.Core.List.{List}
+use mathlib.Core.List.{List, _++_}
 use Prim.Native.Nat.{ℕ, _+_, _*_, _≤_, _<_}
 use native.Mathlib.Omega.{arith}
-use lib.ListN.{length, take}
+use lib.ListN.{length, drop}
 use lib.Dec.{ltb, eqb}
 use borrow.Author.Tests.{ltb-false, le-ltb, eqb-true, eqb-false, not-false, ne-eqb, eq-eqb}
 use Rattle.definitions.specs.Reply.{Reply, Outcome, answer, refusal, if_then_else_, andThen, told, writing}
+use Rattle.definitions.specs.Bytes.{span}
 use Rattle.definitions.specs.Unicode.{Encoding, textOf, writtenText, textWritten}
 use Rattle.definitions.specs.Header.{Header, headerIn, headerOf, headerBytes, headerWritten}
 use Rattle.definitions.specs.DataType.{Kind, integer, floating, whole, undecoded, kindOf}
-use Rattle.definitions.specs.DataList.{Lengths, equal, variable, listOf, listBytes, listSize, flagsFor, restFor, unwritable, listWritten}
-use Rattle.definitions.specs.Channel.{Channel, Value, startOf, spanOf, valueBy, valueOf, validValueOf}
-use Rattle.definitions.specs.Chain.{Block, idDT, joined, chainOf, badSize, onBlocks, recordOf, fetched, valueFetched}
+use Rattle.definitions.specs.DataList.{Lengths, equal, variable, linkLimit, listOf, listBytes, listSize, flagsFor, restFor, unwritable, listWritten}
+use Rattle.definitions.specs.Channel.{Channel, Value, ValidValue, startOf, spanOf, valueBy, valueOf, validValueOf}
+use Rattle.definitions.specs.Chain.{Block, idDT, fileLimit, recordLimit, joined, total, chainOf, totalOf, dataLength, badSize, onBlocks, recordOf, fetched, valueFetched}
+use Rattle.definitions.specs.Accepted.{Accepted}
 use Rattle.definitions.proofs.Replies.{not-answered}
 use Rattle.blocks.proofs.Headers.{length-header}
 use Rattle.blocks.proofs.Writes.{length-list}
-use Rattle.chain.proofs.Answers.{answered}
+use Rattle.words.proofs.Spans.{length-span}
+use Rattle.chain.proofs.Answers.{answered, followed}
+use Rattle.theorems.proofs.Rewritten.{front-of}
 use Rattle.theorems.proofs.ListAnswers.{above-zero, list-answered, list-stands}
 use Rattle.theorems.proofs.AcceptedChains.{accepted, accepts}
-use Rattle.theorems.specs.Exactly.{Exactly, ListStands, Counted, ListFits, Legal, Readable, Fetchable, ValueFetchable}
+use Rattle.theorems.specs.Exactly.{Exactly, ListStands, Counted, ListFits, Legal, FieldStands, Joinable, Fetchable, ValueFetchable}
 
 -- ---- tests in turn
 
@@ -100,14 +104,14 @@ header-written-exactly out h =
     let l = length-header h in
     same (λ p. omega arith) (λ p. omega arith) (writing-exactly out (headerBytes h) 24)
 
-counted-passes : (n : ℕ) (l : Lengths) → (n ≤ 4096) × Counted n l → unwritable n l ≡ false
+counted-passes : (n : ℕ) (l : Lengths) → (n ≤ linkLimit) × Counted n l → unwritable n l ≡ false
 counted-passes n (equal k) p = le-ltb _ _ (p .0)
 counted-passes n (variable ns) p = rw (le-ltb _ _ (p .0), eq-eqb _ _ (p .1))
 
-passed-counted : (n : ℕ) (l : Lengths) → unwritable n l ≡ false → (n ≤ 4096) × Counted n l
+passed-counted : (n : ℕ) (l : Lengths) → unwritable n l ≡ false → (n ≤ linkLimit) × Counted n l
 passed-counted n (equal k) h = (ltb-false _ _ h, tt)
 passed-counted n (variable ns) h =
-    let p = neither (ltb 4096 n) (not (eqb n (length ns))) h in
+    let p = neither (ltb linkLimit n) (not (eqb n (length ns))) h in
     (ltb-false _ _ (p .0), eqb-true _ _ (not-false _ (p .1)))
 
 module _ (out : List ℕ) (next : ℕ) (links : List ℕ) (l : Lengths) where
@@ -163,28 +167,44 @@ module _ (s : List ℕ) (at n : ℕ) (c : Channel) where
 
 module _ (s : List ℕ) (idSize : ℕ) (c : Channel) where
   -- a number field inside the record with a legal width has a value, and every other field that is inside it
-  pub value-exactly : Exactly (Readable s idSize c) (valueOf s idSize c)
+  pub value-exactly : Exactly (FieldStands s idSize c) (valueOf s idSize c)
   unfolding valueOf
   value-exactly =
       same (λ r. (r .legal, r .inside)) (λ p. record { legal = p .0; inside = p .1 })
       (by-kind s (startOf idSize c) (spanOf s c) c (kindOf (c .dataType)))
 
-  pub valid-value-exactly : (dataBytes : ℕ) → Exactly (Readable s idSize c) (validValueOf s idSize dataBytes c)
+  pub valid-value-exactly : (dataBytes : ℕ) → Exactly (FieldStands s idSize c) (validValueOf s idSize dataBytes c)
   unfolding validValueOf
   valid-value-exactly dataBytes =
       same (λ p. (p, tt)) (λ p. p .0) (going-on (valueOf s idSize c) _ value-exactly (λ v. always _))
 
+-- ---- the joined data
+
+module _ (id f : List ℕ) (start : ℕ) where
+  pub total-exactly : Exactly ((bs : List Block) × Accepted id f start bs) (totalOf id f start)
+  unfolding totalOf
+  total-exactly = record {
+    answers = λ p. (_, ap (λ (r : Reply (List Block)). andThen r (λ bs. answer (total bs))) (accepts id f start (p .0) (p .1)));
+    only = λ n e. let r = followed (chainOf id f start) _ n e in (r .0, accepted id f start (r .0) (r .1));
+  }
+
+pub length-exactly : (f : List ℕ) (start : ℕ) → Exactly (Joinable f start) (dataLength f start)
+unfolding dataLength
+length-exactly f start =
+    same (λ h. (h .short, (h .blocks, h .accepted))) (λ p. record { short = p .0; blocks = p .1 .0; accepted = p .1 .1 })
+    (not-under fileLimit (length f) 7 0 _ (total-exactly idDT f start))
+
 -- ---- records
 
-size-passes : (size room : ℕ) → (0 < size) × (size ≤ 16384) × (size ≤ room) → badSize size room ≡ false
+size-passes : (size room : ℕ) → (0 < size) × (size ≤ recordLimit) × (size ≤ room) → badSize size room ≡ false
 size-passes size room p =
     let z : size ≡ 0 → ⊥ = λ e. omega (arith, p .0) in
     rw (ne-eqb _ _ z, le-ltb _ _ (p .1), le-ltb _ _ (p .2))
 
-passed-size : (size room : ℕ) → badSize size room ≡ false → (0 < size) × (size ≤ 16384) × (size ≤ room)
-passed-size size room h =
-    let p = neither (eqb size 0 || ltb 16384 size) (ltb room size) h in
-    let q = neither (eqb size 0) (ltb 16384 size) (p .0) in
+pub size-fits : (size room : ℕ) → badSize size room ≡ false → (0 < size) × (size ≤ recordLimit) × (size ≤ room)
+size-fits size room h =
+    let p = neither (eqb size 0 || ltb recordLimit size) (ltb room size) h in
+    let q = neither (eqb size 0) (ltb recordLimit size) (p .0) in
     (above-zero size (eqb-false _ _ (q .0)), ltb-false _ _ (q .1), ltb-false _ _ (p .1))
 
 module _ (f : List ℕ) (start k size : ℕ) (out : List ℕ) where
@@ -221,14 +241,33 @@ module _ (f : List ℕ) (start k size : ℕ) (out : List ℕ) where
         inside = p .1 .1 .2;
       })
       (reply-of (badSize size (length out)) 15 0 out _
-      (passing (badSize size (length out)) 15 0 _ (size-passes size (length out)) (passed-size size (length out))
-      (reply-of (ltb 1099511627776 (length f)) 7 0 out _
-      (not-under 1099511627776 (length f) 7 0 _ (on-blocks (chainOf idDT f start))))))
+      (passing (badSize size (length out)) 15 0 _ (size-passes size (length out)) (size-fits size (length out))
+      (reply-of (ltb fileLimit (length f)) 7 0 out _
+      (not-under fileLimit (length f) 7 0 _ (on-blocks (chainOf idDT f start))))))
 
-  pub value-fetched-exactly : (idSize dataBytes : ℕ) (c : Channel)
-      → Exactly (ValueFetchable f start k size idSize c out) (valueFetched f start k size idSize dataBytes c out .reply)
-  unfolding valueFetched
-  value-fetched-exactly idSize dataBytes c =
-      same (λ h. (h .fetchable, h .readable)) (λ p. record { fetchable = p .0; readable = p .1 })
-      (going-on (fetched f start k size out .reply) _ fetched-exactly
-      (λ u. valid-value-exactly (take size (fetched f start k size out .buffer)) idSize c dataBytes))
+  -- such a record is left in the buffer's front
+  pub fetched-record : (h : Fetchable f start k size out)
+      → fetched f start k size out ≡ record { reply = answer tt; buffer = span (joined f (h .blocks)) (k * size) size ++ drop size out }
+  unfolding fetched recordOf
+  fetched-record h =
+      rw (size-passes size (length out) (h .some, h .small, h .room), le-ltb _ _ (h .short), accepts idDT f start (h .blocks) (h .accepted), le-ltb _ _ (h .inside))
+
+  module _ (idSize dataBytes : ℕ) (c : Channel) where
+    -- and its field is read from those bytes alone
+    value-of-record : (h : Fetchable f start k size out)
+        → valueFetched f start k size idSize dataBytes c out .reply ≡ validValueOf (span (joined f (h .blocks)) (k * size) size) idSize dataBytes c
+    unfolding valueFetched
+    value-of-record h =
+        let l : length (span (joined f (h .blocks)) (k * size) size) ≡ size = length-span (joined f (h .blocks)) (k * size) size (h .inside) in
+        rw (fetched-record h, front-of _ (drop size out) size l)
+
+    -- a value is answered of a record that was fetched
+    record-before : (v : ValidValue) → valueFetched f start k size idSize dataBytes c out .reply ≡ answer v → Fetchable f start k size out
+    unfolding valueFetched
+    record-before v e = let r = followed (fetched f start k size out .reply) _ v e in fetched-exactly .only (r .0) (r .1)
+
+    pub value-fetched-exactly : Exactly (ValueFetchable f start k size idSize c out) (valueFetched f start k size idSize dataBytes c out .reply)
+    value-fetched-exactly = record {
+      answers = λ h. let v = valid-value-exactly _ idSize c dataBytes .answers (h .field) in (v .0, value-of-record (h .fetchable) ∙ v .1);
+      only = λ a e. let h = record-before a e in record { fetchable = h; field = valid-value-exactly _ idSize c dataBytes .only a (sym (value-of-record h) ∙ e) };
+    }

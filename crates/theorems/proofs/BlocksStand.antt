@@ -1,34 +1,68 @@
--- A block is taken at an address exactly where it stands there, and a list exactly where it stands and agrees.
-use mathlib.Core.Path.{_≡_, sym, ap, _∙_}
-use mathlib.Core.Bool.{true, not}
+-- A block is taken at an address exactly where it stands there, a fragment exactly where its list tells the truth of it, and a
+-- list exactly where it stands and agrees.
+use mathlib.Core.Path.{_≡_, refl, sym, ap, _∙_}
+use mathlib.Core.Bool.{Bool, true, false, not}
 use mathlib.Core.List.{List}
 use Prim.Native.Nat.{ℕ, _+_, _-_, _*_, _≤_, _<_}
 use native.Mathlib.Omega.{arith}
 use lib.ListN.{length, drop}
-use lib.Dec.{ltb}
-use borrow.Author.Tests.{leb-true, ltb-false, eqb-true, eqb-false, not-true, not-false, le-leb, le-ltb, eq-eqb, ne-eqb}
-use Rattle.definitions.specs.Reply.{answer}
-use Rattle.definitions.specs.Bytes.{u64At}
-use Rattle.definitions.specs.DataList.{DataList, listOf}
-use Rattle.definitions.specs.Chain.{Block, hasHeader, blockAt, judged, declared, fragmentOf, agrees, admitted, listAt}
-use Rattle.definitions.specs.Accepted.{BlockStands}
+use lib.Dec.{ltb, leb, eqb}
+use borrow.Author.Tests.{leb-true, ltb-true, ltb-false, eqb-true, eqb-false, not-false, le-leb, le-ltb, eq-eqb, ne-eqb}
+use Rattle.definitions.specs.Reply.{answer, if_then_else_}
+use Rattle.definitions.specs.Bytes.{u64At, bit}
+use Rattle.definitions.specs.DataList.{DataList, oneLength, listOf}
+use Rattle.definitions.specs.Chain.{Block, fragmentLimit, dataLimit, hasHeader, blockAt, judged, declared, fragmentOf, agrees, admitted, listAt}
+use Rattle.definitions.specs.Accepted.{BlockStands, Truthful}
 use Rattle.definitions.proofs.Replies.{both}
+use Rattle.chain.proofs.Addresses.{header-there}
 use Rattle.chain.proofs.Answers.{passed, followed}
 use Rattle.chain.proofs.Blocks.{block-stands}
 
-module _ (f : List ℕ) (a : ℕ) where
-  not-zero : (a ≡ 0 → ⊥) → 0 < a
-  not-zero h = omega arith
+has-header : (f : List ℕ) (a : ℕ) → 0 < a → a + 24 ≤ length f → hasHeader f a ≡ true
+has-header f a h l =
+    let z : a ≡ 0 → ⊥ = λ e. omega arith in
+    rw (ne-eqb _ _ z, le-leb _ _ l)
 
-  has-header : hasHeader f a ≡ true → (0 < a) × (a + 24 ≤ length f)
-  has-header h =
-      let p = both _ _ h in
-      (not-zero (eqb-false a 0 (not-true _ (p .0))), leb-true _ _ (p .1))
+unset : (flags : ℕ) → (bit flags 0 ≡ 1 → ⊥) → bit flags 0 ≡ 0
+unset flags h = omega arith
 
-  header-there : 0 < a → a + 24 ≤ length f → hasHeader f a ≡ true
-  header-there h l =
-      let z : a ≡ 0 → ⊥ = λ e. omega arith in
-      rw (ne-eqb _ _ z, le-leb _ _ l)
+-- the walk's test of a fragment, by the flag and by whether another one follows in the list, is that the list tells the truth
+module _ (s : List ℕ) (d : DataList) (p i more n : ℕ) (here : i + 1 + more ≡ d .links) where
+  abbrev Test : Bool → Bool → Bool
+  Test one inner =
+      if one then (if inner then eqb n (u64At s (d .restAt)) else leb n (u64At s (d .restAt)))
+      else eqb (u64At s (d .restAt + i * 8)) p
+
+  -- bit 0 is not both
+  clash : {B : Type 0} → bit (d .flags) 0 ≡ 1 → bit (d .flags) 0 ≡ 0 → B
+  clash one zero = let no : ⊥ = omega (arith, sym one ∙ zero) in absurd no
+
+  by-test : (one inner : Bool) → oneLength (d .flags) ≡ one → ltb (i + 1) (d .links) ≡ inner → Test one inner ≡ true → Truthful s d p i more n
+  by-test true true e k h =
+      let same : n ≡ u64At s (d .restAt) = eqb-true _ _ h in
+      record { longest = λ o. omega arith; full = λ o m. same; offset = λ z. clash (eqb-true _ _ e) z }
+  by-test true false e k h =
+      let last : d .links ≤ i + 1 = ltb-false _ _ k in record {
+        longest = λ o. leb-true _ _ h;
+        full = λ o m. let no : ⊥ = omega arith in absurd no;
+        offset = λ z. clash (eqb-true _ _ e) z;
+      }
+  by-test false inner e k h = record {
+    longest = λ o. absurd (eqb-false _ _ e o);
+    full = λ o m. absurd (eqb-false _ _ e o);
+    offset = λ z. eqb-true _ _ h;
+  }
+
+  test-true : declared s d i p n ≡ true → Truthful s d p i more n
+  test-true h = by-test (oneLength (d .flags)) (ltb (i + 1) (d .links)) refl refl h
+
+  true-tested : Truthful s d p i more n → declared s d i p n ≡ true
+  true-tested t = go (oneLength (d .flags)) (ltb (i + 1) (d .links)) refl refl
+    where
+      go : (one inner : Bool) → oneLength (d .flags) ≡ one → ltb (i + 1) (d .links) ≡ inner → Test one inner ≡ true
+      go true true e k = let l : i + 1 < d .links = ltb-true _ _ k in eq-eqb _ _ (t .full (eqb-true _ _ e) (omega arith))
+      go true false e k = le-leb _ _ (t .longest (eqb-true _ _ e))
+      go false inner e k = eq-eqb _ _ (t .offset (unset (d .flags) (eqb-false _ _ e)))
 
 module _ (id f : List ℕ) where
   pub block-taken : (b : Block) → BlockStands id f b → blockAt id f (b .address) ≡ answer b
@@ -36,44 +70,48 @@ module _ (id f : List ℕ) where
   block-taken b h =
       let in-file = h .inside in
       let l : u64At f (b .address + 8) ≡ 24 + b .size = h .blockLength in
-      let there : hasHeader f (b .address) ≡ true = header-there f (b .address) (h .somewhere) (omega arith) in
+      let there : hasHeader f (b .address) ≡ true = has-header f (b .address) (h .somewhere) (omega arith) in
       let long : 24 ≤ 24 + b .size = omega arith in
       let ends : b .address + (24 + b .size) ≤ length f = omega arith in
       let less : 24 + b .size - 24 ≡ b .size = omega arith in
       rw (there, h .named, eq-eqb _ _ (h .links), l, le-ltb _ _ long, le-ltb _ _ ends, less)
 
-  module _ (s : List ℕ) (d : DataList) (i p : ℕ) where
+  module _ (s : List ℕ) (d : DataList) (i more p : ℕ) (here : i + 1 + more ≡ d .links) where
     pub fragment-stands : (b : Block) → fragmentOf id f s d i p ≡ answer b
-        → (u64At s (d .linksAt + i * 8) ≡ b .address) × BlockStands id f b × (declared s d i p (b .size) ≡ true) × (p + b .size ≤ 9223372036854775807)
+        → (u64At s (d .linksAt + i * 8) ≡ b .address) × BlockStands id f b × Truthful s d p i more (b .size) × (p + b .size ≤ dataLimit)
     unfolding fragmentOf
     fragment-stands b h =
         let g = followed (blockAt id f (u64At s (d .linksAt + i * 8))) (judged s d i p) b h in
         let k = block-stands id f (u64At s (d .linksAt + i * 8)) (g .0) (g .1) in
-        let m = passed (ltb 9223372036854775807 (p + g .0 .size)) 14 0 _ b (g .2) in
+        let m = passed (ltb dataLimit (p + g .0 .size)) 14 0 _ b (g .2) in
         let t = passed (not (declared s d i p (g .0 .size))) 13 0 _ b (m .1) in
-        let same : g .0 ≡ b = cc in
-        (rw (sym same) (sym (k .0)), rw (sym same) (k .1), rw (sym same) (not-false _ (t .0)), rw (sym same) (ltb-false _ _ (m .0)))
+        let same : g .0 ≡ b = cc in (
+          rw (sym same) (sym (k .0)),
+          rw (sym same) (k .1),
+          rw (sym same) (test-true s d p i more (g .0 .size) here (not-false _ (t .0))),
+          rw (sym same) (ltb-false _ _ (m .0)),
+        )
 
-    pub fragment-taken : (b : Block) → u64At s (d .linksAt + i * 8) ≡ b .address → BlockStands id f b → declared s d i p (b .size) ≡ true
-        → p + b .size ≤ 9223372036854775807 → fragmentOf id f s d i p ≡ answer b
+    pub fragment-taken : (b : Block) → u64At s (d .linksAt + i * 8) ≡ b .address → BlockStands id f b → Truthful s d p i more (b .size)
+        → p + b .size ≤ dataLimit → fragmentOf id f s d i p ≡ answer b
     unfolding fragmentOf
-    fragment-taken b e h t l = rw (e, block-taken b h, le-ltb _ _ l, t)
+    fragment-taken b e h t l = rw (e, block-taken b h, le-ltb _ _ l, true-tested s d p i more (b .size) here t)
 
 module _ (f : List ℕ) (n a : ℕ) where
   pub list-there : (d : DataList) → listAt f n a ≡ answer d
-      → (0 < a) × (a + 24 ≤ length f) × (listOf (drop a f) ≡ answer d) × (d .count ≡ d .links) × (d .restAt + d .rest * 8 ≤ d .header .blockLength) × (n + d .links ≤ 4096)
+      → (0 < a) × (a + 24 ≤ length f) × (listOf (drop a f) ≡ answer d) × (d .count ≡ d .links) × (d .restAt + d .rest * 8 ≤ d .header .blockLength) × (n + d .links ≤ fragmentLimit)
   unfolding listAt
   list-there d h =
       let p = passed (not (hasHeader f a)) 11 0 _ d h in
-      let there = has-header f a (not-false _ (p .0)) in
+      let there = header-there f a (not-false _ (p .0)) in
       let g = followed (listOf (drop a f)) (admitted n) d (p .1) in
       let q = passed (not (agrees (g .0))) 10 0 _ d (g .2) in
-      let r = passed (ltb 4096 (n + g .0 .links)) 9 0 _ d (q .1) in
+      let r = passed (ltb fragmentLimit (n + g .0 .links)) 9 0 _ d (q .1) in
       let same : g .0 ≡ d = cc in
       let t = both _ _ (not-false _ (q .0)) in
       (there .0, there .1, g .1 ∙ ap answer same, rw (sym same) (eqb-true _ _ (t .0)), rw (sym same) (leb-true _ _ (t .1)), rw (sym same) (ltb-false _ _ (r .0)))
 
   pub list-taken : (d : DataList) → 0 < a → a + 24 ≤ length f → listOf (drop a f) ≡ answer d → d .count ≡ d .links
-      → d .restAt + d .rest * 8 ≤ d .header .blockLength → n + d .links ≤ 4096 → listAt f n a ≡ answer d
+      → d .restAt + d .rest * 8 ≤ d .header .blockLength → n + d .links ≤ fragmentLimit → listAt f n a ≡ answer d
   unfolding listAt
-  list-taken d h l e c b m = rw (header-there f a h l, e, eq-eqb _ _ c, le-leb _ _ b, le-ltb _ _ m)
+  list-taken d h l e c b m = rw (has-header f a h l, e, eq-eqb _ _ c, le-leb _ _ b, le-ltb _ _ m)

@@ -1,126 +1,137 @@
--- What a refusal leaves: every lent byte, but for a record that was fetched before its field was refused.
-use mathlib.Core.Path.{_≡_, refl, sym}
-use mathlib.Core.Logic.{_⊎_, inl, inr}
-use mathlib.Core.Bool.{Bool, true, false, not, _&&_, _||_}
-use mathlib.Core.List.{List}
-use Prim.Native.Nat.{ℕ, _+_, _*_}
+-- What a call leaves of the buffer that it is lent. Where it refuses: every byte, but for a record that was fetched before its
+-- field was refused. Where it answers: every byte behind those that it reports as written.
+use mathlib.Core.Path.{_≡_, refl, sym, ap, _∙_, subst}
+use mathlib.Core.Bool.{Bool, true, false}
+use mathlib.Core.List.{List, _++_}
+use Prim.Native.Nat.{ℕ, _+_, _-_, _*_, _≤_}
 use native.Mathlib.Omega.{arith}
-use lib.ListN.{length, take}
-use lib.Dec.{ltb, eqb}
-use Rattle.definitions.specs.Reply.{Reply, Outcome, answer, refusal, if_then_else_, andThen, told, writing}
-use Rattle.definitions.specs.Unicode.{Encoding, textOf, writtenText, textWritten}
+use lib.ListN.{length, drop, length-append, length-drop}
+use lib.Seq.{drop-append-seam}
+use lib.Dec.{ltb}
+use borrow.Author.Tests.{ltb-false}
+use Rattle.definitions.specs.Reply.{Reply, Outcome, answer, refusal, if_then_else_, told, writing}
+use Rattle.definitions.specs.Bytes.{span}
+use Rattle.definitions.specs.Unicode.{Encoding, TextWritten, textOf, writtenText, textWritten}
 use Rattle.definitions.specs.Header.{Header, headerBytes, headerWritten}
-use Rattle.definitions.specs.DataType.{Kind, kindOf}
 use Rattle.definitions.specs.DataList.{Lengths, listBytes, listSize, flagsFor, restFor, unwritable, listWritten}
-use Rattle.definitions.specs.Channel.{Channel, Value, ValidValue, startOf, spanOf, decoded, isInteger, isFloating, isNumber, noValue, valueBy, valueOf, validValueOf}
-use Rattle.definitions.specs.Chain.{Block, idDT, joined, chainOf, badSize, onBlocks, recordOf, fetched, valueFetched}
+use Rattle.definitions.specs.Channel.{Channel}
+use Rattle.definitions.specs.Chain.{Block, idDT, fileLimit, joined, chainOf, badSize, onBlocks, recordOf, fetched, valueFetched}
+use Rattle.definitions.proofs.Replies.{not-answered}
+use Rattle.words.proofs.Spans.{length-span}
+use Rattle.blocks.proofs.Headers.{length-header}
+use Rattle.blocks.proofs.Writes.{length-list}
+use Rattle.chain.proofs.Answers.{answered}
+use Rattle.theorems.proofs.RefusalNumbers.{OfField, field-of-fetched, other-of-fetch}
+use Rattle.theorems.proofs.Answers.{size-fits, fetched-exactly, fetched-record}
+use Rattle.theorems.specs.Exactly.{Fetchable}
 
--- a refused call leaves the buffer as it was
-abbrev pub LeftAlone : {A : Type 0} → Outcome A → List ℕ → Type 0
-LeftAlone o out = (n t : ℕ) → o .reply ≡ refusal n t → o .buffer ≡ out
+-- the buffer is as long as before, and nothing changed behind its first n bytes
+pub record SameBehind (n : ℕ) (before after : List ℕ) : Type 0 where
+  pub long : length after ≡ length before
+  pub behind : drop n after ≡ drop n before
 
-module _ {A : Type 0} (out : List ℕ) where
-  no-refusal : (a : A) (buffer : List ℕ) (n t : ℕ) → answer a ≡ refusal n t → buffer ≡ out
-  no-refusal a buffer n t h = let z : _≡_ {A = ℕ} 0 1 = cc in let no : ⊥ = omega arith in absurd no
+pub untouched : (n : ℕ) (before after : List ℕ) → after ≡ before → SameBehind n before after
+untouched n before after e = record { long = ap length e; behind = ap (drop n) e }
 
-  -- where a test refuses, and what comes behind it leaves the buffer too
-  pub behind-test : (b : Bool) (n t : ℕ) (o : Outcome A) → LeftAlone o out
-      → LeftAlone (if b then record { reply = refusal n t; buffer = out } else o) out
-  behind-test true n t o h m s e = refl
-  behind-test false n t o h m s e = h m s e
+-- bytes at the front, and the rest as before
+front-laid : (front out : List ℕ) (n : ℕ) → length front ≡ n → n ≤ length out → SameBehind n out (front ++ drop n out)
+front-laid front out n e l = record {
+  long = omega (arith, length-append front (drop n out), length-drop n out);
+  behind = ap (λ (k : ℕ). drop k (front ++ drop n out)) (sym e) ∙ drop-append-seam front (drop n out);
+}
 
-  by-room : (b : Bool) (bytes buffer : List ℕ) (a : A)
-      → LeftAlone (if b then record { reply = refusal 6 (told (length bytes)); buffer = out } else record { reply = answer a; buffer = buffer }) out
-  by-room true bytes buffer a n t e = refl
-  by-room false bytes buffer a n t e = no-refusal a buffer n t e
+-- of an outcome whose answers report `count` bytes
+pub record Leaves {A : Type 0} (count : A → ℕ) (out : List ℕ) (o : Outcome A) : Type 0 where
+  pub refused : (n t : ℕ) → o .reply ≡ refusal n t → o .buffer ≡ out
+  pub answers : (a : A) → o .reply ≡ answer a → SameBehind (count a) out (o .buffer)
 
-  pub writing-left : (bytes : List ℕ) (a : A) → LeftAlone (writing out bytes a) out
-  writing-left bytes a = by-room (ltb (length out) (length bytes)) bytes _ a
+module _ {A : Type 0} (count : A → ℕ) (out : List ℕ) where
+  refusing : (n t : ℕ) → Leaves count out (record { reply = refusal n t; buffer = out })
+  refusing n t = record { refused = λ m s e. refl; answers = λ a e. not-answered a n t e }
 
-pub header-left : (out : List ℕ) (h : Header) → LeftAlone (headerWritten out h) out
-unfolding headerWritten
-header-left out h = writing-left out (headerBytes h) 24
+  answering : (a : A) (front : List ℕ) (n : ℕ) → count a ≡ n → length front ≡ n → n ≤ length out
+      → Leaves count out (record { reply = answer a; buffer = front ++ drop n out })
+  answering a front n c e l = record {
+    refused = λ m s q. not-answered a m s (sym q);
+    answers = λ b q. subst (λ (k : ℕ). SameBehind k out (front ++ drop n out)) (sym c ∙ ap count (answered q)) (front-laid front out n e l);
+  }
 
-pub list-left : (out : List ℕ) (next : ℕ) (links : List ℕ) (l : Lengths) → LeftAlone (listWritten out next links l) out
-unfolding listWritten
-list-left out next links l =
-    behind-test out (unwritable (length links) l) 5 0 _ (writing-left out (listBytes next links (flagsFor l) (restFor l)) (listSize (length links) (length (restFor l))))
+  -- behind a test that refuses
+  tested : (b t : Bool) (n m : ℕ) (o : Outcome A) → t ≡ b → (t ≡ false → Leaves count out o)
+      → Leaves count out (if b then record { reply = refusal n m; buffer = out } else o)
+  tested true t n m o e h = refusing n m
+  tested false t n m o e h = h e
 
-pub text-left : (out : List ℕ) (e : Encoding) (s : List ℕ) → LeftAlone (textWritten out e s) out
-unfolding textWritten writtenText
-text-left out e s = writing-left out (textOf e s .bytes) _
+  writing-leaves : (bytes : List ℕ) (a : A) → count a ≡ length bytes → Leaves count out (writing out bytes a)
+  writing-leaves bytes a c =
+      tested (ltb (length out) (length bytes)) _ 6 (told (length bytes)) _ refl
+      (λ h. answering a bytes (length bytes) c refl (ltb-false _ _ h))
+
+-- the bytes that a header and a list report, and a text
+abbrev pub itself : ℕ → ℕ
+itself n = n
+
+abbrev pub countOf : TextWritten → ℕ
+countOf t = t .count
 
 module _ (out : List ℕ) where
-  by-end : (b : Bool) (buffer : List ℕ)
-      → LeftAlone {A = Unit {0}} (if b then record { reply = refusal 16 0; buffer = out } else record { reply = answer tt; buffer = buffer }) out
-  by-end true buffer n t e = refl
-  by-end false buffer n t e = no-refusal {A = Unit {0}} out tt buffer n t e
+  pub header-leaves : (h : Header) → Leaves itself out (headerWritten out h)
+  unfolding headerWritten
+  header-leaves h = writing-leaves itself out (headerBytes h) 24 (sym (length-header h))
 
-  record-left : (j : List ℕ) (k size : ℕ) → LeftAlone (recordOf j k size out) out
+  pub list-leaves : (next : ℕ) (links : List ℕ) (l : Lengths) → Leaves itself out (listWritten out next links l)
+  unfolding listWritten
+  list-leaves next links l =
+      let size : listSize (length links) (length (restFor l)) ≡ length (listBytes next links (flagsFor l) (restFor l)) =
+      omega (arith, length-list next links (flagsFor l) (restFor l)) in
+      tested itself out (unwritable (length links) l) _ 5 0 _ refl
+      (λ h. writing-leaves itself out (listBytes next links (flagsFor l) (restFor l)) (listSize (length links) (length (restFor l))) size)
+
+  pub text-leaves : (e : Encoding) (s : List ℕ) → Leaves countOf out (textWritten out e s)
+  unfolding textWritten writtenText
+  text-leaves e s = writing-leaves countOf out (textOf e s .bytes) _ refl
+
+  -- a record is `size` bytes
+  record-leaves : (j : List ℕ) (k size : ℕ) → size ≤ length out → Leaves (λ u. size) out (recordOf j k size out)
   unfolding recordOf
-  record-left j k size = by-end (ltb (length j) (k * size + size)) _
+  record-leaves j k size room =
+      tested (λ u. size) out (ltb (length j) (k * size + size)) _ 16 0 _ refl
+      (λ h. answering (λ u. size) out tt (span j (k * size) size) size refl (length-span j (k * size) size (ltb-false _ _ h)) room)
 
-  on-blocks : (r : Reply (List Block)) (f : List Block → Outcome (Unit {0})) → ((bs : List Block) → LeftAlone (f bs) out) → LeftAlone (onBlocks r f out) out
-  on-blocks (answer bs) f h n t e = h bs n t e
-  on-blocks (refusal m s) f h n t e = refl
+  on-blocks : (size : ℕ) (r : Reply (List Block)) (f : List Block → Outcome (Unit {0})) → ((bs : List Block) → Leaves (λ u. size) out (f bs))
+      → Leaves (λ u. size) out (onBlocks r f out)
+  on-blocks size (answer bs) f h = h bs
+  on-blocks size (refusal n t) f h = refusing (λ u. size) out n t
 
-  pub fetch-left : (f : List ℕ) (start k size : ℕ) → LeftAlone (fetched f start k size out) out
+  pub fetch-leaves : (f : List ℕ) (start k size : ℕ) → Leaves (λ u. size) out (fetched f start k size out)
   unfolding fetched
-  fetch-left f start k size =
-      behind-test out (badSize size (length out)) 15 0 _
-      (behind-test out (ltb 1099511627776 (length f)) 7 0 _
-      (on-blocks (chainOf idDT f start) _ (λ bs. record-left (joined f bs) k size)))
+  fetch-leaves f start k size =
+      tested (λ u. size) out (badSize size (length out)) _ 15 0 _ refl
+      (λ h. tested (λ u. size) out (ltb fileLimit (length f)) _ 7 0 _ refl
+      (λ g. on-blocks size (chainOf idDT f start) _ (λ bs. record-leaves (joined f bs) k size (size-fits size (length out) h .2))))
 
-  -- the record is in the buffer, or nothing is
-  by-reply : (o : Outcome (Unit {0})) (r : Reply (Unit {0})) → o .reply ≡ r → LeftAlone o out → (o .buffer ≡ out) ⊎ (o .reply ≡ answer tt)
-  by-reply o (answer u) e h = inr e
-  by-reply o (refusal n t) e h = inl (h n t e)
-
-  pub fetched-or-left : (f : List ℕ) (start k size : ℕ) → (fetched f start k size out .buffer ≡ out) ⊎ (fetched f start k size out .reply ≡ answer tt)
-  fetched-or-left f start k size = by-reply (fetched f start k size out) (fetched f start k size out .reply) refl (fetch-left f start k size)
-
-  -- and a value leaves what the fetch did, whatever its reply
-  pub value-left : (f : List ℕ) (start k size idSize dataBytes : ℕ) (c : Channel)
-      → valueFetched f start k size idSize dataBytes c out .buffer ≡ fetched f start k size out .buffer
+-- a value leaves what the fetch did, whatever the field's reply
+module _ (out f : List ℕ) (start k size idSize dataBytes : ℕ) (c : Channel) where
+  as-fetched : valueFetched f start k size idSize dataBytes c out .buffer ≡ fetched f start k size out .buffer
   unfolding valueFetched
-  value-left f start k size idSize dataBytes c = refl
+  as-fetched = refl
 
--- ---- a field is refused with 1 alone, so that is the reply where a fetched record stays
+  -- so where its refusal is not the field's 1, all of the buffer, and else what is behind the record
+  pub value-spares : (n t : ℕ) → valueFetched f start k size idSize dataBytes c out .reply ≡ refusal n t → (n ≡ 1 → ⊥)
+      → valueFetched f start k size idSize dataBytes c out .buffer ≡ out
+  value-spares n t e other =
+      as-fetched ∙ fetch-leaves out f start k size .refused n t (other-of-fetch f start k size out idSize dataBytes c n t e other)
 
-abbrev pub OnlyWithOne : {A : Type 0} → Reply A → Type 0
-OnlyWithOne r = (n t : ℕ) → r ≡ refusal n t → (n ≡ 1) × (t ≡ 0)
+  pub value-behind : SameBehind size out (valueFetched f start k size idSize dataBytes c out .buffer)
+  value-behind = go (fetched f start k size out .reply) refl
+    where
+      go : (r : Reply (Unit {0})) → fetched f start k size out .reply ≡ r → SameBehind size out (valueFetched f start k size idSize dataBytes c out .buffer)
+      go (answer u) e = subst (SameBehind size out) (sym as-fetched) (fetch-leaves out f start k size .answers u e)
+      go (refusal n t) e = untouched size out _ (as-fetched ∙ fetch-leaves out f start k size .refused n t e)
 
-module _ {A : Type 0} where
-  one-or-on : (b : Bool) (r : Reply A) → OnlyWithOne r → OnlyWithOne (if b then noValue else r)
-  one-or-on true r h n t e = (let z : 1 ≡ n = cc in sym z, let z : 0 ≡ t = cc in sym z)
-  one-or-on false r h n t e = h n t e
-
-  no-refusal-at-all : (a : A) → OnlyWithOne (answer a)
-  no-refusal-at-all a n t e = absurd (let z : _≡_ {A = ℕ} 0 1 = cc in omega arith)
-
-module _ (s : List ℕ) (idSize : ℕ) (c : Channel) where
-  by-with-one : (k : Kind) (at n : ℕ) → OnlyWithOne (valueBy k at n s c)
-  unfolding valueBy
-  by-with-one k at n =
-      one-or-on (isNumber k && eqb (c .bitCount) 0) _
-      (one-or-on (isNumber k && ltb 7 (c .bitOffset)) _
-      (one-or-on (isInteger k && ltb 64 (c .bitCount)) _
-      (one-or-on (ltb (length s) (at + n)) _
-      (one-or-on (isFloating k && not (eqb (c .bitCount) 32 || eqb (c .bitCount) 64)) _ (no-refusal-at-all (decoded (c .dataType) s at n c))))))
-
-  pub value-with-one : OnlyWithOne (valueOf s idSize c)
-  unfolding valueOf
-  value-with-one = by-with-one (kindOf (c .dataType)) (startOf idSize c) (spanOf s c)
-
-  both-with-one : (r : Reply Value) (f : Value → ValidValue) → OnlyWithOne r → OnlyWithOne (andThen r (λ x. answer (f x)))
-  both-with-one (answer x) f h n t e = no-refusal-at-all (f x) n t e
-  both-with-one (refusal m u) f h n t e = h n t (let z : m ≡ n = cc in let y : u ≡ t = cc in rw (z, y))
-
-  pub valid-value-with-one : (dataBytes : ℕ) → OnlyWithOne (validValueOf s idSize dataBytes c)
-  unfolding validValueOf
-  valid-value-with-one dataBytes = both-with-one (valueOf s idSize c) _ value-with-one
-
-pub kept-with-one : (out f : List ℕ) (start k size idSize dataBytes : ℕ) (c : Channel) → fetched f start k size out .reply ≡ answer tt
-    → OnlyWithOne (valueFetched f start k size idSize dataBytes c out .reply)
-unfolding valueFetched
-kept-with-one out f start k size idSize dataBytes c h = rw h (valid-value-with-one (take size (fetched f start k size out .buffer)) idSize c dataBytes)
+  -- a reply about the field leaves the record in the buffer's front
+  pub value-holds : OfField (valueFetched f start k size idSize dataBytes c out .reply)
+      → (h : Fetchable f start k size out) × (valueFetched f start k size idSize dataBytes c out .buffer ≡ span (joined f (h .blocks)) (k * size) size ++ drop size out)
+  value-holds e =
+      let h : Fetchable f start k size out = fetched-exactly f start k size out .only tt (field-of-fetched f start k size out idSize dataBytes c e) in
+      (h, as-fetched ∙ ap (λ (o : Outcome (Unit {0})). o .buffer) (fetched-record f start k size out h))

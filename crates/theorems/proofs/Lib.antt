@@ -10,7 +10,16 @@ pub mod AcceptedChains
 pub mod NoSecondReply
 pub mod NoSecondReplyToC
 pub mod TwoFiles
-pub mod LeftAlone
 pub mod TwoFilesRead
 pub mod Answers
+pub mod RefusalNumbers
+pub mod LeftAlone
 pub mod LeftAloneByCalls
+pub mod AnswersByCalls
+pub mod LocalityByCalls
+pub mod RoundTripsInBuffers
+pub mod RoundTripsByCalls
+pub mod TextClausesToC
+pub mod AnswersToC
+pub mod LeftAloneToC
+pub mod RoundTripsToC

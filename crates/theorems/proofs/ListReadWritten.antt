@@ -12,7 +12,7 @@ use borrow.Author.Tests.{le-ltb, eq-eqb, eqb-true}
 use Rattle.definitions.specs.Reply.{answer, if_then_else_}
 use Rattle.definitions.specs.Bytes.{leOf, le, span, u32At, u64At, u64sAt, idAt}
 use Rattle.definitions.specs.Header.{Header, headerIn, headerBytes}
-use Rattle.definitions.specs.DataList.{DataList, idDL, oneLength, listOf, listIn, restIn, restCount, flagsAt, listSize, headerFor, listBytes, Lengths, equal, variable, flagsFor, restFor, unwritable}
+use Rattle.definitions.specs.DataList.{DataList, idDL, linkLimit, oneLength, listOf, listIn, restIn, restCount, flagsAt, listSize, headerFor, listBytes, Lengths, equal, variable, flagsFor, restFor, unwritable}
 use Rattle.words.proofs.Numbers.{Bytes}
 use Rattle.words.proofs.Spans.{span-one, span-split}
 use Rattle.words.proofs.Ids.{id-words}
@@ -26,7 +26,7 @@ pub record Plain (d : DataList) : Type 0 where
   pub header-reserved : d .header .reserved ≡ 0
   pub reserved : d .reserved ≡ 0
   pub flags : (d .flags ≡ 0) ⊎ (d .flags ≡ 1)
-  pub few : d .links ≤ 4096
+  pub few : d .links ≤ linkLimit
   pub count : d .count ≡ d .links
   pub blockLength : d .header .blockLength ≡ d .restAt + d .rest * 8
 
@@ -120,7 +120,7 @@ pub record Formed (s : List ℕ) (d : DataList) : Type 0 where
   pub flags : flagsFor (lengthsIn s d) ≡ d .flags
   pub rest : restFor (lengthsIn s d) ≡ u64sAt s (d .restAt) (d .rest)
 
-one-form : (s : List ℕ) (d : DataList) → d .flags ≡ 1 → d .rest ≡ restCount (d .flags) (d .count) → d .links ≤ 4096
+one-form : (s : List ℕ) (d : DataList) → d .flags ≡ 1 → d .rest ≡ restCount (d .flags) (d .count) → d .links ≤ linkLimit
     → Formed s d
 unfolding u64sAt
 one-form s d f e few =
@@ -128,7 +128,7 @@ one-form s d f e few =
     let r : d .rest ≡ 1 = e ∙ rw one in
     record { writable = rw one (le-ltb _ _ few); flags = rw one (sym f); rest = rw (one, r) }
 
-many-form : (s : List ℕ) (d : DataList) → d .flags ≡ 0 → d .rest ≡ restCount (d .flags) (d .count) → d .links ≤ 4096 → d .count ≡ d .links
+many-form : (s : List ℕ) (d : DataList) → d .flags ≡ 0 → d .rest ≡ restCount (d .flags) (d .count) → d .links ≤ linkLimit → d .count ≡ d .links
     → Formed s d
 many-form s d f e few c =
     let many : oneLength (d .flags) ≡ false = rw f in

@@ -9,7 +9,7 @@ use lib.Seq.{getD-at}
 use Rattle.definitions.specs.Reply.{answer, if_then_else_}
 use Rattle.definitions.specs.Bytes.{leOf, le, les, span, u32At, u64At, u64sAt, idAt}
 use Rattle.definitions.specs.Header.{Header, headerIn, headerBytes}
-use Rattle.definitions.specs.DataList.{DataList, idDL, oneLength, listOf, listIn, restIn, restCount, flagsAt, headerFor, listBytes}
+use Rattle.definitions.specs.DataList.{DataList, idDL, linkLimit, oneLength, listOf, listIn, restIn, restCount, flagsAt, headerFor, listBytes}
 use Rattle.words.proofs.Numbers.{length-le, length-les}
 use Rattle.blocks.proofs.Headers.{length-header}
 use Rattle.blocks.proofs.Writes.{length-list}
@@ -21,7 +21,7 @@ use Rattle.theorems.proofs.ListAnswers.{list-answered}
 -- what a list is written from: numbers of their widths, and as many of the rest as the flags and the count say
 pub record Writable (next : ℕ) (links : List ℕ) (flags : ℕ) (rest : List ℕ) : Type 0 where
   pub next-fits : next < 2 ^ 64
-  pub few : length links ≤ 4096
+  pub few : length links ≤ linkLimit
   pub counted : restCount flags (length links) ≡ length rest
   pub links-fit : Words links
   pub rest-fits : Words rest
@@ -40,7 +40,7 @@ listFrom next links flags rest = record {
   rest = length rest;
 }
 
-few-rest : (n r : ℕ) (one : Bool) → (if one then 1 else n) ≡ r → n ≤ 4096 → r ≤ 4096
+few-rest : (n r : ℕ) (one : Bool) → (if one then 1 else n) ≡ r → n ≤ linkLimit → r ≤ linkLimit
 few-rest n r true e h = omega arith
 few-rest n r false e h = omega arith
 
@@ -90,8 +90,8 @@ module _ (next : ℕ) (links : List ℕ) (flags : ℕ) (rest after : List ℕ) w
     header-fits : Fits header
     unfolding leOf
     header-fits =
-        let short : length rest ≤ 4096 = few-rest (length links) (length rest) (oneLength flags) (w .counted) (w .few) in
-        let long : length links ≤ 4096 = w .few in
+        let short : length rest ≤ linkLimit = few-rest (length links) (length rest) (oneLength flags) (w .counted) (w .few) in
+        let long : length links ≤ linkLimit = w .few in
         record { id = omega arith; reserved = omega arith; blockLength = omega arith; linkCount = omega arith }
 
     header-is : headerIn s ≡ header

@@ -1,10 +1,18 @@
 -- No public call has a second reply: each theorem is about the very clause of the call's contract.
-use mathlib.Core.Path.{refl, sym, ap, _∙_}
+use mathlib.Core.Path.{_≡_, refl, sym, ap, _∙_}
+use mathlib.Core.List.{List}
 use Prim.Native.Nat.{ℕ}
-use Rattle.definitions.specs.Reply.{Outcome}
-use Rattle.definitions.specs.Unicode.{TextWritten}
-use Rattle.definitions.specs.Channel.{ValidValue}
-use Rattle.theorems.specs.Sole.{Settled}
+use contract.Lifetimes.{Lfts}
+use contract.Monad.{fact}
+use denote.Triple.Clauses.{Lasts}
+use borrow.Fn.Kind.{PK, RK}
+use borrow.Fn.Kinds.{Out, Dens, resT, endedOf}
+use Rattle.definitions.specs.Reply.{Reply, Outcome}
+use Rattle.theorems.specs.Sole.{Allows, Settled}
+use Rattle.blocks.specs.Meaning.{writtenReply}
+use Rattle.text.specs.Meaning.{textReply}
+use Rattle.decoder.specs.Meaning.{validValueReply}
+use Rattle.chain.specs.Meaning.{recordReply}
 use Rattle.blocks.proofs.Back.{written-one, header-one, type-one, list-one}
 use Rattle.text.proofs.Back.{text-one}
 use Rattle.decoder.proofs.Back.{value-one, valid-value-one}
@@ -25,8 +33,6 @@ use Rattle.doubles.proofs.value_of.Kinds as double-value-kinds
 use Rattle.doubles.proofs.value_of.Reads as double-value
 use Rattle.blocks.proofs.header.BlockHeader.from_bytes.Kinds as header-read-kinds
 use Rattle.blocks.proofs.header.BlockHeader.from_bytes.Reads as header-read
-use Rattle.blocks.proofs.header.HeaderRead.refusal.Kinds as header-refusal-kinds
-use Rattle.blocks.proofs.header.HeaderRead.refusal.Reads as header-refusal
 use Rattle.blocks.proofs.header.BlockHeader.to_bytes.Kinds as header-write-kinds
 use Rattle.blocks.proofs.header.BlockHeader.to_bytes.Reads as header-write
 use Rattle.blocks.proofs.data_type.DataType.from_u8.Kinds as type-read-kinds
@@ -37,8 +43,6 @@ use Rattle.blocks.proofs.data_type.DataType.default_bits.Kinds as type-bits-kin
 use Rattle.blocks.proofs.data_type.DataType.default_bits.Reads as type-bits
 use Rattle.blocks.proofs.data_list.DataListBlock.from_bytes.Kinds as list-read-kinds
 use Rattle.blocks.proofs.data_list.DataListBlock.from_bytes.Reads as list-read
-use Rattle.blocks.proofs.data_list.ListRead.refusal.Kinds as list-refusal-kinds
-use Rattle.blocks.proofs.data_list.ListRead.refusal.Reads as list-refusal
 use Rattle.blocks.proofs.data_list.DataListBlock.write_equal.Kinds as list-equal-kinds
 use Rattle.blocks.proofs.data_list.DataListBlock.write_equal.Reads as list-equal
 use Rattle.blocks.proofs.data_list.DataListBlock.write_variable.Kinds as list-variable-kinds
@@ -49,239 +53,110 @@ use Rattle.text.proofs.write_text.Kinds as text-write-kinds
 use Rattle.text.proofs.write_text.Reads as text-write
 use Rattle.decoder.proofs.decode_channel_value.Kinds as value-read-kinds
 use Rattle.decoder.proofs.decode_channel_value.Reads as value-read
-use Rattle.decoder.proofs.value.ValueRead.refusal.Kinds as value-refusal-kinds
-use Rattle.decoder.proofs.value.ValueRead.refusal.Reads as value-refusal
 use Rattle.decoder.proofs.check_value_validity.Kinds as validity-kinds
 use Rattle.decoder.proofs.check_value_validity.Reads as validity
 use Rattle.decoder.proofs.decode_channel_value_with_validity.Kinds as valid-value-read-kinds
 use Rattle.decoder.proofs.decode_channel_value_with_validity.Reads as valid-value-read
-use Rattle.decoder.proofs.value.ValidValueRead.refusal.Kinds as valid-value-refusal-kinds
-use Rattle.decoder.proofs.value.ValidValueRead.refusal.Reads as valid-value-refusal
 use Rattle.decoder.proofs.decode_f64_from_record.Kinds as record-double-kinds
 use Rattle.decoder.proofs.decode_f64_from_record.Reads as record-double
 use Rattle.chain.proofs.accept.Kinds as chain-accept-kinds
 use Rattle.chain.proofs.accept.Reads as chain-accept
+use Rattle.chain.proofs.data_length.Kinds as chain-length-kinds
+use Rattle.chain.proofs.data_length.Reads as chain-length
 use Rattle.chain.proofs.place.Place.start.Kinds as chain-start-kinds
 use Rattle.chain.proofs.place.Place.start.Reads as chain-start
 use Rattle.chain.proofs.read_record.Kinds as record-read-kinds
 use Rattle.chain.proofs.read_record.Reads as record-read
-use Rattle.chain.proofs.record.RecordRead.refusal.Kinds as record-refusal-kinds
-use Rattle.chain.proofs.record.RecordRead.refusal.Reads as record-refusal
 use Rattle.records.proofs.read_value.Kinds as record-value-kinds
 use Rattle.records.proofs.read_value.Reads as record-value
 
+-- what differs from call to call is why two replies are one; that a clause asks nothing and is the plain fact is computed
+pub settled : {n : ℕ} {ps : List (PK n)} {r : RK n} {learnt : Out n ps r}
+    → ((κs : Lfts n) (a : Dens κs ps) (y z : resT r κs .Denot) (b c : Lasts (endedOf n ps r) κs a)
+    → Allows n ps r learnt κs a y b → Allows n ps r learnt κs a z c → (y ≡ z) × (b ≡ c))
+    → Settled n ps r (λ κs a. Unit {0}) (λ κs a u y e w. fact (w .𝓤) (learnt κs a y e)) learnt
+settled sole = record { free = λ κs a. tt; says = λ κs a y e w. refl; sole = sole }
+
+-- equal outcomes come of one result, and of one buffer, which stands among the lent ones at its place
+one-outcome : {A Y B : Type 0} (meaning : Y → Reply A) → ((y z : Y) → meaning y ≡ meaning z → y ≡ z) → (place : List ℕ → B)
+    {y z : Y} {b c : List ℕ} → _≡_ {A = Outcome A} (record { reply = meaning y; buffer = b }) (record { reply = meaning z; buffer = c })
+    → (y ≡ z) × (place b ≡ place c)
+one-outcome {A} meaning one place {y} {z} e = (one y z (ap (λ (o : Outcome A). o .reply) e), ap (λ (o : Outcome A). place (o .buffer)) e)
+
 pub refusal-number-settled : Settled 0 refusal-number-kinds.ps refusal-number-kinds.r refusal-number.Asked refusal-number.ensures refusal-number.Learnt
-refusal-number-settled = record {
-  free = λ κs a. tt;
-  says = λ κs a y e w. refl;
-  sole = λ κs a y z b c p q. (p ∙ sym q, refl);
-}
+refusal-number-settled = settled (λ κs a y z b c p q. (p ∙ sym q, refl))
 
 pub refusal-told-settled : Settled 0 refusal-told-kinds.ps refusal-told-kinds.r refusal-told.Asked refusal-told.ensures refusal-told.Learnt
-refusal-told-settled = record {
-  free = λ κs a. tt;
-  says = λ κs a y e w. refl;
-  sole = λ κs a y z b c p q. (p ∙ sym q, refl);
-}
+refusal-told-settled = settled (λ κs a y z b c p q. (p ∙ sym q, refl))
 
 pub double-unsigned-settled : Settled 0 double-unsigned-kinds.ps double-unsigned-kinds.r double-unsigned.Asked double-unsigned.ensures double-unsigned.Learnt
-double-unsigned-settled = record {
-  free = λ κs a. tt;
-  says = λ κs a y e w. refl;
-  sole = λ κs a y z b c p q. (p ∙ sym q, refl);
-}
+double-unsigned-settled = settled (λ κs a y z b c p q. (p ∙ sym q, refl))
 
 pub double-by-sign-settled : Settled 0 double-by-sign-kinds.ps double-by-sign-kinds.r double-by-sign.Asked double-by-sign.ensures double-by-sign.Learnt
-double-by-sign-settled = record {
-  free = λ κs a. tt;
-  says = λ κs a y e w. refl;
-  sole = λ κs a y z b c p q. (p ∙ sym q, refl);
-}
+double-by-sign-settled = settled (λ κs a y z b c p q. (p ∙ sym q, refl))
 
 pub double-signed-settled : Settled 0 double-signed-kinds.ps double-signed-kinds.r double-signed.Asked double-signed.ensures double-signed.Learnt
-double-signed-settled = record {
-  free = λ κs a. tt;
-  says = λ κs a y e w. refl;
-  sole = λ κs a y z b c p q. (p ∙ sym q, refl);
-}
+double-signed-settled = settled (λ κs a y z b c p q. (p ∙ sym q, refl))
 
 pub double-widened-settled : Settled 0 double-widened-kinds.ps double-widened-kinds.r double-widened.Asked double-widened.ensures double-widened.Learnt
-double-widened-settled = record {
-  free = λ κs a. tt;
-  says = λ κs a y e w. refl;
-  sole = λ κs a y z b c p q. (p ∙ sym q, refl);
-}
+double-widened-settled = settled (λ κs a y z b c p q. (p ∙ sym q, refl))
 
 pub double-value-settled : Settled 0 double-value-kinds.ps double-value-kinds.r double-value.Asked double-value.ensures double-value.Learnt
-double-value-settled = record {
-  free = λ κs a. tt;
-  says = λ κs a y e w. refl;
-  sole = λ κs a y z b c p q. (p ∙ sym q, refl);
-}
+double-value-settled = settled (λ κs a y z b c p q. (p ∙ sym q, refl))
 
 pub header-read-settled : Settled 1 header-read-kinds.ps header-read-kinds.r header-read.Asked header-read.ensures header-read.Learnt
-header-read-settled = record {
-  free = λ κs a. tt;
-  says = λ κs a y e w. refl;
-  sole = λ κs a y z b c p q. (header-one y z (p ∙ sym q), refl);
-}
-
-pub header-refusal-settled : Settled 0 header-refusal-kinds.ps header-refusal-kinds.r header-refusal.Asked header-refusal.ensures header-refusal.Learnt
-header-refusal-settled = record {
-  free = λ κs a. tt;
-  says = λ κs a y e w. refl;
-  sole = λ κs a y z b c p q. (p ∙ sym q, refl);
-}
+header-read-settled = settled (λ κs a y z b c p q. (header-one y z (p ∙ sym q), refl))
 
 pub header-write-settled : Settled 1 header-write-kinds.ps header-write-kinds.r header-write.Asked header-write.ensures header-write.Learnt
-header-write-settled = record {
-  free = λ κs a. tt;
-  says = λ κs a y e w. refl;
-  sole = λ κs a y z b c p q.
-      (written-one y z (ap (λ (o : Outcome ℕ). o .reply) (p ∙ sym q)), ap (λ (o : Outcome ℕ). (tt, (o .buffer, tt))) (p ∙ sym q));
-}
+header-write-settled = settled (λ κs a y z b c p q. one-outcome writtenReply written-one (λ out. (tt, (out, tt))) (p ∙ sym q))
 
 pub type-read-settled : Settled 0 type-read-kinds.ps type-read-kinds.r type-read.Asked type-read.ensures type-read.Learnt
-type-read-settled = record {
-  free = λ κs a. tt;
-  says = λ κs a y e w. refl;
-  sole = λ κs a y z b c p q. (type-one y z (p ∙ sym q), refl);
-}
+type-read-settled = settled (λ κs a y z b c p q. (type-one y z (p ∙ sym q), refl))
 
 pub type-code-settled : Settled 0 type-code-kinds.ps type-code-kinds.r type-code.Asked type-code.ensures type-code.Learnt
-type-code-settled = record {
-  free = λ κs a. tt;
-  says = λ κs a y e w. refl;
-  sole = λ κs a y z b c p q. (p ∙ sym q, refl);
-}
+type-code-settled = settled (λ κs a y z b c p q. (p ∙ sym q, refl))
 
 pub type-bits-settled : Settled 0 type-bits-kinds.ps type-bits-kinds.r type-bits.Asked type-bits.ensures type-bits.Learnt
-type-bits-settled = record {
-  free = λ κs a. tt;
-  says = λ κs a y e w. refl;
-  sole = λ κs a y z b c p q. (p ∙ sym q, refl);
-}
+type-bits-settled = settled (λ κs a y z b c p q. (p ∙ sym q, refl))
 
 pub list-read-settled : Settled 1 list-read-kinds.ps list-read-kinds.r list-read.Asked list-read.ensures list-read.Learnt
-list-read-settled = record {
-  free = λ κs a. tt;
-  says = λ κs a y e w. refl;
-  sole = λ κs a y z b c p q. (list-one y z (p ∙ sym q), refl);
-}
-
-pub list-refusal-settled : Settled 0 list-refusal-kinds.ps list-refusal-kinds.r list-refusal.Asked list-refusal.ensures list-refusal.Learnt
-list-refusal-settled = record {
-  free = λ κs a. tt;
-  says = λ κs a y e w. refl;
-  sole = λ κs a y z b c p q. (p ∙ sym q, refl);
-}
+list-read-settled = settled (λ κs a y z b c p q. (list-one y z (p ∙ sym q), refl))
 
 pub list-equal-settled : Settled 2 list-equal-kinds.ps list-equal-kinds.r list-equal.Asked list-equal.ensures list-equal.Learnt
-list-equal-settled = record {
-  free = λ κs a. tt;
-  says = λ κs a y e w. refl;
-  sole = λ κs a y z b c p q.
-      (written-one y z (ap (λ (o : Outcome ℕ). o .reply) (p ∙ sym q)), ap (λ (o : Outcome ℕ). (o .buffer, c .1)) (p ∙ sym q));
-}
+list-equal-settled = settled (λ κs a y z b c p q. one-outcome writtenReply written-one (λ out. (tt, (tt, (tt, (out, tt))))) (p ∙ sym q))
 
 pub list-variable-settled : Settled 3 list-variable-kinds.ps list-variable-kinds.r list-variable.Asked list-variable.ensures list-variable.Learnt
-list-variable-settled = record {
-  free = λ κs a. tt;
-  says = λ κs a y e w. refl;
-  sole = λ κs a y z b c p q.
-      (written-one y z (ap (λ (o : Outcome ℕ). o .reply) (p ∙ sym q)), ap (λ (o : Outcome ℕ). (o .buffer, c .1)) (p ∙ sym q));
-}
+list-variable-settled = settled (λ κs a y z b c p q. one-outcome writtenReply written-one (λ out. (tt, (tt, (tt, (out, tt))))) (p ∙ sym q))
 
 pub text-end-settled : Settled 1 text-end-kinds.ps text-end-kinds.r text-end.Asked text-end.ensures text-end.Learnt
-text-end-settled = record {
-  free = λ κs a. tt;
-  says = λ κs a y e w. refl;
-  sole = λ κs a y z b c p q. (p ∙ sym q, refl);
-}
+text-end-settled = settled (λ κs a y z b c p q. (p ∙ sym q, refl))
 
 pub text-write-settled : Settled 2 text-write-kinds.ps text-write-kinds.r text-write.Asked text-write.ensures text-write.Learnt
-text-write-settled = record {
-  free = λ κs a. tt;
-  says = λ κs a y e w. refl;
-  sole = λ κs a y z b c p q.
-      (text-one y z (ap (λ (o : Outcome TextWritten). o .reply) (p ∙ sym q)), ap (λ (o : Outcome TextWritten). (tt, (tt, (o .buffer, tt)))) (p ∙ sym q));
-}
+text-write-settled = settled (λ κs a y z b c p q. one-outcome textReply text-one (λ out. (tt, (tt, (out, tt)))) (p ∙ sym q))
 
 pub value-read-settled : Settled 1 value-read-kinds.ps value-read-kinds.r value-read.Asked value-read.ensures value-read.Learnt
-value-read-settled = record {
-  free = λ κs a. tt;
-  says = λ κs a y e w. refl;
-  sole = λ κs a y z b c p q. (value-one y z (p ∙ sym q), refl);
-}
-
-pub value-refusal-settled : Settled 0 value-refusal-kinds.ps value-refusal-kinds.r value-refusal.Asked value-refusal.ensures value-refusal.Learnt
-value-refusal-settled = record {
-  free = λ κs a. tt;
-  says = λ κs a y e w. refl;
-  sole = λ κs a y z b c p q. (p ∙ sym q, refl);
-}
+value-read-settled = settled (λ κs a y z b c p q. (value-one y z (p ∙ sym q), refl))
 
 pub validity-settled : Settled 1 validity-kinds.ps validity-kinds.r validity.Asked validity.ensures validity.Learnt
-validity-settled = record {
-  free = λ κs a. tt;
-  says = λ κs a y e w. refl;
-  sole = λ κs a y z b c p q. (p ∙ sym q, refl);
-}
+validity-settled = settled (λ κs a y z b c p q. (p ∙ sym q, refl))
 
 pub valid-value-read-settled : Settled 1 valid-value-read-kinds.ps valid-value-read-kinds.r valid-value-read.Asked valid-value-read.ensures valid-value-read.Learnt
-valid-value-read-settled = record {
-  free = λ κs a. tt;
-  says = λ κs a y e w. refl;
-  sole = λ κs a y z b c p q. (valid-value-one y z (p ∙ sym q), refl);
-}
-
-pub valid-value-refusal-settled : Settled 0 valid-value-refusal-kinds.ps valid-value-refusal-kinds.r valid-value-refusal.Asked valid-value-refusal.ensures valid-value-refusal.Learnt
-valid-value-refusal-settled = record {
-  free = λ κs a. tt;
-  says = λ κs a y e w. refl;
-  sole = λ κs a y z b c p q. (p ∙ sym q, refl);
-}
+valid-value-read-settled = settled (λ κs a y z b c p q. (valid-value-one y z (p ∙ sym q), refl))
 
 pub record-double-settled : Settled 1 record-double-kinds.ps record-double-kinds.r record-double.Asked record-double.ensures record-double.Learnt
-record-double-settled = record {
-  free = λ κs a. tt;
-  says = λ κs a y e w. refl;
-  sole = λ κs a y z b c p q. (p ∙ sym q, refl);
-}
+record-double-settled = settled (λ κs a y z b c p q. (p ∙ sym q, refl))
 
 pub chain-accept-settled : Settled 2 chain-accept-kinds.ps chain-accept-kinds.r chain-accept.Asked chain-accept.ensures chain-accept.Learnt
-chain-accept-settled = record {
-  free = λ κs a. tt;
-  says = λ κs a y e w. refl;
-  sole = λ κs a y z b c p q. (chain-one y z (p ∙ sym q), refl);
-}
+chain-accept-settled = settled (λ κs a y z b c p q. (chain-one y z (p ∙ sym q), refl))
+
+pub chain-length-settled : Settled 1 chain-length-kinds.ps chain-length-kinds.r chain-length.Asked chain-length.ensures chain-length.Learnt
+chain-length-settled = settled (λ κs a y z b c p q. (chain-one y z (p ∙ sym q), refl))
 
 pub chain-start-settled : Settled 0 chain-start-kinds.ps chain-start-kinds.r chain-start.Asked chain-start.ensures chain-start.Learnt
-chain-start-settled = record {
-  free = λ κs a. tt;
-  says = λ κs a y e w. refl;
-  sole = λ κs a y z b c p q. (p ∙ sym q, refl);
-}
+chain-start-settled = settled (λ κs a y z b c p q. (p ∙ sym q, refl))
 
 pub record-read-settled : Settled 2 record-read-kinds.ps record-read-kinds.r record-read.Asked record-read.ensures record-read.Learnt
-record-read-settled = record {
-  free = λ κs a. tt;
-  says = λ κs a y e w. refl;
-  sole = λ κs a y z b c p q.
-      (record-one y z (ap (λ (o : Outcome (Unit {0})). o .reply) (p ∙ sym q)), ap (λ (o : Outcome (Unit {0})). (tt, (tt, (tt, (tt, (o .buffer, tt)))))) (p ∙ sym q));
-}
-
-pub record-refusal-settled : Settled 0 record-refusal-kinds.ps record-refusal-kinds.r record-refusal.Asked record-refusal.ensures record-refusal.Learnt
-record-refusal-settled = record {
-  free = λ κs a. tt;
-  says = λ κs a y e w. refl;
-  sole = λ κs a y z b c p q. (p ∙ sym q, refl);
-}
+record-read-settled = settled (λ κs a y z b c p q. one-outcome recordReply record-one (λ out. (tt, (tt, (tt, (tt, (out, tt)))))) (p ∙ sym q))
 
 pub record-value-settled : Settled 2 record-value-kinds.ps record-value-kinds.r record-value.Asked record-value.ensures record-value.Learnt
-record-value-settled = record {
-  free = λ κs a. tt;
-  says = λ κs a y e w. refl;
-  sole = λ κs a y z b c p q.
-      (valid-value-one y z (ap (λ (o : Outcome ValidValue). o .reply) (p ∙ sym q)), ap (λ (o : Outcome ValidValue). (tt, (tt, (tt, (tt, (tt, (tt, (tt, (o .buffer, tt))))))))) (p ∙ sym q));
-}
+record-value-settled = settled (λ κs a y z b c p q. one-outcome validValueReply valid-value-one (λ out. (tt, (tt, (tt, (tt, (tt, (tt, (tt, (out, tt))))))))) (p ∙ sym q))

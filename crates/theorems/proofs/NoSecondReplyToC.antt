@@ -1,11 +1,10 @@
 -- No call for C has a second reply: each theorem is about the very clause of the call's contract.
-use mathlib.Core.Path.{refl, sym, ap, _∙_}
+use mathlib.Core.Path.{_≡_, refl, sym, ap, _∙_}
+use mathlib.Core.List.{List}
+use Prim.Native.Nat.{ℕ}
 use Rattle.theorems.specs.Sole.{Settled}
-use Rattle.mf4.specs.Replies.{Left}
-use Rattle.mf4.specs.declared.written.Mf4Written.{Mf4Written}
-use Rattle.mf4.specs.declared.texts.Mf4Text.{Mf4Text}
-use Rattle.mf4.specs.declared.fetches.Mf4Fetched.{Mf4Fetched}
-use Rattle.mf4.specs.declared.values.Mf4ValidValue.{Mf4ValidValue}
+use Rattle.theorems.proofs.NoSecondReply.{settled}
+use Rattle.mf4.specs.Replies.{Returned, returned}
 use Rattle.mf4.proofs.mf4_read_header.Kinds as mf4-read-header-kinds
 use Rattle.mf4.proofs.mf4_read_header.Reads as mf4-read-header
 use Rattle.mf4.proofs.mf4_write_header.Kinds as mf4-write-header-kinds
@@ -36,135 +35,67 @@ use Rattle.mf4.proofs.mf4_decode_valid_value.Kinds as mf4-decode-valid-value-ki
 use Rattle.mf4.proofs.mf4_decode_valid_value.Reads as mf4-decode-valid-value
 use Rattle.mf4.proofs.mf4_decode_double.Kinds as mf4-decode-double-kinds
 use Rattle.mf4.proofs.mf4_decode_double.Reads as mf4-decode-double
+use Rattle.mf4.proofs.mf4_data_length.Kinds as mf4-data-length-kinds
+use Rattle.mf4.proofs.mf4_data_length.Reads as mf4-data-length
 use Rattle.mf4.proofs.mf4_read_record.Kinds as mf4-read-record-kinds
 use Rattle.mf4.proofs.mf4_read_record.Reads as mf4-read-record
 use Rattle.mf4.proofs.mf4_record_value.Kinds as mf4-record-value-kinds
 use Rattle.mf4.proofs.mf4_record_value.Reads as mf4-record-value
 
+-- what is returned comes of one struct, and of one buffer, which stands among the lent ones at its place
+one-returned : {R B : Type 0} (place : List ℕ → B) {y z : R} {b c : List ℕ} → returned y b ≡ returned z c → (y ≡ z) × (place b ≡ place c)
+one-returned {R} place e = (ap (λ (x : Returned R). x .result) e, ap (λ (x : Returned R). place (x .buffer)) e)
+
 pub mf4-read-header-settled : Settled 1 mf4-read-header-kinds.ps mf4-read-header-kinds.r mf4-read-header.Asked mf4-read-header.ensures mf4-read-header.Learnt
-mf4-read-header-settled = record {
-  free = λ κs a. tt;
-  says = λ κs a y e w. refl;
-  sole = λ κs a y z b c p q. (p ∙ sym q, refl);
-}
+mf4-read-header-settled = settled (λ κs a y z b c p q. (p ∙ sym q, refl))
 
 pub mf4-write-header-settled : Settled 1 mf4-write-header-kinds.ps mf4-write-header-kinds.r mf4-write-header.Asked mf4-write-header.ensures mf4-write-header.Learnt
-mf4-write-header-settled = record {
-  free = λ κs a. tt;
-  says = λ κs a y e w. refl;
-  sole = λ κs a y z b c p q.
-      (ap (λ (l : Left Mf4Written). l .result) (p ∙ sym q), ap (λ (l : Left Mf4Written). (tt, (l .buffer, tt))) (p ∙ sym q));
-}
+mf4-write-header-settled = settled (λ κs a y z b c p q. one-returned (λ out. (tt, (out, tt))) (p ∙ sym q))
 
 pub mf4-type-code-settled : Settled 0 mf4-type-code-kinds.ps mf4-type-code-kinds.r mf4-type-code.Asked mf4-type-code.ensures mf4-type-code.Learnt
-mf4-type-code-settled = record {
-  free = λ κs a. tt;
-  says = λ κs a y e w. refl;
-  sole = λ κs a y z b c p q. (p ∙ sym q, refl);
-}
+mf4-type-code-settled = settled (λ κs a y z b c p q. (p ∙ sym q, refl))
 
 pub mf4-default-bits-settled : Settled 0 mf4-default-bits-kinds.ps mf4-default-bits-kinds.r mf4-default-bits.Asked mf4-default-bits.ensures mf4-default-bits.Learnt
-mf4-default-bits-settled = record {
-  free = λ κs a. tt;
-  says = λ κs a y e w. refl;
-  sole = λ κs a y z b c p q. (p ∙ sym q, refl);
-}
+mf4-default-bits-settled = settled (λ κs a y z b c p q. (p ∙ sym q, refl))
 
 pub mf4-read-list-settled : Settled 1 mf4-read-list-kinds.ps mf4-read-list-kinds.r mf4-read-list.Asked mf4-read-list.ensures mf4-read-list.Learnt
-mf4-read-list-settled = record {
-  free = λ κs a. tt;
-  says = λ κs a y e w. refl;
-  sole = λ κs a y z b c p q. (p ∙ sym q, refl);
-}
+mf4-read-list-settled = settled (λ κs a y z b c p q. (p ∙ sym q, refl))
 
 pub mf4-write-list-equal-settled : Settled 2 mf4-write-list-equal-kinds.ps mf4-write-list-equal-kinds.r mf4-write-list-equal.Asked mf4-write-list-equal.ensures mf4-write-list-equal.Learnt
-mf4-write-list-equal-settled = record {
-  free = λ κs a. tt;
-  says = λ κs a y e w. refl;
-  sole = λ κs a y z b c p q.
-      (ap (λ (l : Left Mf4Written). l .result) (p ∙ sym q), ap (λ (l : Left Mf4Written). (l .buffer, c .1)) (p ∙ sym q));
-}
+mf4-write-list-equal-settled = settled (λ κs a y z b c p q. one-returned (λ out. (tt, (tt, (tt, (out, tt))))) (p ∙ sym q))
 
 pub mf4-write-list-variable-settled : Settled 3 mf4-write-list-variable-kinds.ps mf4-write-list-variable-kinds.r mf4-write-list-variable.Asked mf4-write-list-variable.ensures mf4-write-list-variable.Learnt
-mf4-write-list-variable-settled = record {
-  free = λ κs a. tt;
-  says = λ κs a y e w. refl;
-  sole = λ κs a y z b c p q.
-      (ap (λ (l : Left Mf4Written). l .result) (p ∙ sym q), ap (λ (l : Left Mf4Written). (l .buffer, c .1)) (p ∙ sym q));
-}
+mf4-write-list-variable-settled = settled (λ κs a y z b c p q. one-returned (λ out. (tt, (tt, (tt, (out, tt))))) (p ∙ sym q))
 
 pub mf4-text-latin1-settled : Settled 2 mf4-text-latin1-kinds.ps mf4-text-latin1-kinds.r mf4-text-latin1.Asked mf4-text-latin1.ensures mf4-text-latin1.Learnt
-mf4-text-latin1-settled = record {
-  free = λ κs a. tt;
-  says = λ κs a y e w. refl;
-  sole = λ κs a y z b c p q.
-      (ap (λ (l : Left Mf4Text). l .result) (p ∙ sym q), ap (λ (l : Left Mf4Text). (tt, (l .buffer, tt))) (p ∙ sym q));
-}
+mf4-text-latin1-settled = settled (λ κs a y z b c p q. one-returned (λ out. (tt, (out, tt))) (p ∙ sym q))
 
 pub mf4-text-utf8-settled : Settled 2 mf4-text-utf8-kinds.ps mf4-text-utf8-kinds.r mf4-text-utf8.Asked mf4-text-utf8.ensures mf4-text-utf8.Learnt
-mf4-text-utf8-settled = record {
-  free = λ κs a. tt;
-  says = λ κs a y e w. refl;
-  sole = λ κs a y z b c p q.
-      (ap (λ (l : Left Mf4Text). l .result) (p ∙ sym q), ap (λ (l : Left Mf4Text). (tt, (l .buffer, tt))) (p ∙ sym q));
-}
+mf4-text-utf8-settled = settled (λ κs a y z b c p q. one-returned (λ out. (tt, (out, tt))) (p ∙ sym q))
 
 pub mf4-text-utf16-le-settled : Settled 2 mf4-text-utf16-le-kinds.ps mf4-text-utf16-le-kinds.r mf4-text-utf16-le.Asked mf4-text-utf16-le.ensures mf4-text-utf16-le.Learnt
-mf4-text-utf16-le-settled = record {
-  free = λ κs a. tt;
-  says = λ κs a y e w. refl;
-  sole = λ κs a y z b c p q.
-      (ap (λ (l : Left Mf4Text). l .result) (p ∙ sym q), ap (λ (l : Left Mf4Text). (tt, (l .buffer, tt))) (p ∙ sym q));
-}
+mf4-text-utf16-le-settled = settled (λ κs a y z b c p q. one-returned (λ out. (tt, (out, tt))) (p ∙ sym q))
 
 pub mf4-text-utf16-be-settled : Settled 2 mf4-text-utf16-be-kinds.ps mf4-text-utf16-be-kinds.r mf4-text-utf16-be.Asked mf4-text-utf16-be.ensures mf4-text-utf16-be.Learnt
-mf4-text-utf16-be-settled = record {
-  free = λ κs a. tt;
-  says = λ κs a y e w. refl;
-  sole = λ κs a y z b c p q.
-      (ap (λ (l : Left Mf4Text). l .result) (p ∙ sym q), ap (λ (l : Left Mf4Text). (tt, (l .buffer, tt))) (p ∙ sym q));
-}
+mf4-text-utf16-be-settled = settled (λ κs a y z b c p q. one-returned (λ out. (tt, (out, tt))) (p ∙ sym q))
 
 pub mf4-decode-value-settled : Settled 1 mf4-decode-value-kinds.ps mf4-decode-value-kinds.r mf4-decode-value.Asked mf4-decode-value.ensures mf4-decode-value.Learnt
-mf4-decode-value-settled = record {
-  free = λ κs a. tt;
-  says = λ κs a y e w. refl;
-  sole = λ κs a y z b c p q. (p ∙ sym q, refl);
-}
+mf4-decode-value-settled = settled (λ κs a y z b c p q. (p ∙ sym q, refl))
 
 pub mf4-check-validity-settled : Settled 1 mf4-check-validity-kinds.ps mf4-check-validity-kinds.r mf4-check-validity.Asked mf4-check-validity.ensures mf4-check-validity.Learnt
-mf4-check-validity-settled = record {
-  free = λ κs a. tt;
-  says = λ κs a y e w. refl;
-  sole = λ κs a y z b c p q. (p ∙ sym q, refl);
-}
+mf4-check-validity-settled = settled (λ κs a y z b c p q. (p ∙ sym q, refl))
 
 pub mf4-decode-valid-value-settled : Settled 1 mf4-decode-valid-value-kinds.ps mf4-decode-valid-value-kinds.r mf4-decode-valid-value.Asked mf4-decode-valid-value.ensures mf4-decode-valid-value.Learnt
-mf4-decode-valid-value-settled = record {
-  free = λ κs a. tt;
-  says = λ κs a y e w. refl;
-  sole = λ κs a y z b c p q. (p ∙ sym q, refl);
-}
+mf4-decode-valid-value-settled = settled (λ κs a y z b c p q. (p ∙ sym q, refl))
 
 pub mf4-decode-double-settled : Settled 1 mf4-decode-double-kinds.ps mf4-decode-double-kinds.r mf4-decode-double.Asked mf4-decode-double.ensures mf4-decode-double.Learnt
-mf4-decode-double-settled = record {
-  free = λ κs a. tt;
-  says = λ κs a y e w. refl;
-  sole = λ κs a y z b c p q. (p ∙ sym q, refl);
-}
+mf4-decode-double-settled = settled (λ κs a y z b c p q. (p ∙ sym q, refl))
+
+pub mf4-data-length-settled : Settled 1 mf4-data-length-kinds.ps mf4-data-length-kinds.r mf4-data-length.Asked mf4-data-length.ensures mf4-data-length.Learnt
+mf4-data-length-settled = settled (λ κs a y z b c p q. (p ∙ sym q, refl))
 
 pub mf4-read-record-settled : Settled 2 mf4-read-record-kinds.ps mf4-read-record-kinds.r mf4-read-record.Asked mf4-read-record.ensures mf4-read-record.Learnt
-mf4-read-record-settled = record {
-  free = λ κs a. tt;
-  says = λ κs a y e w. refl;
-  sole = λ κs a y z b c p q.
-      (ap (λ (l : Left Mf4Fetched). l .result) (p ∙ sym q), ap (λ (l : Left Mf4Fetched). (tt, (tt, (tt, (tt, (l .buffer, tt)))))) (p ∙ sym q));
-}
+mf4-read-record-settled = settled (λ κs a y z b c p q. one-returned (λ out. (tt, (tt, (tt, (tt, (out, tt)))))) (p ∙ sym q))
 
 pub mf4-record-value-settled : Settled 2 mf4-record-value-kinds.ps mf4-record-value-kinds.r mf4-record-value.Asked mf4-record-value.ensures mf4-record-value.Learnt
-mf4-record-value-settled = record {
-  free = λ κs a. tt;
-  says = λ κs a y e w. refl;
-  sole = λ κs a y z b c p q.
-      (ap (λ (l : Left Mf4ValidValue). l .result) (p ∙ sym q), ap (λ (l : Left Mf4ValidValue). (tt, (tt, (tt, (tt, (tt, (tt, (tt, (l .buffer, tt))))))))) (p ∙ sym q));
-}
+mf4-record-value-settled = settled (λ κs a y z b c p q. one-returned (λ out. (tt, (tt, (tt, (tt, (tt, (tt, (tt, (out, tt))))))))) (p ∙ sym q))

@@ -4,11 +4,16 @@ use mathlib.Core.List.{List, [], _∷_, _++_, append-assoc}
 use Prim.Native.Nat.{ℕ, zero, suc, _+_, _*_, _^_, _≤_, _<_}
 use native.Mathlib.Nat.{mod-eq-of-lt}
 use native.Mathlib.Omega.{arith}
-use lib.ListN.{length, getD, length-append}
+use lib.ListN.{length, getD, take, length-append}
+use lib.Seq.{take-append-seam}
 use Rattle.definitions.specs.Bytes.{leOf, le, les, span, u64sAt}
 use Rattle.words.proofs.Numbers.{Bytes, length-le, back-le}
 use Rattle.words.proofs.Spans.{bytes-span, length-span, span-split}
 use Rattle.words.proofs.Stores.{read-middle}
+
+-- what stands at the front
+pub front-of : (xs ys : List ℕ) (n : ℕ) → length xs ≡ n → take n (xs ++ ys) ≡ xs
+front-of xs ys n l = ap (λ (k : ℕ). take k (xs ++ ys)) (sym l) ∙ take-append-seam xs ys
 
 -- a number that was written at a place
 pub number-read : (s front rest : List ℕ) (at n x : ℕ) → s ≡ front ++ le n x ++ rest → length front ≡ at → x < 2 ^ (8 * n) → leOf (span s at n) ≡ x

@@ -1,4 +1,4 @@
--- Two files whose accepted chains join to the same bytes give the same records, and the same values in them.
+-- Two files whose accepted chains join to the same bytes have as much data, give the same records, and the same values in them.
 use mathlib.Core.Path.{_≡_, sym, ap, _∙_}
 use mathlib.Core.List.{List}
 use Prim.Native.Nat.{ℕ, _≤_}
@@ -6,13 +6,16 @@ use lib.ListN.{length}
 use borrow.Author.Tests.{le-ltb}
 use Rattle.definitions.specs.Reply.{Outcome, answer, refusal, if_then_else_}
 use Rattle.definitions.specs.Channel.{Channel, ValidValue}
-use Rattle.definitions.specs.Chain.{Block, idDT, joined, chainOf, badSize, recordOf, fetched, fieldOf, valueFetched}
+use Rattle.definitions.specs.Chain.{Block, idDT, fileLimit, joined, total, chainOf, totalOf, dataLength, badSize, recordOf, fetched, fieldOf, valueFetched}
+use Rattle.definitions.specs.Accepted.{Accepted}
+use Rattle.chain.proofs.Chains.{joined-length, chain-stands}
+use Rattle.theorems.proofs.AcceptedChains.{accepts}
 
 -- a file within the limit of 7, with an accepted chain of ##DT blocks that joins to j
 pub record Joins (f : List ℕ) (start : ℕ) (j : List ℕ) : Type 0 where
-  pub short : length f ≤ 1099511627776
+  pub short : length f ≤ fileLimit
   pub blocks : List Block
-  pub accepted : chainOf idDT f start ≡ answer blocks
+  pub accepted : Accepted idDT f start blocks
   pub same : joined f blocks ≡ j
 
 -- what the definitions give on the joined bytes alone
@@ -27,7 +30,14 @@ module _ (f : List ℕ) (start : ℕ) (j : List ℕ) (h : Joins f start j) where
   -- every answer is the one on the joined bytes
   pub record-of-joined : (k size : ℕ) (out : List ℕ) → fetched f start k size out ≡ recordIn j k size out
   unfolding fetched
-  record-of-joined k size out = rw (le-ltb _ _ (h .short), h .accepted, h .same)
+  record-of-joined k size out = rw (le-ltb _ _ (h .short), accepts idDT f start (h .blocks) (h .accepted), h .same)
+
+  pub length-of-joined : dataLength f start ≡ answer (length j)
+  unfolding dataLength totalOf
+  length-of-joined =
+      let e : chainOf idDT f start ≡ answer (h .blocks) = accepts idDT f start (h .blocks) (h .accepted) in
+      let n : total (h .blocks) ≡ length j = sym (joined-length f (h .blocks) (chain-stands idDT f start (h .blocks) e .inside)) ∙ ap length (h .same) in
+      rw (le-ltb _ _ (h .short), e, n)
 
   pub value-of-joined : (k size idSize dataBytes : ℕ) (c : Channel) (out : List ℕ)
       → valueFetched f start k size idSize dataBytes c out ≡ valueIn j k size idSize dataBytes c out

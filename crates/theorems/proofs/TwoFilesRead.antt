@@ -5,32 +5,29 @@ use mathlib.Core.Path.{_≡_, sym, ap, _∙_}
 use mathlib.Core.List.{List}
 use Prim.Native.Nat.{ℕ}
 use contract.Lifetimes.{Lfts}
-use Rattle.definitions.specs.Reply.{Outcome}
+use lib.ListN.{length}
+use Rattle.definitions.specs.Reply.{Outcome, answer}
 use Rattle.definitions.specs.Channel.{ValidValue}
-use Rattle.chain.specs.Meaning.{fetchedBy}
+use Rattle.chain.specs.Meaning.{chainReply, fetchedBy}
 use Rattle.chain.specs.declared.place.FileAddress.{FileAddress}
+use Rattle.chain.specs.declared.acceptance.ChainRead.{ChainRead}
 use Rattle.chain.specs.declared.record.RecordRead.{RecordRead}
 use Rattle.chain.proofs.Back.{record-one}
-use Rattle.chain.proofs.read_record.Kinds as record-kinds
-use Rattle.chain.proofs.read_record.Reads as record-reads
 use Rattle.decoder.specs.Meaning.{channelMeant}
 use Rattle.decoder.specs.declared.channel.Channel.{Channel}
 use Rattle.decoder.specs.declared.value.ValidValueRead.{ValidValueRead}
 use Rattle.decoder.proofs.Back.{valid-value-one}
 use Rattle.records.specs.Meaning.{valueFetchedBy}
-use Rattle.records.proofs.read_value.Kinds as value-kinds
-use Rattle.records.proofs.read_value.Reads as value-reads
-use Rattle.mf4.specs.Replies.{Left, left}
-use Rattle.mf4.specs.Values.{channelGiven, fetchLeft, valueLeft}
+use Rattle.mf4.specs.Replies.{Returned, returned, returnedBy}
+use Rattle.mf4.specs.Values.{channelGiven, validValueC, lengthC, fetchedC}
+use Rattle.mf4.specs.declared.fetches.Mf4Length.{Mf4Length}
 use Rattle.mf4.specs.declared.fetches.Mf4Fetched.{Mf4Fetched}
 use Rattle.mf4.specs.declared.values.Mf4Channel.{Mf4Channel}
 use Rattle.mf4.specs.declared.values.Mf4ValidValue.{Mf4ValidValue}
-use Rattle.mf4.proofs.mf4_read_record.Kinds as record-c-kinds
-use Rattle.mf4.proofs.mf4_read_record.Reads as record-c-reads
-use Rattle.mf4.proofs.mf4_record_value.Kinds as value-c-kinds
-use Rattle.mf4.proofs.mf4_record_value.Reads as value-c-reads
-use Rattle.theorems.specs.Sole.{Slice, Allows}
-use Rattle.theorems.proofs.TwoFiles.{Joins, recordIn, valueIn, record-of-joined, value-of-joined}
+use Rattle.theorems.specs.Sole.{Slice}
+use Rattle.theorems.specs.Clauses.{ReadsLength, ReadsRecord, ReadsRecordValue}
+use Rattle.theorems.specs.ClausesToC.{ReadsLengthC, ReadsRecordC, ReadsRecordValueC}
+use Rattle.theorems.proofs.TwoFiles.{Joins, recordIn, valueIn, length-of-joined, record-of-joined, value-of-joined}
 
 -- Of a call that is given a file, a start and a buffer, with all else fixed: `Says` is its clause, of a result and of what
 -- the buffer holds afterwards; `meaning` is what those two mean, and `given` what the definitions give on the joined bytes
@@ -55,13 +52,21 @@ module _ {Start Result Meaning : Type 0} (address : Start → ℕ) (j : List ℕ
   alike one of-joined f g s t b c y z after later h i e p q =
       one y z after later (of-joined f s b y after h p ∙ ap given e ∙ sym (of-joined g t c z later i q))
 
+-- ---- data_length, mf4_data_length
+
+pub data-length-of-joined : (κs : Lfts 1) (j : List ℕ) (file : Slice) (start : FileAddress) (y : ChainRead)
+    → Joins (file .now) (start .0) j → ReadsLength κs file start y → chainReply y ≡ answer (length j)
+data-length-of-joined κs j file start y h p = p ∙ length-of-joined (file .now) (start .0) j h
+
+pub mf4-data-length-of-joined : (κs : Lfts 1) (j : List ℕ) (file : Slice) (start : ℕ) (y : Mf4Length)
+    → Joins (file .now) start j → ReadsLengthC κs file start y → y ≡ lengthC (answer (length j))
+mf4-data-length-of-joined κs j file start y h p = p ∙ ap lengthC (length-of-joined (file .now) start j h)
+
 module _ (κs : Lfts 2) (j : List ℕ) (number size : ℕ) where
   -- ---- read_record
 
   abbrev pub RecordSays : Slice → FileAddress → Slice → RecordRead → List ℕ → Type 0
-  RecordSays file start buffer y after =
-      Allows 2 record-kinds.ps record-kinds.r record-reads.Learnt κs
-      (file, (start, (number, (size, (buffer, tt))))) y (tt, (tt, (tt, (tt, (after, tt)))))
+  RecordSays file start buffer = ReadsRecord κs file start number size buffer
 
   pub read-record-of-joined : OfJoined (λ (s : FileAddress). s .0) j RecordSays fetchedBy (recordIn j number size)
   read-record-of-joined file start buffer y after h p = p ∙ record-of-joined (file .now) (start .0) j h number size (buffer .now)
@@ -75,18 +80,16 @@ module _ (κs : Lfts 2) (j : List ℕ) (number size : ℕ) where
   -- ---- mf4_read_record
 
   abbrev pub RecordSaysC : Slice → ℕ → Slice → Mf4Fetched → List ℕ → Type 0
-  RecordSaysC file start buffer y after =
-      Allows 2 record-c-kinds.ps record-c-kinds.r record-c-reads.Learnt κs
-      (file, (start, (number, (size, (buffer, tt))))) y (tt, (tt, (tt, (tt, (after, tt)))))
+  RecordSaysC file start buffer = ReadsRecordC κs file start number size buffer
 
-  pub mf4-read-record-of-joined : OfJoined (λ s. s) j RecordSaysC left (λ out. fetchLeft (recordIn j number size out))
+  pub mf4-read-record-of-joined : OfJoined (λ s. s) j RecordSaysC returned (λ out. returnedBy fetchedC (recordIn j number size out))
   mf4-read-record-of-joined file start buffer y after h p =
-      p ∙ ap fetchLeft (record-of-joined (file .now) start j h number size (buffer .now))
+      p ∙ ap (returnedBy fetchedC) (record-of-joined (file .now) start j h number size (buffer .now))
 
-  pub mf4-read-record-alike : Alike (λ s. s) j RecordSaysC left (λ out. fetchLeft (recordIn j number size out))
+  pub mf4-read-record-alike : Alike (λ s. s) j RecordSaysC returned (λ out. returnedBy fetchedC (recordIn j number size out))
   mf4-read-record-alike =
-      alike (λ s. s) j RecordSaysC left (λ out. fetchLeft (recordIn j number size out))
-      (λ y z after later e. (ap (λ (l : Left Mf4Fetched). l .result) e, ap (λ (l : Left Mf4Fetched). l .buffer) e))
+      alike (λ s. s) j RecordSaysC returned (λ out. returnedBy fetchedC (recordIn j number size out))
+      (λ y z after later e. (ap (λ (l : Returned Mf4Fetched). l .result) e, ap (λ (l : Returned Mf4Fetched). l .buffer) e))
       mf4-read-record-of-joined
 
 module _ (κs : Lfts 2) (j : List ℕ) (number size idSize dataBytes : ℕ) where
@@ -94,10 +97,7 @@ module _ (κs : Lfts 2) (j : List ℕ) (number size idSize dataBytes : ℕ) wher
 
   module _ (channel : Channel) where
     abbrev pub ValueSays : Slice → FileAddress → Slice → ValidValueRead → List ℕ → Type 0
-    ValueSays file start buffer y after =
-        Allows 2 value-kinds.ps value-kinds.r value-reads.Learnt κs
-        (file, (start, (number, (size, (idSize, (dataBytes, (channel, (buffer, tt)))))))) y
-        (tt, (tt, (tt, (tt, (tt, (tt, (tt, (after, tt))))))))
+    ValueSays file start buffer = ReadsRecordValue κs file start number size idSize dataBytes channel buffer
 
     abbrev valueGiven : List ℕ → Outcome ValidValue
     valueGiven = valueIn j number size idSize dataBytes (channelMeant channel)
@@ -116,20 +116,17 @@ module _ (κs : Lfts 2) (j : List ℕ) (number size idSize dataBytes : ℕ) wher
 
   module _ (channel : Mf4Channel) where
     abbrev pub ValueSaysC : Slice → ℕ → Slice → Mf4ValidValue → List ℕ → Type 0
-    ValueSaysC file start buffer y after =
-        Allows 2 value-c-kinds.ps value-c-kinds.r value-c-reads.Learnt κs
-        (file, (start, (number, (size, (idSize, (dataBytes, (channel, (buffer, tt)))))))) y
-        (tt, (tt, (tt, (tt, (tt, (tt, (tt, (after, tt))))))))
+    ValueSaysC file start buffer = ReadsRecordValueC κs file start number size idSize dataBytes channel buffer
 
-    abbrev valueGivenC : List ℕ → Left Mf4ValidValue
-    valueGivenC out = valueLeft (valueIn j number size idSize dataBytes (channelGiven channel) out)
+    abbrev valueGivenC : List ℕ → Returned Mf4ValidValue
+    valueGivenC out = returnedBy validValueC (valueIn j number size idSize dataBytes (channelGiven channel) out)
 
-    pub mf4-record-value-of-joined : OfJoined (λ s. s) j ValueSaysC left valueGivenC
+    pub mf4-record-value-of-joined : OfJoined (λ s. s) j ValueSaysC returned valueGivenC
     mf4-record-value-of-joined file start buffer y after h p =
-        p ∙ ap valueLeft (value-of-joined (file .now) start j h number size idSize dataBytes (channelGiven channel) (buffer .now))
+        p ∙ ap (returnedBy validValueC) (value-of-joined (file .now) start j h number size idSize dataBytes (channelGiven channel) (buffer .now))
 
-    pub mf4-record-value-alike : Alike (λ s. s) j ValueSaysC left valueGivenC
+    pub mf4-record-value-alike : Alike (λ s. s) j ValueSaysC returned valueGivenC
     mf4-record-value-alike =
-        alike (λ s. s) j ValueSaysC left valueGivenC
-        (λ y z after later e. (ap (λ (l : Left Mf4ValidValue). l .result) e, ap (λ (l : Left Mf4ValidValue). l .buffer) e))
+        alike (λ s. s) j ValueSaysC returned valueGivenC
+        (λ y z after later e. (ap (λ (l : Returned Mf4ValidValue). l .result) e, ap (λ (l : Returned Mf4ValidValue). l .buffer) e))
         mf4-record-value-of-joined

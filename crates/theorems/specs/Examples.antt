@@ -1,9 +1,10 @@
 -- The worked examples: one table of calls with what each replies, and the one claim that the definitions give just that.
-use Prim.Native.Nat.{ℕ}
+use Prim.Native.Nat.{ℕ, _+_}
 use mathlib.Core.Path.{_≡_}
 use mathlib.Core.List.{List, [], _∷_, _++_, map}
 use mathlib.Core.Bool.{Bool, true, false}
 use lib.IntN.{pos, negsuc}
+use lib.ListN.{length}
 use lib.Ieee.{binary64, ofBits, toUnsigned, fin}
 use Rattle.definitions.specs.Reply.{Reply, Outcome, answer, refusal}
 use Rattle.definitions.specs.Bytes.{little, big, le}
@@ -38,17 +39,21 @@ abbrev pub shortList : ℕ → ℕ → List ℕ
 shortList links flags = idDL ++ le 4 0 ++ le 8 40 ++ le 8 links ++ le 8 0 ++ (flags ∷ 0 ∷ 0 ∷ 0 ∷ []) ++ le 4 0
 
 -- a data block
-abbrev pub dataBlock : ℕ → List ℕ → List ℕ
-dataBlock size bytes = idDT ++ le 4 0 ++ le 8 size ++ le 8 0 ++ bytes
+abbrev pub dataBlock : List ℕ → List ℕ
+dataBlock bytes = idDT ++ le 4 0 ++ le 8 (24 + length bytes) ++ le 8 0 ++ bytes
 
 -- 01 to 06 in three blocks of 3, 0 and 3 bytes, with their offsets; and in one block, with its length. The list is at 8
-abbrev pub cut : List ℕ
-cut =
+abbrev pub threeBlocks : List ℕ
+threeBlocks =
     le 8 0 ++ listBytes 0 (96 ∷ 123 ∷ 147 ∷ []) 0 (0 ∷ 3 ∷ 3 ∷ [])
-    ++ dataBlock 27 (1 ∷ 2 ∷ 3 ∷ []) ++ dataBlock 24 [] ++ dataBlock 27 (4 ∷ 5 ∷ 6 ∷ [])
+    ++ dataBlock (1 ∷ 2 ∷ 3 ∷ []) ++ dataBlock [] ++ dataBlock (4 ∷ 5 ∷ 6 ∷ [])
 
-abbrev pub uncut : List ℕ
-uncut = le 8 0 ++ listBytes 0 (64 ∷ []) 1 (6 ∷ []) ++ dataBlock 30 (1 ∷ 2 ∷ 3 ∷ 4 ∷ 5 ∷ 6 ∷ [])
+abbrev pub oneBlock : List ℕ
+oneBlock = le 8 0 ++ listBytes 0 (64 ∷ []) 1 (6 ∷ []) ++ dataBlock (1 ∷ 2 ∷ 3 ∷ 4 ∷ 5 ∷ 6 ∷ [])
+
+-- two blocks, with one length
+abbrev pub twoBlocks : ℕ → List ℕ → List ℕ → List ℕ
+twoBlocks size a b = le 8 0 ++ listBytes 0 (72 ∷ (96 + length a) ∷ []) 1 (size ∷ []) ++ dataBlock a ++ dataBlock b
 
 -- a call, and what it replies
 pub data Row : Type 0 where
@@ -120,10 +125,14 @@ table =
     }))
     ∷ list (shortList 1 1) (refusal 2 48)
     ∷ list (shortList 18446744073709551615 0) (refusal 2 18446744073709551615)
-    ∷ fetch cut 1 (record { reply = answer tt; buffer = 3 ∷ 4 ∷ [] })
-    ∷ fetch uncut 1 (record { reply = answer tt; buffer = 3 ∷ 4 ∷ [] })
-    ∷ fetch cut 3 (record { reply = refusal 16 0; buffer = 255 ∷ 255 ∷ [] })
-    ∷ fetch uncut 3 (record { reply = refusal 16 0; buffer = 255 ∷ 255 ∷ [] })
+    ∷ fetch threeBlocks 1 (record { reply = answer tt; buffer = 3 ∷ 4 ∷ [] })
+    ∷ fetch oneBlock 1 (record { reply = answer tt; buffer = 3 ∷ 4 ∷ [] })
+    ∷ fetch threeBlocks 3 (record { reply = refusal 16 0; buffer = 255 ∷ 255 ∷ [] })
+    ∷ fetch oneBlock 3 (record { reply = refusal 16 0; buffer = 255 ∷ 255 ∷ [] })
+    -- one length: the last block may be shorter, and neither it longer nor one before it shorter
+    ∷ fetch (twoBlocks 4 (1 ∷ 2 ∷ 3 ∷ 4 ∷ []) (5 ∷ 6 ∷ [])) 2 (record { reply = answer tt; buffer = 5 ∷ 6 ∷ [] })
+    ∷ fetch (twoBlocks 2 (1 ∷ 2 ∷ []) (3 ∷ 4 ∷ 5 ∷ 6 ∷ [])) 0 (record { reply = refusal 13 0; buffer = 255 ∷ 255 ∷ [] })
+    ∷ fetch (twoBlocks 4 (1 ∷ 2 ∷ []) (3 ∷ 4 ∷ 5 ∷ 6 ∷ [])) 0 (record { reply = refusal 13 0; buffer = 255 ∷ 255 ∷ [] })
     ∷ []
 
 -- every row of the table is right

@@ -1,3 +1,5 @@
 pub mod Examples
 pub mod Sole
+pub mod Clauses
+pub mod ClausesToC
 pub mod Exactly

@@ -1,59 +1,27 @@
-use mathlib.Core.Path.{_≡_, sym, ap, _∙_}
-use borrow.Author.Needs.{needs}
-use borrow.Author.Tests.{not-true, not-false}
-use Rattle.definitions.specs.Reply.{answer}
-use Rattle.definitions.specs.Chain.{blockAt}
-use Rattle.chain.specs.Meaning.{blockMeant, blockReply}
-use Rattle.chain.proofs.Fragments.{fragment-refused, fragment-long, fragment-untrue, fragment-taken}
+use mathlib.Core.Path.{refl, _∙_}
+use Rattle.chain.proofs.Addresses.{header-inside}
+use Rattle.chain.proofs.Fragments.{fragment-there}
+use Rattle.chain.proofs.Steps.{the-list, the-link}
 use Rattle.chain.proofs.fragment.fragment_at.Statement.{statement}
 use Rattle.chain.proofs.fragment.fragment_at.Tie as tie
 
--- a refused block is handed on
+bytes-from-requires : tie.Need-bytes-from-requires
+bytes-from-requires c κs =
+    let b = c .before .before .before in
+    let a = b .args in
+    header-inside (a .file .now) (a .place .list .address .0) (the-link (a .file .now) _ (a .place) (b .pre .0) (b .pre .1) refl .0)
+
+fragment-in-requires : tie.Need-fragment-in-requires
+fragment-in-requires c κs =
+    let b = c .before .before .before .before in
+    the-link _ _ _ (b .pre .0) (b .pre .1) (c .bytes-from .ensures) .1
+
 returns : tie.Need-returns
 returns c =
-    let call = c .before .before .before in
-    fragment-refused _ _ _ _ _ _ _ (call .before .read-u64-le .ensures) _ _ (sym (call .data-block-at .ensures) ∙ ap blockReply (c .refusal .ensures))
-
--- the block that the link names
-block : (c : tie.After-known-told) →
-    let link = c .before .before .before .before in
-    let a = link .before .before .before .args in
-    blockAt (a .id .now) (a .file .now) (link .read-u64-le .result) ≡ answer (blockMeant (c .before .read .given .0 .0))
-block c = sym (c .before .before .before .data-block-at .ensures) ∙ ap blockReply (c .before .read .given .1)
-
-returns-2 : tie.Need-returns-2
-returns-2 c =
-    let told = c .before .before in
-    fragment-long _ _ _ _ _ _ _ (told .before .before .before .before .read-u64-le .ensures) _ (block told) (sym (c .before .passes-limit .ensures) ∙ c .if1 .taken)
-
-returns-3 : tie.Need-returns-3
-returns-3 c =
-    let one = c .before .before in
-    let told = one .before .before in
-    fragment-untrue _ _ _ _ _ _ _ (told .before .before .before .before .read-u64-le .ensures) _ (block told) (sym (one .before .passes-limit .ensures) ∙ one .if1 .left)
-    (sym (c .before .truly-declared .ensures) ∙ not-true _ (c .if2 .taken))
-
-returns-4 : tie.Need-returns-4
-returns-4 c =
-    let one = c .before .before in
-    let told = one .before .before in
-    fragment-taken _ _ _ _ _ _ _ (told .before .before .before .before .read-u64-le .ensures) _ (block told) (sym (one .before .passes-limit .ensures) ∙ one .if1 .left)
-    (sym (c .before .truly-declared .ensures) ∙ not-false _ (c .if2 .left))
+    let from = c .before in
+    let b = from .before .before .before .before in
+    let list = the-list _ _ (b .pre .0) (b .pre .1) in
+    c .fragment-in .ensures (list .0) (list .2) ∙ fragment-there _ _ _ _ _ (list .1) (from .bytes-from .ensures)
 
 pub fragment-at-spec : {M : Type 1} → statement M
-fragment-at-spec =
-    tie.close
-    (tie.spec
-    (λ c. search needs)
-    (λ c. search needs)
-    (λ c κs. search needs)
-    (λ c κs. search needs)
-    (λ c. search needs)
-    (λ c. search needs)
-    (λ c κs. search needs)
-    returns
-    (λ c κs. search needs)
-    returns-2
-    (λ c κs. search needs)
-    returns-3
-    returns-4)
+fragment-at-spec = tie.close (tie.spec bytes-from-requires fragment-in-requires returns)

@@ -1,5 +1,4 @@
 use borrow.Author.Needs.{needs}
-use Rattle.blocks.specs.Meaning.{listMeant}
 use Rattle.chain.proofs.Fragments.{room-one, room-each, declared-inner, declared-last, declared-each}
 use Rattle.chain.proofs.fragment.truly_declared.Statement.{statement}
 use Rattle.chain.proofs.fragment.truly_declared.Tie as tie
@@ -8,31 +7,31 @@ read-u64-le-requires : tie.Need-read-u64-le-requires
 read-u64-le-requires c κs =
     let b = c .before .before .before in
     let a = b .args in
-    room-one (a .bytes .now) (listMeant (a .list)) (a .index) (a .position .0) (a .size) (c .if1 .taken) (b .pre)
+    room-one (a .bytes .now) (a .place .list) (a .place .index) (b .pre) (c .if1 .taken)
 
 returns : tie.Need-returns
-returns c =
-    let read = c .before .before in
+returns c d k =
+    let read = c .before .before .before in
     let a = read .before .before .before .before .args in
-    declared-inner (a .bytes .now) (listMeant (a .list)) (a .index) (a .position .0) (a .size) (read .before .if1 .taken) _ (read .read-u64-le .ensures) (c .if2 .taken)
+    declared-inner (a .bytes .now) (a .place .list) (a .place .index) (a .place .position .0) (a .size) d k (read .before .if1 .taken) _ (read .read-u64-le .ensures) (c .if2 .taken)
 
 returns-2 : tie.Need-returns-2
-returns-2 c =
-    let read = c .before .before in
+returns-2 c d k =
+    let read = c .before .before .before in
     let a = read .before .before .before .before .args in
-    declared-last (a .bytes .now) (listMeant (a .list)) (a .index) (a .position .0) (a .size) (read .before .if1 .taken) _ (read .read-u64-le .ensures) (c .if2 .left)
+    declared-last (a .bytes .now) (a .place .list) (a .place .index) (a .place .position .0) (a .size) d k (read .before .if1 .taken) _ (read .read-u64-le .ensures) (c .if2 .left)
 
 read-u64-le-requires-2 : tie.Need-read-u64-le-requires-2
 read-u64-le-requires-2 c κs =
     let b = c .before .before .before in
     let a = b .args in
-    room-each (a .bytes .now) (listMeant (a .list)) (a .index) (a .position .0) (a .size) (c .if1 .left) (b .pre)
+    room-each (a .bytes .now) (a .place .list) (a .place .index) (b .pre) (c .if1 .left)
 
 returns-3 : tie.Need-returns-3
-returns-3 c =
+returns-3 c d k =
     let read = c .before in
     let a = read .before .before .before .before .args in
-    declared-each (a .bytes .now) (listMeant (a .list)) (a .index) (a .position .0) (a .size) (read .before .if1 .left) _ (read .read-u64-le2 .ensures)
+    declared-each (a .bytes .now) (a .place .list) (a .place .index) (a .place .position .0) (a .size) d k (read .before .if1 .left) _ (read .read-u64-le2 .ensures)
 
 pub truly-declared-spec : {M : Type 1} → statement M
 truly-declared-spec =

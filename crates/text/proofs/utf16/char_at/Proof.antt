@@ -10,8 +10,8 @@ returns c =
     let q = c .before in
     let u = q .before .before in
     let s = u .before .before .args in
-    read-short (orderMeant (s .big-endian)) (s .text .now) (s .at) _ _ (q .utf16-char .result) (c .within .result)
-    (λ i. omega (arith, u .before .shared-slice-known .given i)) (q .before .if1 .taken) (u .unit-at .ensures) (q .utf16-char .ensures) (c .within .ensures)
+    read-short (orderMeant (s .big-endian)) (s .text .now) (s .at) _ _ (q .utf16-char .result) (c .inside .result)
+    (λ i. omega (arith, u .before .shared-slice-known .given i)) (q .before .if1 .taken) (u .unit-at .ensures) (q .utf16-char .ensures) (c .inside .ensures)
 
 returns-2 : tie.Need-returns-2
 returns-2 c =
@@ -19,8 +19,8 @@ returns-2 c =
     let n = q .before in
     let u = n .before .before in
     let s = u .before .before .args in
-    read-pair (orderMeant (s .big-endian)) (s .text .now) (s .at) _ _ (q .utf16-char2 .result) (c .within2 .result)
-    (λ i. omega (arith, u .before .shared-slice-known .given i)) (u .unit-at .ensures) (n .unit-at2 .ensures) (q .utf16-char2 .ensures) (c .within2 .ensures)
+    read-pair (orderMeant (s .big-endian)) (s .text .now) (s .at) _ _ (q .utf16-char2 .result) (c .inside2 .result)
+    (λ i. omega (arith, u .before .shared-slice-known .given i)) (u .unit-at .ensures) (n .unit-at2 .ensures) (q .utf16-char2 .ensures) (c .inside2 .ensures)
 
 pub char-at-spec : {M : Type 1} → statement M
 char-at-spec =

@@ -8,8 +8,8 @@ returns c =
     let d = c .before .before in
     let b = d .before .before in
     let s = b .before .before .before .args in
-    read-utf8 (s .text .now) (s .at) _ _ _ _ (c .before .utf8-char .result) (c .within .result)
-    (b .before .byte-at .ensures) (b .byte-at2 .ensures) (d .before .byte-at3 .ensures) (d .byte-at4 .ensures) (c .before .utf8-char .ensures) (c .within .ensures)
+    read-utf8 (s .text .now) (s .at) _ _ _ _ (c .before .utf8-char .result) (c .inside .result)
+    (b .before .byte-at .ensures) (b .byte-at2 .ensures) (d .before .byte-at3 .ensures) (d .byte-at4 .ensures) (c .before .utf8-char .ensures) (c .inside .ensures)
 
 pub char-at-spec : {M : Type 1} → statement M
 char-at-spec =

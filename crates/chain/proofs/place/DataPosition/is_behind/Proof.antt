@@ -1,4 +1,3 @@
-use borrow.Author.Needs.{needs}
 use Rattle.words.proofs.Ends.{front-outside, fits-behind}
 use Rattle.chain.proofs.place.DataPosition.is_behind.Statement.{statement}
 use Rattle.chain.proofs.place.DataPosition.is_behind.Tie as tie

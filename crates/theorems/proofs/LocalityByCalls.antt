@@ -1,0 +1,62 @@
+-- Two records that agree on a fixed field give the same value and the same double: about each call's own clause.
+use mathlib.Core.Path.{_≡_, refl, sym, ap, _∙_}
+use mathlib.Core.Bool.{Bool, true, false}
+use mathlib.Core.List.{List}
+use Prim.Native.Nat.{ℕ, _+_, _≤_, _<_}
+use contract.Lifetimes.{Lfts}
+use lib.ListN.{length, getD}
+use Rattle.definitions.specs.Bytes.{bytesFor}
+use Rattle.definitions.specs.DataType.{kindOf}
+use Rattle.definitions.specs.Channel.{Channel, variableLength, spanIn, isNumber, valueOf, doubleIn, recordDouble}
+use Rattle.words.proofs.Numbers.{Bytes}
+use Rattle.words.proofs.Locality.{recordBit}
+use Rattle.decoder.proofs.Locality.{orderOf, locality, content-locality}
+use Rattle.decoder.proofs.Doubles.{double-fixed}
+use Rattle.decoder.proofs.Back.{value-one}
+use Rattle.decoder.specs.Meaning.{channelMeant}
+use Rattle.decoder.specs.declared.channel.Channel.{Channel as Description}
+use Rattle.decoder.specs.declared.value.ValueRead.{ValueRead}
+use Rattle.theorems.specs.Sole.{Slice}
+use Rattle.theorems.specs.Clauses.{ReadsValue, ReadsDouble}
+use Rattle.theorems.specs.ClausesToC.{ReadsValueC, ReadsDoubleC}
+use Rattle.mf4.specs.Values.{channelGiven, valueC}
+use Rattle.mf4.specs.declared.values.Mf4Channel.{Mf4Channel}
+use Rattle.mf4.specs.declared.values.Mf4Value.{Mf4Value}
+
+-- records of one length, that hold a fixed field's bits alike, or its bytes where it is no number
+pub record Alike (s t : List ℕ) (idSize : ℕ) (c : Channel) : Type 0 where
+  pub fixed : variableLength c ≡ false
+  pub long : length s ≡ length t
+  pub bytes : Bytes s × Bytes t
+  pub number : isNumber (kindOf (c .dataType)) ≡ true → (k : ℕ) → c .bitOffset ≤ k → k < c .bitOffset + c .bitCount
+      → recordBit (orderOf (c .dataType)) s (idSize + c .byteOffset) (bytesFor (c .bitOffset) (c .bitCount)) k
+      ≡ recordBit (orderOf (c .dataType)) t (idSize + c .byteOffset) (bytesFor (c .bitOffset) (c .bitCount)) k
+  pub content : isNumber (kindOf (c .dataType)) ≡ false → (i : ℕ) → i < spanIn false (kindOf (c .dataType)) 0 c
+      → getD s (idSize + c .byteOffset + i) 0 ≡ getD t (idSize + c .byteOffset + i) 0
+
+module _ (s t : List ℕ) (idSize : ℕ) (c : Channel) (h : Alike s t idSize c) where
+  pub same-value : valueOf s idSize c ≡ valueOf t idSize c
+  same-value = go (isNumber (kindOf (c .dataType))) refl
+    where
+      go : (b : Bool) → isNumber (kindOf (c .dataType)) ≡ b → valueOf s idSize c ≡ valueOf t idSize c
+      go true e = locality s t idSize c (h .fixed) e (h .bytes .0) (h .bytes .1) (h .long) (h .number e)
+      go false e = content-locality s t idSize c (h .fixed) e (h .long) (h .content e)
+
+  pub same-double : recordDouble s idSize c ≡ recordDouble t idSize c
+  same-double = sym (double-fixed s idSize c (h .fixed)) ∙ ap doubleIn same-value ∙ double-fixed t idSize c (h .fixed)
+
+module _ (κs : Lfts 1) (s t : Slice) (idSize : ℕ) (channel : Description) (h : Alike (s .now) (t .now) idSize (channelMeant channel)) where
+  pub value-read-alike : (y z : ValueRead) → ReadsValue κs s idSize channel y → ReadsValue κs t idSize channel z → y ≡ z
+  value-read-alike y z p q = value-one y z (p ∙ same-value (s .now) (t .now) idSize (channelMeant channel) h ∙ sym q)
+
+  pub double-read-alike : (y z : ℕ) → ReadsDouble κs s idSize channel y → ReadsDouble κs t idSize channel z → y ≡ z
+  double-read-alike y z p q = p ∙ same-double (s .now) (t .now) idSize (channelMeant channel) h ∙ sym q
+
+-- ---- for C
+
+module _ (κs : Lfts 1) (s t : Slice) (idSize : ℕ) (channel : Mf4Channel) (h : Alike (s .now) (t .now) idSize (channelGiven channel)) where
+  pub mf4-decode-value-alike : (y z : Mf4Value) → ReadsValueC κs s idSize channel y → ReadsValueC κs t idSize channel z → y ≡ z
+  mf4-decode-value-alike y z p q = p ∙ ap valueC (same-value (s .now) (t .now) idSize (channelGiven channel) h) ∙ sym q
+
+  pub mf4-decode-double-alike : (y z : ℕ) → ReadsDoubleC κs s idSize channel y → ReadsDoubleC κs t idSize channel z → y ≡ z
+  mf4-decode-double-alike y z p q = p ∙ same-double (s .now) (t .now) idSize (channelGiven channel) h ∙ sym q

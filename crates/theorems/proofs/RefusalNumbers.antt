@@ -1,0 +1,218 @@
+-- Which numbers refusals have: a field's is 1, and every other one is from 2 on. So a reply of 0 is an answer, and a reply of 1
+-- is about a field.
+use mathlib.Core.Path.{_≡_, refl, sym}
+use mathlib.Core.Bool.{Bool, true, false, not, _&&_, _||_}
+use mathlib.Core.List.{List, [], _∷_, _++_}
+use Prim.Native.Nat.{ℕ, zero, suc, _+_, _*_, _≤_, _<_}
+use native.Mathlib.Omega.{arith}
+use lib.ListN.{length, take, drop}
+use lib.Dec.{ltb, eqb}
+use Rattle.definitions.specs.Reply.{Reply, Outcome, answer, refusal, if_then_else_, andThen, told, writing}
+use Rattle.definitions.specs.Bytes.{u64At, idAt}
+use Rattle.definitions.specs.Unicode.{Encoding, textOf, writtenText, textWritten}
+use Rattle.definitions.specs.Header.{Header, headerOf, headerBytes, headerWritten}
+use Rattle.definitions.specs.DataType.{Kind, kindOf}
+use Rattle.definitions.specs.DataList.{DataList, Lengths, idDL, listOf, linksOf, restOf, restIn, flagsAt, listBytes, listSize, flagsFor, restFor, unwritable, listWritten}
+use Rattle.definitions.specs.Channel.{Channel, ValidValue, startOf, spanOf, isInteger, isFloating, isNumber, valueBy, valueOf, validValueOf}
+use Rattle.definitions.specs.Chain.{Block, idDT, dataLimit, fileLimit, fragmentLimit, hasHeader, blockAt, declared, judged, fragmentOf, fragments, agrees, admitted, listAt, lists, listLimit, chainOf, totalOf, dataLength, joined, badSize, recordOf, onBlocks, fetched, valueFetched}
+use Rattle.definitions.proofs.Replies.{not-answered}
+
+-- P holds of every refusal's number and of what it tells
+abbrev pub Numbered : {A : Type 0} → (ℕ → ℕ → Type 0) → Reply A → Type 0
+Numbered P r = (n t : ℕ) → r ≡ refusal n t → P n t
+
+abbrev pub Some : ℕ → ℕ → Type 0
+Some n t = 0 < n
+
+abbrev pub FromTwo : ℕ → ℕ → Type 0
+FromTwo n t = 2 ≤ n
+
+abbrev pub OneAlone : ℕ → ℕ → Type 0
+OneAlone n t = (n ≡ 1) × (t ≡ 0)
+
+pub weaker : {A : Type 0} {P Q : ℕ → ℕ → Type 0} (r : Reply A) → ((n t : ℕ) → P n t → Q n t) → Numbered P r → Numbered Q r
+weaker r on h n t e = on n t (h n t e)
+
+module _ (P : ℕ → ℕ → Type 0) where
+  of-answer : {A : Type 0} (a : A) → Numbered P (answer a)
+  of-answer a n t e = not-answered a n t (sym e)
+
+  of-refusal : {A : Type 0} (n t : ℕ) → P n t → Numbered {A = A} P (refusal n t)
+  of-refusal n t p m s e = let en : n ≡ m = cc in let et : t ≡ s = cc in rw (← en, ← et) p
+
+  of-either : {A : Type 0} (b : Bool) (q r : Reply A) → Numbered P q → Numbered P r → Numbered P (if b then q else r)
+  of-either true q r g h = g
+  of-either false q r g h = h
+
+  of-test : {A : Type 0} (b : Bool) (n t : ℕ) (r : Reply A) → P n t → Numbered P r → Numbered P (if b then refusal n t else r)
+  of-test b n t r p h = of-either b (refusal n t) r (of-refusal n t p) h
+
+  of-following : {A B : Type 0} (r : Reply A) (g : A → Reply B) → Numbered P r → ((a : A) → Numbered P (g a)) → Numbered P (andThen r g)
+  of-following (answer a) g h i = i a
+  of-following (refusal n t) g h i = of-refusal n t (h n t refl)
+
+  of-outcome : {A : Type 0} (b : Bool) (n t : ℕ) (out : List ℕ) (o : Outcome A) → P n t → Numbered P (o .reply)
+      → Numbered P (if_then_else_ {A = Outcome A} b (record { reply = refusal n t; buffer = out }) o .reply)
+  of-outcome true n t out o p h = of-refusal n t p
+  of-outcome false n t out o p h = h
+
+-- ---- blocks
+
+pub header-numbered : (s : List ℕ) → Numbered FromTwo (headerOf s)
+unfolding headerOf
+header-numbered s = of-test FromTwo (ltb (length s) 24) 2 (told 24) _ (omega arith) (of-answer FromTwo _)
+
+rest-numbered : (s : List ℕ) (h : Header) → Numbered FromTwo (restOf s h)
+unfolding restOf
+rest-numbered s h =
+    of-test FromTwo (ltb (length s) (flagsAt (h .linkCount) + 8 + restIn s (h .linkCount) * 8)) 2 _ _ (omega arith) (of-answer FromTwo _)
+
+links-numbered : (s : List ℕ) (h : Header) → Numbered FromTwo (linksOf s h)
+unfolding linksOf
+links-numbered s h =
+    of-test FromTwo (not (idAt s 0 idDL)) 3 0 _ (omega arith)
+    (of-test FromTwo (eqb (h .linkCount) 0) 4 0 _ (omega arith)
+    (of-test FromTwo (ltb (length s) (flagsAt (h .linkCount) + 8)) 2 _ _ (omega arith) (rest-numbered s h)))
+
+pub list-numbered : (s : List ℕ) → Numbered FromTwo (listOf s)
+unfolding listOf
+list-numbered s = of-following FromTwo (headerOf s) (linksOf s) (header-numbered s) (links-numbered s)
+
+-- ---- into a buffer
+
+writing-numbered : {A : Type 0} (out bytes : List ℕ) (a : A) → Numbered FromTwo (writing out bytes a .reply)
+writing-numbered out bytes a = of-outcome FromTwo (ltb (length out) (length bytes)) 6 _ out _ (omega arith) (of-answer FromTwo a)
+
+pub header-written-numbered : (out : List ℕ) (h : Header) → Numbered FromTwo (headerWritten out h .reply)
+unfolding headerWritten
+header-written-numbered out h = writing-numbered out (headerBytes h) 24
+
+pub list-written-numbered : (out : List ℕ) (next : ℕ) (links : List ℕ) (l : Lengths) → Numbered FromTwo (listWritten out next links l .reply)
+unfolding listWritten
+list-written-numbered out next links l =
+    of-outcome FromTwo (unwritable (length links) l) 5 0 out _ (omega arith)
+    (writing-numbered out (listBytes next links (flagsFor l) (restFor l)) (listSize (length links) (length (restFor l))))
+
+pub text-written-numbered : (out : List ℕ) (e : Encoding) (s : List ℕ) → Numbered FromTwo (textWritten out e s .reply)
+unfolding textWritten writtenText
+text-written-numbered out e s = writing-numbered out (textOf e s .bytes) _
+
+-- ---- a chain
+
+block-numbered : (id f : List ℕ) (a : ℕ) → Numbered FromTwo (blockAt id f a)
+unfolding blockAt
+block-numbered id f a =
+    of-test FromTwo (not (hasHeader f a)) 11 0 _ (omega arith)
+    (of-test FromTwo (not (idAt f a id)) 12 0 _ (omega arith)
+    (of-test FromTwo (not (eqb (u64At f (a + 16)) 0)) 12 0 _ (omega arith)
+    (of-test FromTwo (ltb (u64At f (a + 8)) 24) 12 0 _ (omega arith)
+    (of-test FromTwo (ltb (length f) (a + u64At f (a + 8))) 12 0 _ (omega arith) (of-answer FromTwo _)))))
+
+judged-numbered : (s : List ℕ) (d : DataList) (i p : ℕ) (b : Block) → Numbered FromTwo (judged s d i p b)
+judged-numbered s d i p b =
+    of-test FromTwo (ltb dataLimit (p + b .size)) 14 0 _ (omega arith)
+    (of-test FromTwo (not (declared s d i p (b .size))) 13 0 _ (omega arith) (of-answer FromTwo b))
+
+fragments-numbered : (id f s : List ℕ) (d : DataList) (i n : ℕ) (before : List Block) → Numbered FromTwo (fragments id f s d i n before)
+unfolding fragments fragmentOf
+fragments-numbered id f s d i zero before = of-answer FromTwo before
+fragments-numbered id f s d i (suc n) before =
+    of-following FromTwo (andThen (blockAt id f (u64At s (d .linksAt + i * 8))) (judged s d i _)) _
+    (of-following FromTwo (blockAt id f (u64At s (d .linksAt + i * 8))) _ (block-numbered id f _) (judged-numbered s d i _))
+    (λ b. fragments-numbered id f s d (i + 1) n (before ++ (b ∷ [])))
+
+admitted-numbered : (n : ℕ) (d : DataList) → Numbered FromTwo (admitted n d)
+admitted-numbered n d =
+    of-test FromTwo (not (agrees d)) 10 0 _ (omega arith)
+    (of-test FromTwo (ltb fragmentLimit (n + d .links)) 9 0 _ (omega arith) (of-answer FromTwo d))
+
+list-at-numbered : (f : List ℕ) (n a : ℕ) → Numbered FromTwo (listAt f n a)
+unfolding listAt
+list-at-numbered f n a =
+    of-test FromTwo (not (hasHeader f a)) 11 0 _ (omega arith)
+    (of-following FromTwo (listOf (drop a f)) (admitted n) (list-numbered (drop a f)) (admitted-numbered n))
+
+lists-numbered : (id f : List ℕ) (k a : ℕ) (before : List Block) → Numbered FromTwo (lists id f k a before)
+unfolding lists
+lists-numbered id f zero a before = of-refusal FromTwo 8 0 (omega arith)
+lists-numbered id f (suc k) a before =
+    of-following FromTwo (listAt f (length before) a) _ (list-at-numbered f (length before) a)
+    (λ d. of-following FromTwo (fragments id f (drop a f) d 0 (d .links) before) _ (fragments-numbered id f (drop a f) d 0 (d .links) before)
+    (λ bs. of-either FromTwo (eqb (d .next) 0) _ _ (of-answer FromTwo bs) (lists-numbered id f k (d .next) bs)))
+
+pub total-numbered : (id f : List ℕ) (start : ℕ) → Numbered FromTwo (totalOf id f start)
+unfolding totalOf chainOf
+total-numbered id f start = of-following FromTwo (chainOf id f start) _ (lists-numbered id f listLimit start []) (λ bs. of-answer FromTwo _)
+
+pub length-numbered : (f : List ℕ) (start : ℕ) → Numbered FromTwo (dataLength f start)
+unfolding dataLength
+length-numbered f start = of-test FromTwo (ltb fileLimit (length f)) 7 0 _ (omega arith) (total-numbered idDT f start)
+
+-- ---- a record
+
+module _ (f : List ℕ) (start k size : ℕ) (out : List ℕ) where
+  record-numbered : (j : List ℕ) → Numbered FromTwo (recordOf j k size out .reply)
+  unfolding recordOf
+  record-numbered j = of-outcome FromTwo (ltb (length j) (k * size + size)) 16 0 out _ (omega arith) (of-answer FromTwo tt)
+
+  on-blocks : (r : Reply (List Block)) → Numbered FromTwo r → Numbered FromTwo (onBlocks r (λ bs. recordOf (joined f bs) k size out) out .reply)
+  on-blocks (answer bs) h = record-numbered (joined f bs)
+  on-blocks (refusal n t) h = of-refusal FromTwo n t (h n t refl)
+
+  pub fetched-numbered : Numbered FromTwo (fetched f start k size out .reply)
+  unfolding fetched chainOf
+  fetched-numbered =
+      of-outcome FromTwo (badSize size (length out)) 15 0 out _ (omega arith)
+      (of-outcome FromTwo (ltb fileLimit (length f)) 7 0 out _ (omega arith)
+      (on-blocks (chainOf idDT f start) (lists-numbered idDT f listLimit start [])))
+
+-- ---- a field
+
+module _ (s : List ℕ) (idSize : ℕ) (c : Channel) where
+  by-kind : (k : Kind) (at n : ℕ) → Numbered OneAlone (valueBy k at n s c)
+  unfolding valueBy
+  by-kind k at n =
+      of-test OneAlone (isNumber k && eqb (c .bitCount) 0) 1 0 _ (refl, refl)
+      (of-test OneAlone (isNumber k && ltb 7 (c .bitOffset)) 1 0 _ (refl, refl)
+      (of-test OneAlone (isInteger k && ltb 64 (c .bitCount)) 1 0 _ (refl, refl)
+      (of-test OneAlone (ltb (length s) (at + n)) 1 0 _ (refl, refl)
+      (of-test OneAlone (isFloating k && not (eqb (c .bitCount) 32 || eqb (c .bitCount) 64)) 1 0 _ (refl, refl) (of-answer OneAlone _)))))
+
+  pub value-numbered : Numbered OneAlone (valueOf s idSize c)
+  unfolding valueOf
+  value-numbered = by-kind (kindOf (c .dataType)) (startOf idSize c) (spanOf s c)
+
+  pub valid-value-numbered : (dataBytes : ℕ) → Numbered OneAlone (validValueOf s idSize dataBytes c)
+  unfolding validValueOf
+  valid-value-numbered dataBytes = of-following OneAlone (valueOf s idSize c) _ value-numbered (λ v. of-answer OneAlone _)
+
+-- a value, or that there is none in the record
+abbrev pub OfField : Reply ValidValue → Type 0
+OfField (answer v) = Unit {0}
+OfField (refusal n t) = n ≡ 1
+
+module _ (f : List ℕ) (start k size : ℕ) (out : List ℕ) (idSize dataBytes : ℕ) (c : Channel) where
+  pub value-fetched-numbered : Numbered Some (valueFetched f start k size idSize dataBytes c out .reply)
+  unfolding valueFetched
+  value-fetched-numbered =
+      of-following Some (fetched f start k size out .reply) _ (weaker _ (λ n t p. omega arith) (fetched-numbered f start k size out))
+      (λ u. weaker _ (λ n t p. omega arith) (valid-value-numbered (take size (fetched f start k size out .buffer)) idSize c dataBytes))
+
+  -- a reply about the field says that the record was fetched
+  pub field-of-fetched : OfField (valueFetched f start k size idSize dataBytes c out .reply) → fetched f start k size out .reply ≡ answer tt
+  unfolding valueFetched
+  field-of-fetched h = go (fetched f start k size out .reply) (fetched-numbered f start k size out) h
+    where
+      go : (r : Reply (Unit {0})) → Numbered FromTwo r
+          → OfField (andThen r (λ u. validValueOf (take size (fetched f start k size out .buffer)) idSize dataBytes c)) → r ≡ answer tt
+      go (answer u) g h = refl
+      go (refusal n t) g h = let no : ⊥ = omega (arith, g n t refl) in absurd no
+
+  -- and any other one that it was not
+  pub other-of-fetch : (n t : ℕ) → valueFetched f start k size idSize dataBytes c out .reply ≡ refusal n t → (n ≡ 1 → ⊥) → fetched f start k size out .reply ≡ refusal n t
+  unfolding valueFetched
+  other-of-fetch n t e other = go (fetched f start k size out .reply) e
+    where
+      go : (r : Reply (Unit {0})) → andThen r (λ u. validValueOf (take size (fetched f start k size out .buffer)) idSize dataBytes c) ≡ refusal n t → r ≡ refusal n t
+      go (answer u) e = absurd (other (valid-value-numbered _ idSize c dataBytes n t e .0))
+      go (refusal m s) e = cc

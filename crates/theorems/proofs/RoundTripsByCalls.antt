@@ -1,0 +1,70 @@
+-- What a call wrote, the other call reads, and what one read, the other writes again: about the calls' own clauses.
+use mathlib.Core.Path.{_≡_, sym, ap, _∙_}
+use mathlib.Core.List.{List}
+use Prim.Native.Nat.{ℕ, _^_, _<_}
+use contract.Lifetimes.{Lfts}
+use lib.ListN.{take}
+use Rattle.definitions.specs.Reply.{Outcome, answer}
+use Rattle.definitions.specs.DataList.{DataList, Lengths, equal, variable, flagsFor, restFor, listWritten}
+use Rattle.words.proofs.Numbers.{Bytes}
+use Rattle.blocks.specs.Meaning.{headerReply, headerMeant, writtenReply, listReply}
+use Rattle.blocks.specs.declared.header.BlockHeader.{BlockHeader}
+use Rattle.blocks.specs.declared.header.HeaderRead.{HeaderRead}
+use Rattle.blocks.specs.declared.data_list.ListRead.{ListRead}
+use Rattle.blocks.specs.declared.written.Written.{Written}
+use Rattle.theorems.specs.Sole.{Slice}
+use Rattle.theorems.specs.Clauses.{ReadsHeader, WritesHeader, ReadsList, WritesEqual, WritesVariable}
+use Rattle.theorems.proofs.Rewritten.{Words}
+use Rattle.theorems.proofs.HeaderRoundTrip.{Fits}
+use Rattle.theorems.proofs.ListWrittenRead.{listFrom}
+use Rattle.theorems.proofs.RoundTripsInBuffers.{WrittenInto, header-back, header-again, ListBack, WrittenFrom, one-word, list-back, list-again}
+
+into : (y : Written) (after : List ℕ) (o : Outcome ℕ) → record { reply = writtenReply y; buffer = after } ≡ o → (n : ℕ) → writtenReply y ≡ answer n → WrittenInto after o
+into y after o p n e = record { count = n; answers = sym (ap (λ (x : Outcome ℕ). x .reply) p) ∙ e; left = ap (λ (x : Outcome ℕ). x .buffer) p }
+
+-- ---- a header
+
+module _ (ws rs : Lfts 1) (header : BlockHeader) (out : Slice) (y : Written) (after : List ℕ) (n : ℕ)
+    (wrote : WritesHeader ws header out y after) (answers : writtenReply y ≡ answer n) (bytes : Slice) (z : HeaderRead) (read : ReadsHeader rs bytes z) where
+  pub header-read-back : Fits (headerMeant header) → bytes .now ≡ after → headerReply z ≡ answer (headerMeant header)
+  header-read-back fits same = read ∙ header-back (out .now) (headerMeant header) after (into y after _ wrote n answers) fits (bytes .now) same
+
+  pub header-written-again : Bytes (bytes .now) → headerReply z ≡ answer (headerMeant header) → take 24 after ≡ take 24 (bytes .now)
+  header-written-again b e = header-again (out .now) (headerMeant header) after (into y after _ wrote n answers) (bytes .now) b (sym read ∙ e)
+
+-- ---- a list
+
+-- what reading gives of the bytes that were left
+abbrev pub ReadBack : Lfts 1 → ℕ → List ℕ → Lengths → List ℕ → Type 0
+ReadBack rs next links l after =
+    (bytes : Slice) (z : ListRead) → ReadsList rs bytes z → bytes .now ≡ after
+    → (listReply z ≡ answer (listFrom next links (flagsFor l) (restFor l))) × ListBack next links l (bytes .now)
+
+-- where a list that was read is written
+abbrev pub WrittenAgain : Lfts 1 → ℕ → List ℕ → Lengths → List ℕ → Type 0
+WrittenAgain rs next links l after =
+    (bytes : Slice) (z : ListRead) (d : DataList) → ReadsList rs bytes z → listReply z ≡ answer d → Bytes (bytes .now) → WrittenFrom (bytes .now) d next links l
+    → take (d .header .blockLength) after ≡ take (d .header .blockLength) (bytes .now)
+
+module _ (rs : Lfts 1) (out : List ℕ) (next : ℕ) (links : List ℕ) (l : Lengths) (after : List ℕ) (w : WrittenInto after (listWritten out next links l)) where
+  read-back : next < 2 ^ 64 → Words links → Words (restFor l) → ReadBack rs next links l after
+  read-back a b c bytes z read same = let back = list-back out next links l after w a b c (bytes .now) same in (read ∙ back .list, back)
+
+  written-again : WrittenAgain rs next links l after
+  written-again bytes z d read e b f = list-again out next links l after w (bytes .now) d b (sym read ∙ e) f
+
+module _ (ws : Lfts 2) (rs : Lfts 1) (next : ℕ) (links : Slice) (size : ℕ) (out : Slice) (y : Written) (after : List ℕ) (n : ℕ)
+    (wrote : WritesEqual ws next links size out y after) (answers : writtenReply y ≡ answer n) where
+  pub equal-read-back : next < 2 ^ 64 → Words (links .now) → size < 2 ^ 64 → ReadBack rs next (links .now) (equal size) after
+  equal-read-back a b c = read-back rs (out .now) next (links .now) (equal size) after (into y after _ wrote n answers) a b (one-word size c)
+
+  pub equal-written-again : WrittenAgain rs next (links .now) (equal size) after
+  equal-written-again = written-again rs (out .now) next (links .now) (equal size) after (into y after _ wrote n answers)
+
+module _ (ws : Lfts 3) (rs : Lfts 1) (next : ℕ) (links offsets out : Slice) (y : Written) (after : List ℕ) (n : ℕ)
+    (wrote : WritesVariable ws next links offsets out y after) (answers : writtenReply y ≡ answer n) where
+  pub variable-read-back : next < 2 ^ 64 → Words (links .now) → Words (offsets .now) → ReadBack rs next (links .now) (variable (offsets .now)) after
+  variable-read-back = read-back rs (out .now) next (links .now) (variable (offsets .now)) after (into y after _ wrote n answers)
+
+  pub variable-written-again : WrittenAgain rs next (links .now) (variable (offsets .now)) after
+  variable-written-again = written-again rs (out .now) next (links .now) (variable (offsets .now)) after (into y after _ wrote n answers)

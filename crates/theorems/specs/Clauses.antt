@@ -1,0 +1,106 @@
+-- The clause of each call of the library, as a fact of its arguments, its result y and, where it is lent a buffer to write to,
+-- what the buffer holds afterwards.
+use Prim.Native.Nat.{ℕ}
+use mathlib.Core.List.{List}
+use contract.Lifetimes.{Lfts}
+use Rattle.theorems.specs.Sole.{Slice, Allows}
+use Rattle.blocks.specs.declared.header.BlockHeader.{BlockHeader}
+use Rattle.blocks.specs.declared.header.HeaderRead.{HeaderRead}
+use Rattle.blocks.specs.declared.data_list.ListRead.{ListRead}
+use Rattle.blocks.specs.declared.written.Written.{Written}
+use Rattle.text.specs.declared.encoding.Encoding.{Encoding}
+use Rattle.text.specs.declared.answer.TextWrite.{TextWrite}
+use Rattle.decoder.specs.declared.channel.Channel.{Channel}
+use Rattle.decoder.specs.declared.value.ValueRead.{ValueRead}
+use Rattle.decoder.specs.declared.value.ValidValueRead.{ValidValueRead}
+use Rattle.chain.specs.declared.place.FileAddress.{FileAddress}
+use Rattle.chain.specs.declared.acceptance.ChainRead.{ChainRead}
+use Rattle.chain.specs.declared.record.RecordRead.{RecordRead}
+use Rattle.blocks.proofs.header.BlockHeader.from_bytes.Kinds as header-read-kinds
+use Rattle.blocks.proofs.header.BlockHeader.from_bytes.Reads as header-read
+use Rattle.blocks.proofs.header.BlockHeader.to_bytes.Kinds as header-write-kinds
+use Rattle.blocks.proofs.header.BlockHeader.to_bytes.Reads as header-write
+use Rattle.blocks.proofs.data_list.DataListBlock.from_bytes.Kinds as list-read-kinds
+use Rattle.blocks.proofs.data_list.DataListBlock.from_bytes.Reads as list-read
+use Rattle.blocks.proofs.data_list.DataListBlock.write_equal.Kinds as list-equal-kinds
+use Rattle.blocks.proofs.data_list.DataListBlock.write_equal.Reads as list-equal
+use Rattle.blocks.proofs.data_list.DataListBlock.write_variable.Kinds as list-variable-kinds
+use Rattle.blocks.proofs.data_list.DataListBlock.write_variable.Reads as list-variable
+use Rattle.text.proofs.write_text.Kinds as text-write-kinds
+use Rattle.text.proofs.write_text.Reads as text-write
+use Rattle.decoder.proofs.decode_channel_value.Kinds as value-read-kinds
+use Rattle.decoder.proofs.decode_channel_value.Reads as value-read
+use Rattle.decoder.proofs.decode_channel_value_with_validity.Kinds as valid-value-read-kinds
+use Rattle.decoder.proofs.decode_channel_value_with_validity.Reads as valid-value-read
+use Rattle.decoder.proofs.decode_f64_from_record.Kinds as record-double-kinds
+use Rattle.decoder.proofs.decode_f64_from_record.Reads as record-double
+use Rattle.chain.proofs.accept.Kinds as chain-accept-kinds
+use Rattle.chain.proofs.accept.Reads as chain-accept
+use Rattle.chain.proofs.data_length.Kinds as chain-length-kinds
+use Rattle.chain.proofs.data_length.Reads as chain-length
+use Rattle.chain.proofs.read_record.Kinds as record-read-kinds
+use Rattle.chain.proofs.read_record.Reads as record-read
+use Rattle.records.proofs.read_value.Kinds as record-value-kinds
+use Rattle.records.proofs.read_value.Reads as record-value
+
+-- ---- blocks
+
+abbrev pub ReadsHeader : Lfts 1 → Slice → HeaderRead → Type 0
+ReadsHeader κs bytes y = Allows 1 header-read-kinds.ps header-read-kinds.r header-read.Learnt κs (bytes, tt) y (tt, tt)
+
+abbrev pub WritesHeader : Lfts 1 → BlockHeader → Slice → Written → List ℕ → Type 0
+WritesHeader κs header out y after = Allows 1 header-write-kinds.ps header-write-kinds.r header-write.Learnt κs (header, (out, tt)) y (tt, (after, tt))
+
+abbrev pub ReadsList : Lfts 1 → Slice → ListRead → Type 0
+ReadsList κs bytes y = Allows 1 list-read-kinds.ps list-read-kinds.r list-read.Learnt κs (bytes, tt) y (tt, tt)
+
+abbrev pub WritesEqual : Lfts 2 → ℕ → Slice → ℕ → Slice → Written → List ℕ → Type 0
+WritesEqual κs next links length out y after =
+    Allows 2 list-equal-kinds.ps list-equal-kinds.r list-equal.Learnt κs (next, (links, (length, (out, tt)))) y (tt, (tt, (tt, (after, tt))))
+
+abbrev pub WritesVariable : Lfts 3 → ℕ → Slice → Slice → Slice → Written → List ℕ → Type 0
+WritesVariable κs next links offsets out y after =
+    Allows 3 list-variable-kinds.ps list-variable-kinds.r list-variable.Learnt κs (next, (links, (offsets, (out, tt)))) y (tt, (tt, (tt, (after, tt))))
+
+-- ---- a text
+
+abbrev pub WritesText : Lfts 2 → Encoding → Slice → Slice → TextWrite → List ℕ → Type 0
+WritesText κs encoding bytes out y after =
+    Allows 2 text-write-kinds.ps text-write-kinds.r text-write.Learnt κs (encoding, (bytes, (out, tt))) y (tt, (tt, (after, tt)))
+
+-- ---- a field
+
+abbrev pub ReadsValue : Lfts 1 → Slice → ℕ → Channel → ValueRead → Type 0
+ReadsValue κs bytes idSize channel y =
+    Allows 1 value-read-kinds.ps value-read-kinds.r value-read.Learnt κs (bytes, (idSize, (channel, tt))) y (tt, (tt, (tt, tt)))
+
+abbrev pub ReadsValidValue : Lfts 1 → Slice → ℕ → ℕ → Channel → ValidValueRead → Type 0
+ReadsValidValue κs bytes idSize dataBytes channel y =
+    Allows 1 valid-value-read-kinds.ps valid-value-read-kinds.r valid-value-read.Learnt κs (bytes, (idSize, (dataBytes, (channel, tt)))) y (tt, (tt, (tt, (tt, tt))))
+
+abbrev pub ReadsDouble : Lfts 1 → Slice → ℕ → Channel → ℕ → Type 0
+ReadsDouble κs bytes idSize channel y =
+    Allows 1 record-double-kinds.ps record-double-kinds.r record-double.Learnt κs (bytes, (idSize, (channel, tt))) y (tt, (tt, (tt, tt)))
+
+-- ---- a chain
+
+abbrev pub AcceptsChain : Lfts 2 → Slice → FileAddress → Slice → ChainRead → Type 0
+AcceptsChain κs file start id y =
+    Allows 2 chain-accept-kinds.ps chain-accept-kinds.r chain-accept.Learnt κs (file, (start, (id, tt))) y (tt, (tt, (tt, tt)))
+
+abbrev pub ReadsLength : Lfts 1 → Slice → FileAddress → ChainRead → Type 0
+ReadsLength κs file start y =
+    Allows 1 chain-length-kinds.ps chain-length-kinds.r chain-length.Learnt κs (file, (start, tt)) y (tt, (tt, tt))
+
+-- ---- a record
+
+abbrev pub ReadsRecord : Lfts 2 → Slice → FileAddress → ℕ → ℕ → Slice → RecordRead → List ℕ → Type 0
+ReadsRecord κs file start number size out y after =
+    Allows 2 record-read-kinds.ps record-read-kinds.r record-read.Learnt κs
+    (file, (start, (number, (size, (out, tt))))) y (tt, (tt, (tt, (tt, (after, tt)))))
+
+abbrev pub ReadsRecordValue : Lfts 2 → Slice → FileAddress → ℕ → ℕ → ℕ → ℕ → Channel → Slice → ValidValueRead → List ℕ → Type 0
+ReadsRecordValue κs file start number size idSize dataBytes channel out y after =
+    Allows 2 record-value-kinds.ps record-value-kinds.r record-value.Learnt κs
+    (file, (start, (number, (size, (idSize, (dataBytes, (channel, (out, tt)))))))) y
+    (tt, (tt, (tt, (tt, (tt, (tt, (tt, (after, tt))))))))

@@ -1,0 +1,105 @@
+-- The clause of each call for C, as a fact of its arguments, its result y and, where it is lent a buffer to write to, what the
+-- buffer holds afterwards.
+use Prim.Native.Nat.{ℕ}
+use mathlib.Core.List.{List}
+use contract.Lifetimes.{Lfts}
+use Rattle.definitions.specs.Bytes.{little, big}
+use Rattle.definitions.specs.Unicode.{Encoding, latin1, utf8, utf16}
+use Rattle.theorems.specs.Sole.{Slice, Allows}
+use Rattle.mf4.specs.declared.header.Mf4BlockHeader.{Mf4BlockHeader}
+use Rattle.mf4.specs.declared.header.Mf4Header.{Mf4Header}
+use Rattle.mf4.specs.declared.list.Mf4List.{Mf4List}
+use Rattle.mf4.specs.declared.written.Mf4Written.{Mf4Written}
+use Rattle.mf4.specs.declared.texts.Mf4Text.{Mf4Text}
+use Rattle.mf4.specs.declared.values.Mf4Channel.{Mf4Channel}
+use Rattle.mf4.specs.declared.values.Mf4Value.{Mf4Value}
+use Rattle.mf4.specs.declared.values.Mf4ValidValue.{Mf4ValidValue}
+use Rattle.mf4.specs.declared.fetches.Mf4Length.{Mf4Length}
+use Rattle.mf4.specs.declared.fetches.Mf4Fetched.{Mf4Fetched}
+use Rattle.mf4.proofs.mf4_read_header.Kinds as read-header-kinds
+use Rattle.mf4.proofs.mf4_read_header.Reads as read-header
+use Rattle.mf4.proofs.mf4_write_header.Kinds as write-header-kinds
+use Rattle.mf4.proofs.mf4_write_header.Reads as write-header
+use Rattle.mf4.proofs.mf4_read_list.Kinds as read-list-kinds
+use Rattle.mf4.proofs.mf4_read_list.Reads as read-list
+use Rattle.mf4.proofs.mf4_write_list_equal.Kinds as write-equal-kinds
+use Rattle.mf4.proofs.mf4_write_list_equal.Reads as write-equal
+use Rattle.mf4.proofs.mf4_write_list_variable.Kinds as write-variable-kinds
+use Rattle.mf4.proofs.mf4_write_list_variable.Reads as write-variable
+use Rattle.mf4.proofs.mf4_text_latin1.Kinds as text-latin1-kinds
+use Rattle.mf4.proofs.mf4_text_latin1.Reads as text-latin1
+use Rattle.mf4.proofs.mf4_text_utf8.Kinds as text-utf8-kinds
+use Rattle.mf4.proofs.mf4_text_utf8.Reads as text-utf8
+use Rattle.mf4.proofs.mf4_text_utf16_le.Kinds as text-utf16-le-kinds
+use Rattle.mf4.proofs.mf4_text_utf16_le.Reads as text-utf16-le
+use Rattle.mf4.proofs.mf4_text_utf16_be.Kinds as text-utf16-be-kinds
+use Rattle.mf4.proofs.mf4_text_utf16_be.Reads as text-utf16-be
+use Rattle.mf4.proofs.mf4_decode_value.Kinds as decode-value-kinds
+use Rattle.mf4.proofs.mf4_decode_value.Reads as decode-value
+use Rattle.mf4.proofs.mf4_decode_valid_value.Kinds as decode-valid-value-kinds
+use Rattle.mf4.proofs.mf4_decode_valid_value.Reads as decode-valid-value
+use Rattle.mf4.proofs.mf4_decode_double.Kinds as decode-double-kinds
+use Rattle.mf4.proofs.mf4_decode_double.Reads as decode-double
+use Rattle.mf4.proofs.mf4_data_length.Kinds as data-length-kinds
+use Rattle.mf4.proofs.mf4_data_length.Reads as data-length
+use Rattle.mf4.proofs.mf4_read_record.Kinds as read-record-kinds
+use Rattle.mf4.proofs.mf4_read_record.Reads as read-record
+use Rattle.mf4.proofs.mf4_record_value.Kinds as record-value-kinds
+use Rattle.mf4.proofs.mf4_record_value.Reads as record-value
+
+-- ---- blocks
+
+abbrev pub ReadsHeaderC : Lfts 1 → Slice → Mf4Header → Type 0
+ReadsHeaderC κs bytes y = Allows 1 read-header-kinds.ps read-header-kinds.r read-header.Learnt κs (bytes, tt) y (tt, tt)
+
+abbrev pub WritesHeaderC : Lfts 1 → Mf4BlockHeader → Slice → Mf4Written → List ℕ → Type 0
+WritesHeaderC κs header out y after = Allows 1 write-header-kinds.ps write-header-kinds.r write-header.Learnt κs (header, (out, tt)) y (tt, (after, tt))
+
+abbrev pub ReadsListC : Lfts 1 → Slice → Mf4List → Type 0
+ReadsListC κs bytes y = Allows 1 read-list-kinds.ps read-list-kinds.r read-list.Learnt κs (bytes, tt) y (tt, tt)
+
+abbrev pub WritesEqualC : Lfts 2 → ℕ → Slice → ℕ → Slice → Mf4Written → List ℕ → Type 0
+WritesEqualC κs next links length out y after =
+    Allows 2 write-equal-kinds.ps write-equal-kinds.r write-equal.Learnt κs (next, (links, (length, (out, tt)))) y (tt, (tt, (tt, (after, tt))))
+
+abbrev pub WritesVariableC : Lfts 3 → ℕ → Slice → Slice → Slice → Mf4Written → List ℕ → Type 0
+WritesVariableC κs next links offsets out y after =
+    Allows 3 write-variable-kinds.ps write-variable-kinds.r write-variable.Learnt κs (next, (links, (offsets, (out, tt)))) y (tt, (tt, (tt, (after, tt))))
+
+-- ---- a text: the call for its encoding
+
+abbrev pub WritesTextC : Encoding → Lfts 2 → Slice → Slice → Mf4Text → List ℕ → Type 0
+WritesTextC latin1 κs bytes out y after = Allows 2 text-latin1-kinds.ps text-latin1-kinds.r text-latin1.Learnt κs (bytes, (out, tt)) y (tt, (after, tt))
+WritesTextC utf8 κs bytes out y after = Allows 2 text-utf8-kinds.ps text-utf8-kinds.r text-utf8.Learnt κs (bytes, (out, tt)) y (tt, (after, tt))
+WritesTextC (utf16 little) κs bytes out y after = Allows 2 text-utf16-le-kinds.ps text-utf16-le-kinds.r text-utf16-le.Learnt κs (bytes, (out, tt)) y (tt, (after, tt))
+WritesTextC (utf16 big) κs bytes out y after = Allows 2 text-utf16-be-kinds.ps text-utf16-be-kinds.r text-utf16-be.Learnt κs (bytes, (out, tt)) y (tt, (after, tt))
+
+-- ---- a field
+
+abbrev pub ReadsValueC : Lfts 1 → Slice → ℕ → Mf4Channel → Mf4Value → Type 0
+ReadsValueC κs bytes idSize channel y =
+    Allows 1 decode-value-kinds.ps decode-value-kinds.r decode-value.Learnt κs (bytes, (idSize, (channel, tt))) y (tt, (tt, (tt, tt)))
+
+abbrev pub ReadsValidValueC : Lfts 1 → Slice → ℕ → ℕ → Mf4Channel → Mf4ValidValue → Type 0
+ReadsValidValueC κs bytes idSize dataBytes channel y =
+    Allows 1 decode-valid-value-kinds.ps decode-valid-value-kinds.r decode-valid-value.Learnt κs (bytes, (idSize, (dataBytes, (channel, tt)))) y (tt, (tt, (tt, (tt, tt))))
+
+abbrev pub ReadsDoubleC : Lfts 1 → Slice → ℕ → Mf4Channel → ℕ → Type 0
+ReadsDoubleC κs bytes idSize channel y =
+    Allows 1 decode-double-kinds.ps decode-double-kinds.r decode-double.Learnt κs (bytes, (idSize, (channel, tt))) y (tt, (tt, (tt, tt)))
+
+-- ---- the joined data, a record of it, and a value in that
+
+abbrev pub ReadsLengthC : Lfts 1 → Slice → ℕ → Mf4Length → Type 0
+ReadsLengthC κs file start y = Allows 1 data-length-kinds.ps data-length-kinds.r data-length.Learnt κs (file, (start, tt)) y (tt, (tt, tt))
+
+abbrev pub ReadsRecordC : Lfts 2 → Slice → ℕ → ℕ → ℕ → Slice → Mf4Fetched → List ℕ → Type 0
+ReadsRecordC κs file start number size out y after =
+    Allows 2 read-record-kinds.ps read-record-kinds.r read-record.Learnt κs
+    (file, (start, (number, (size, (out, tt))))) y (tt, (tt, (tt, (tt, (after, tt)))))
+
+abbrev pub ReadsRecordValueC : Lfts 2 → Slice → ℕ → ℕ → ℕ → ℕ → ℕ → Mf4Channel → Slice → Mf4ValidValue → List ℕ → Type 0
+ReadsRecordValueC κs file start number size idSize dataBytes channel out y after =
+    Allows 2 record-value-kinds.ps record-value-kinds.r record-value.Learnt κs
+    (file, (start, (number, (size, (idSize, (dataBytes, (channel, (out, tt)))))))) y
+    (tt, (tt, (tt, (tt, (tt, (tt, (tt, (after, tt))))))))

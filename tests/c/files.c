@@ -1,0 +1,128 @@
+#include "files.h"
+
+#include <string.h>
+
+static struct {
+    uint8_t bytes[MOST_LENT];
+    size_t length;
+} built;
+
+void start_file(size_t length)
+{
+    memset(built.bytes, 0, sizeof built.bytes);
+    built.length = length;
+}
+
+void cut_file(size_t length) { built.length = length; }
+size_t file_length(void) { return built.length; }
+
+void put(size_t at, uint64_t number, int size)
+{
+    for (; size > 0; size--, number >>= 8)
+        built.bytes[at++] = (uint8_t)number;
+}
+
+void put_block(size_t at, const char *id, uint64_t block_len, uint64_t links_nr)
+{
+    memcpy(built.bytes + at, id, 4);
+    put(at + 8, block_len, 8);
+    put(at + 16, links_nr, 8);
+}
+
+size_t put_data(size_t at, unsigned first, size_t size)
+{
+    size_t i;
+    put_block(at, "##DT", 24 + size, 0);
+    for (i = 0; i < size; i++)
+        built.bytes[at + 24 + i] = (uint8_t)(first + i);
+    return at + 24 + size;
+}
+
+void make_cut_file(void)
+{
+    start_file(174);
+    put_block(8, "##DL", 88, 4);
+    put(40, 96, 8), put(48, 123, 8), put(56, 147, 8);
+    put(68, 3, 4);
+    put(72, 0, 8), put(80, 3, 8), put(88, 3, 8);
+    put_data(96, 1, 3), put_data(123, 0, 0), put_data(147, 4, 3);
+}
+
+void make_equal_file(void)
+{
+    start_file(160);
+    put_block(8, "##DL", 72, 4);
+    put(40, 80, 8), put(48, 107, 8), put(56, 134, 8);
+    put(64, MF4_LIST_EQUAL_LENGTH, 1), put(68, 3, 4);
+    put(72, 3, 8);
+    put_data(80, 1, 3), put_data(107, 4, 3), put_data(134, 7, 2);
+}
+
+void make_pair_file(void)
+{
+    start_file(174);
+    put_block(8, "##DL", 56, 2), put_block(64, "##DL", 56, 2);
+    put(32, 64, 8);
+    put(40, 120, 8), put(52, 1, 4), put(56, 0, 8);
+    put(96, 147, 8), put(108, 1, 4), put(112, 3, 8);
+    put_data(120, 1, 3), put_data(147, 4, 3);
+}
+
+void make_uncut_file(void)
+{
+    start_file(94);
+    put_block(8, "##DL", 56, 2);
+    put(40, 64, 8), put(48, MF4_LIST_EQUAL_LENGTH, 1), put(52, 1, 4), put(56, MOST, 8);
+    put_data(64, 1, 6);
+}
+
+lent lend_file(void) { return built.length == 0 ? no_bytes() : lend_copy(INPUT, built.bytes, built.length); }
+
+int fetched_is(mf4_fetched a, uint32_t reply, uint64_t told) { return a.reply == reply && a.told == told; }
+
+int length_is(mf4_length a, uint32_t reply, uint64_t told, uint64_t length)
+{
+    return a.reply == reply && a.told == told && a.length == length;
+}
+
+/* A fetch has two refusals of its own: 15, which it tells first, and 16, which it tells of an accepted chain. */
+static int length_agrees(mf4_length length, mf4_fetched fetched)
+{
+    if (fetched.reply == MF4_BAD_RECORD_SIZE)
+        return 1;
+    if (fetched.reply == MF4_ANSWER || fetched.reply == MF4_NO_SUCH_RECORD)
+        return length_is(length, MF4_ANSWER, 0, length.length);
+    return length_is(length, fetched.reply, fetched.told, 0);
+}
+
+mf4_fetched fetch(uint64_t start, uint64_t number, uint64_t record_size, lent buffer)
+{
+    lent file = lend_file();
+    mf4_fetched answer = mf4_read_record(file.bytes, file.length, start, number, record_size, buffer.bytes, buffer.length);
+    CHECK(length_agrees(mf4_data_length(file.bytes, file.length, start), answer));
+    CHECK(is_unchanged(file));
+    return answer;
+}
+
+int fetches(uint64_t number, uint64_t record_size, const char *record)
+{
+    lent buffer = lend_marked(OUTPUT, (size_t)record_size + 5);
+    return fetched_is(fetch(START, number, record_size, buffer), 0, 0) && holds_only_hex(buffer, record);
+}
+
+int refuses_from(uint64_t start, uint64_t number, uint64_t record_size, uint32_t reply, uint64_t told)
+{
+    lent buffer = lend_marked(OUTPUT, (size_t)record_size);
+    return fetched_is(fetch(start, number, record_size, buffer), reply, told) && is_unchanged(buffer);
+}
+
+int refuses(uint64_t number, uint64_t record_size, uint32_t reply)
+{
+    return refuses_from(START, number, record_size, reply, 0);
+}
+
+int joins(uint64_t length)
+{
+    lent file = lend_file();
+    return length_is(mf4_data_length(file.bytes, file.length, START), MF4_ANSWER, 0, length) && is_unchanged(file);
+}

@@ -1,0 +1,71 @@
+/* What mf4.h itself says and does: the version, the names of numbers, and the inline functions. */
+#include "limits.h"
+
+#include <stdio.h>
+#include <string.h>
+
+static void check_version(void)
+{
+    char version[40];
+    name_case("the version");
+    snprintf(version, sizeof version, "%d.%d.%d", MF4_VERSION_MAJOR, MF4_VERSION_MINOR, MF4_VERSION_PATCH);
+    CHECK(strcmp(version, MF4_VERSION) == 0);
+}
+
+typedef struct named_id {
+    const char *bytes;
+    uint32_t id;
+} named_id;
+
+static const named_id named_ids[] = {
+    { "##HD", MF4_ID_HD }, { "##DG", MF4_ID_DG }, { "##CG", MF4_ID_CG }, { "##CN", MF4_ID_CN }, { "##TX", MF4_ID_TX },
+    { "##MD", MF4_ID_MD }, { "##DL", MF4_ID_DL }, { "##DT", MF4_ID_DT }, { "##SD", MF4_ID_SD },
+};
+
+/* An id's name is what reading a header with those four bytes gives. */
+static void check_ids(void)
+{
+    uint8_t bytes[MF4_HEADER_SIZE] = { 0 };
+    size_t i;
+    for (i = 0; i < COUNT(named_ids); i++) {
+        lent input;
+        name_row("block ids", i);
+        memcpy(bytes, named_ids[i].bytes, 4);
+        input = lend_copy(INPUT, bytes, sizeof bytes);
+        CHECK(mf4_read_header(input.bytes, input.length).header.id == named_ids[i].id);
+    }
+}
+
+static void check_numbers(void)
+{
+    name_case("numbers of a value");
+    CHECK(mf4_signed_of(0) == 0 && mf4_signed_of(MOST) == -1);
+    CHECK(mf4_signed_of(UINT64_C(0x7FFFFFFFFFFFFFFF)) == INT64_MAX);
+    CHECK(mf4_signed_of(UINT64_C(0x8000000000000000)) == INT64_MIN);
+    CHECK(mf4_double_of(UINT64_C(0x3FF0000000000000)) == 1.0);
+    CHECK(mf4_double_of(UINT64_C(0xC340000000000002)) == -9007199254740996.0);
+    CHECK(mf4_double_of(NAN_BITS) != mf4_double_of(NAN_BITS));
+}
+
+static void check_text_room(void)
+{
+    name_case("room for a text");
+    CHECK(mf4_text_room(0) == 17 && mf4_text_room(8) == 17 && mf4_text_room(9) == 18 && mf4_text_room(1000) == 2000);
+    CHECK(mf4_text_room(SIZE_MAX / 2) == SIZE_MAX - 1);
+    CHECK(mf4_text_room(SIZE_MAX / 2 + 1) == SIZE_MAX && mf4_text_room(SIZE_MAX) == SIZE_MAX);
+}
+
+static void check_reply_of_helpers(void)
+{
+    name_case("the helpers' own reply");
+    CHECK(MF4_NO_TEXT_TYPE == 256 && strcmp(mf4_reply_text(MF4_NO_TEXT_TYPE), mf4_reply_text(17)) != 0);
+}
+
+void check_helpers(void)
+{
+    check_version();
+    check_ids();
+    check_numbers();
+    check_text_room();
+    check_reply_of_helpers();
+}

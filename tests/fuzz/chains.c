@@ -1,0 +1,135 @@
+/* The joined data's length, records and values through a chain of data lists. */
+#include "files.h"
+
+#include <string.h>
+
+#define CHAIN_REPLIES (REPLY(0) | REPLY(2) | REPLY(3) | REPLY(4) | REPLY(8) | REPLY(9) | REPLY(10) | REPLY(11) | REPLY(12) \
+                       | REPLY(13))
+#define RECORD_REPLIES (CHAIN_REPLIES | REPLY(15) | REPLY(16))
+
+typedef struct query {
+    lent file;
+    uint64_t start, number, record_size;
+    size_t buffer_length;
+    reading how;
+} query;
+
+static int is_bad_size(query asked)
+{
+    return asked.record_size == 0 || asked.record_size > MF4_MAX_RECORD_SIZE || asked.buffer_length < asked.record_size;
+}
+
+static mf4_length exercise_length(const log_file *log, query asked)
+{
+    mf4_length answer = mf4_data_length(asked.file.bytes, asked.file.length, asked.start);
+    mf4_length again = mf4_data_length(asked.file.bytes, asked.file.length, asked.start);
+    check_reply(DATA_LENGTH, answer.reply, answer.told, CHAIN_REPLIES);
+    MUST(answer.reply == again.reply && answer.told == again.told && answer.length == again.length);
+    MUST(answer.reply == MF4_ANSWER || answer.length == 0);
+    MUST(!log->is_whole || (answer.reply == MF4_ANSWER && answer.length == log->joined_length));
+    MUST(is_unchanged(asked.file));
+    return answer;
+}
+
+/* A record is there exactly where the joined data's length says so, and a chain that is refused is refused alike. */
+static void check_against_length(query asked, mf4_length length, mf4_fetched answer)
+{
+    if (is_bad_size(asked))
+        MUST(answer.reply == MF4_BAD_RECORD_SIZE);
+    else if (length.reply != MF4_ANSWER)
+        MUST(answer.reply == length.reply && answer.told == length.told);
+    else if (asked.number < length.length / asked.record_size)
+        MUST(answer.reply == MF4_ANSWER);
+    else
+        MUST(answer.reply == MF4_NO_SUCH_RECORD);
+}
+
+static mf4_fetched read_record(query asked, size_t file_length, lent buffer)
+{
+    return mf4_read_record(asked.file.bytes, file_length, asked.start, asked.number, asked.record_size, buffer.bytes,
+                           buffer.length);
+}
+
+static mf4_valid_value record_value(query asked, size_t file_length, lent buffer)
+{
+    return mf4_record_value(asked.file.bytes, file_length, asked.start, asked.number, asked.record_size, asked.how.id_size,
+                            asked.how.data_bytes, asked.how.channel, buffer.bytes, buffer.length);
+}
+
+static mf4_fetched exercise_record(const log_file *log, query asked, mf4_length length, lent buffer)
+{
+    mf4_fetched answer = read_record(asked, asked.file.length, buffer), again;
+    check_reply(READ_RECORD, answer.reply, answer.told, RECORD_REPLIES);
+    check_against_length(asked, length, answer);
+    MUST(is_unchanged_from(buffer, answer.reply == MF4_ANSWER ? (size_t)asked.record_size : 0));
+    MUST(is_unchanged(asked.file));
+    if (log->is_whole && answer.reply == MF4_ANSWER)
+        MUST(same_bytes(buffer.bytes, log->joined + asked.number * asked.record_size, (size_t)asked.record_size));
+    again = read_record(asked, asked.file.length, buffer);
+    MUST(again.reply == answer.reply && again.told == answer.told);
+    return answer;
+}
+
+/* One call for record and value is the two calls one after the other, and leaves the same bytes. */
+static void exercise_record_value(query asked, mf4_fetched fetched, lent record)
+{
+    lent buffer = lend_marked(TWIN_OUTPUT, asked.buffer_length);
+    mf4_valid_value answer = record_value(asked, asked.file.length, buffer), expected;
+    memset(&expected, 0, sizeof expected);
+    check_reply(RECORD_VALUE, answer.reply, answer.told, RECORD_REPLIES | REPLY(1));
+    note(RECORD_VALUE, 20 + answer.kind);
+    if (fetched.reply == MF4_ANSWER)
+        expected = mf4_decode_valid_value(record.bytes, (size_t)asked.record_size, asked.how.id_size, asked.how.data_bytes,
+                                          asked.how.channel);
+    else
+        expected.reply = fetched.reply, expected.told = fetched.told;
+    MUST(same_valid_value(answer, expected));
+    MUST(same_bytes(buffer.bytes, record.bytes, buffer.length));
+    MUST(same_valid_value(answer, record_value(asked, asked.file.length, buffer)));
+    MUST(is_unchanged(asked.file));
+}
+
+/* A length over 2^40 is refused before the file is touched, so a short file may be called that long. */
+static void exercise_long_file(query asked, lent buffer)
+{
+    size_t claimed = (size_t)MF4_MAX_FILE_SIZE + 1 + (size_t)choose_raw(2);
+    uint32_t expected = is_bad_size(asked) ? MF4_BAD_RECORD_SIZE : MF4_FILE_TOO_LONG;
+    mf4_length length = mf4_data_length(asked.file.bytes, claimed, asked.start);
+    mf4_fetched fetched = read_record(asked, claimed, buffer);
+    mf4_valid_value value = record_value(asked, claimed, buffer);
+    MUST(length.reply == MF4_FILE_TOO_LONG && length.told == 0 && length.length == 0);
+    MUST(fetched.reply == expected && fetched.told == 0);
+    MUST(value.reply == expected && value.told == 0);
+    MUST(is_unchanged(buffer));
+}
+
+static size_t choose_buffer_length(uint64_t record_size)
+{
+    size_t wanted = record_size <= MF4_MAX_RECORD_SIZE + 16 ? (size_t)record_size : 16;
+    uint8_t how = choose_byte() % 8;
+    return how == 7 ? choose_size(64) : wanted + how % 3;
+}
+
+static query choose_query(const log_file *log, reading how)
+{
+    query asked;
+    asked.file = lend_copy(INPUT, log->bytes, log->length);
+    asked.start = log->start;
+    asked.how = how;
+    asked.record_size = choose_byte() % 8 == 7 ? choose_number() : 1u + choose_byte() % 12;
+    asked.number = choose_number();
+    if (asked.number < 0xE0)
+        asked.number %= 24;
+    asked.buffer_length = choose_buffer_length(asked.record_size);
+    return asked;
+}
+
+void exercise_chain(const log_file *log, reading how)
+{
+    query asked = choose_query(log, how);
+    lent buffer = lend_marked(OUTPUT, asked.buffer_length);
+    mf4_length length;
+    exercise_long_file(asked, buffer);
+    length = exercise_length(log, asked);
+    exercise_record_value(asked, exercise_record(log, asked, length, buffer), buffer);
+}

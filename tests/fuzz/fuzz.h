@@ -1,0 +1,54 @@
+/* What the parts of the fuzz target share: claims, answers counted as coverage, choices, and the parts themselves. */
+#ifndef FUZZ_H
+#define FUZZ_H
+
+#include "guarded.h"
+#include "mf4.h"
+
+#define NAN_BITS UINT64_C(0x7FF8000000000000)
+
+void fail(const char *claim, const char *file, int line);
+#define MUST(claim) ((claim) ? (void)0 : fail(#claim, __FILE__, __LINE__))
+
+enum call {
+    READ_HEADER, WRITE_HEADER, READ_LIST, WRITE_EQUAL, WRITE_VARIABLE, DECODE, VALIDITY, DECODE_VALID, DECODE_DOUBLE,
+    TEXT_LATIN1, TEXT_UTF8, TEXT_UTF16_LE, TEXT_UTF16_BE, DATA_LENGTH, READ_RECORD, RECORD_VALUE, CALLS
+};
+
+/* Counts what a call answered, so that an input with a new answer is kept. */
+void note(enum call call, unsigned what);
+
+#define REPLY(number) (1u << (number))
+
+/* The reply is one of those allowed, and tells something only where it may. */
+void check_reply(enum call call, uint32_t reply, uint64_t told, uint32_t allowed);
+
+/* Choices. An input that has run out goes on with zeros. */
+void start_choices(const uint8_t *data, size_t size);
+uint8_t choose_byte(void);
+uint64_t choose_raw(int size);
+
+/* Mostly small, at times a limit, at times anything. */
+uint64_t choose_number(void);
+size_t choose_size(size_t most);
+
+/* How a channel is read in a record: its description, and the sizes beside it. */
+typedef struct reading {
+    uint64_t id_size;
+    uint32_t data_bytes;
+    mf4_channel channel;
+} reading;
+
+reading choose_reading(void);
+
+int same_valid_value(mf4_valid_value a, mf4_valid_value b);
+
+void exercise_types(uint8_t code);
+void exercise_header(lent input);
+void exercise_list(lent input);
+void exercise_writer(int equal);
+void exercise_value(lent record, reading how);
+void exercise_texts(lent input);
+lent choose_text(void);
+
+#endif

@@ -1,0 +1,205 @@
+/* Values, validity and doubles of channels. */
+#include "fuzz.h"
+
+#include <string.h>
+
+/* Mostly of a width that has a value, and often of a float's. */
+static uint32_t choose_bit_count(void)
+{
+    switch (choose_byte() % 4) {
+    case 0: return 32;
+    case 1: return 64;
+    case 2: return choose_byte() % 66u;
+    default: return (uint32_t)choose_number();
+    }
+}
+
+static mf4_channel choose_channel(void)
+{
+    mf4_channel channel;
+    uint8_t type = choose_byte();
+    channel.data_type = type < 0xF0 ? type % 18 : choose_byte();
+    channel.channel_type = choose_byte() % 3;
+    channel.bit_offset = choose_byte() % 10;
+    channel.byte_offset = (uint32_t)choose_number();
+    channel.bit_count = choose_bit_count();
+    channel.flags = choose_byte() % 5;
+    channel.pos_invalidation_bit = (uint32_t)choose_number();
+    channel.data = choose_byte() % 2;
+    return channel;
+}
+
+reading choose_reading(void)
+{
+    reading how;
+    how.id_size = choose_number();
+    if (how.id_size < 0xE0)
+        how.id_size %= 9;
+    how.data_bytes = (uint32_t)choose_number();
+    how.channel = choose_channel();
+    return how;
+}
+
+static int is_payload(mf4_channel channel)
+{
+    return channel.channel_type == MF4_CHANNEL_VARIABLE_LENGTH && channel.data != 0;
+}
+
+static int is_integer(mf4_channel channel) { return channel.data_type <= MF4_SIGNED_BE; }
+static int is_number(mf4_channel channel) { return channel.data_type <= MF4_FLOAT_BE; }
+
+/* The field bit by bit, lowest first: slow, and told quite otherwise than by words and shifts. */
+static uint64_t field_of(const uint8_t *span, size_t span_length, mf4_channel channel)
+{
+    uint64_t field = 0;
+    unsigned i;
+    for (i = 0; i < channel.bit_count; i++) {
+        size_t bit = channel.bit_offset + i, byte = bit / 8;
+        uint8_t whole = channel.data_type % 2 == 0 ? span[byte] : span[span_length - 1 - byte];
+        field |= (uint64_t)(whole >> bit % 8 & 1) << i;
+    }
+    return field;
+}
+
+static uint64_t bits_of(double number)
+{
+    uint64_t bits;
+    memcpy(&bits, &number, 8);
+    return number != number ? NAN_BITS : bits;
+}
+
+static uint64_t widened(uint32_t bits)
+{
+    float single;
+    memcpy(&single, &bits, 4);
+    return bits_of((double)single);
+}
+
+static uint64_t sign_extended(uint64_t field, unsigned bit_count)
+{
+    uint64_t sign = (uint64_t)1 << (bit_count - 1);
+    return (field ^ sign) - sign;
+}
+
+static void check_number(mf4_value value, uint64_t field, mf4_channel channel)
+{
+    if (channel.data_type <= MF4_UNSIGNED_BE)
+        MUST(value.kind == MF4_KIND_UNSIGNED && value.number == field);
+    else if (channel.data_type <= MF4_SIGNED_BE)
+        MUST(value.kind == MF4_KIND_SIGNED && value.number == sign_extended(field, channel.bit_count));
+    else
+        MUST(value.kind == MF4_KIND_DOUBLE && value.number == (channel.bit_count == 32 ? widened((uint32_t)field) : field));
+    MUST(value.at == 0 && value.length == 0);
+}
+
+/* Is the number's field inside the record, and of a shape that has a value? Written without a sum that could wrap. */
+static int number_has_value(lent record, uint64_t id_size, mf4_channel channel, uint64_t *place, uint64_t *span)
+{
+    *place = 0;
+    *span = ((uint64_t)channel.bit_offset + channel.bit_count + 7) / 8;
+    if (channel.bit_count == 0 || channel.bit_offset > 7)
+        return 0;
+    if (is_integer(channel) ? channel.bit_count > 64 : channel.bit_count != 32 && channel.bit_count != 64)
+        return 0;
+    if (!is_payload(channel)) {
+        if (id_size > record.length || channel.byte_offset > record.length - id_size)
+            return 0;
+        *place = id_size + channel.byte_offset;
+    }
+    return *span <= record.length - *place;
+}
+
+static void check_number_field(lent record, reading how, mf4_value answer)
+{
+    uint64_t place, span;
+    int has_value = number_has_value(record, how.id_size, how.channel, &place, &span);
+    MUST((answer.reply == MF4_ANSWER) == has_value);
+    if (has_value)
+        check_number(answer, field_of(record.bytes + place, (size_t)span, how.channel), how.channel);
+}
+
+static void check_value(lent record, reading how, mf4_value answer)
+{
+    check_reply(DECODE, answer.reply, answer.told, REPLY(0) | REPLY(1));
+    note(DECODE, 20 + answer.kind);
+    if (is_number(how.channel))
+        check_number_field(record, how, answer);
+    else
+        MUST(answer.number == 0);
+    if (answer.reply != MF4_ANSWER) {
+        MUST(answer.kind == MF4_KIND_NOTHING && answer.number == 0 && answer.at == 0 && answer.length == 0);
+        return;
+    }
+    MUST(answer.kind >= MF4_KIND_UNSIGNED && answer.kind <= MF4_KIND_UNKNOWN);
+    MUST(answer.at <= record.length && answer.length <= record.length - answer.at);
+    if (answer.kind == MF4_KIND_TEXT && how.channel.data_type <= MF4_UTF8 && answer.length > 0)
+        MUST(memchr(record.bytes + answer.at, 0, (size_t)answer.length) == NULL);
+}
+
+static uint64_t expected_double(mf4_value answer, mf4_channel channel)
+{
+    if (is_payload(channel))
+        return NAN_BITS;
+    switch (answer.kind) {
+    case MF4_KIND_UNSIGNED: return bits_of((double)answer.number);
+    case MF4_KIND_SIGNED: return bits_of((double)mf4_signed_of(answer.number));
+    case MF4_KIND_DOUBLE: return answer.number;
+    default: return NAN_BITS;
+    }
+}
+
+static void check_double(uint64_t bits, mf4_value answer, mf4_channel channel)
+{
+    int is_nan = (bits & ~((uint64_t)1 << 63)) > (uint64_t)0x7FF << 52;
+    note(DECODE_DOUBLE, (unsigned)(bits >> 52) % 64);
+    MUST(bits == expected_double(answer, channel));
+    MUST(bits_of(mf4_double_of(bits)) == (is_nan ? NAN_BITS : bits));
+}
+
+static int same_value(mf4_value a, mf4_value b)
+{
+    return a.reply == b.reply && a.told == b.told && a.kind == b.kind && a.number == b.number && a.at == b.at
+        && a.length == b.length;
+}
+
+static mf4_value value_in(mf4_valid_value a)
+{
+    mf4_value value = { a.reply, a.kind, a.told, a.number, a.at, a.length };
+    return value;
+}
+
+int same_valid_value(mf4_valid_value a, mf4_valid_value b)
+{
+    return same_value(value_in(a), value_in(b)) && a.is_valid == b.is_valid;
+}
+
+static uint8_t exercise_validity(lent record, reading how)
+{
+    uint8_t is_valid = mf4_check_validity(record.bytes, record.length, how.id_size, how.data_bytes, how.channel);
+    note(VALIDITY, is_valid + 2u * (how.channel.flags % 4));
+    MUST(is_valid <= 1);
+    MUST(is_valid == mf4_check_validity(record.bytes, record.length, how.id_size, how.data_bytes, how.channel));
+    return is_valid;
+}
+
+static void exercise_both(lent record, reading how, mf4_value value, uint8_t is_valid)
+{
+    mf4_valid_value both = mf4_decode_valid_value(record.bytes, record.length, how.id_size, how.data_bytes, how.channel);
+    check_reply(DECODE_VALID, both.reply, both.told, REPLY(0) | REPLY(1));
+    MUST(same_value(value_in(both), value));
+    MUST(both.is_valid == (both.reply == MF4_ANSWER ? is_valid : 0));
+    MUST(same_valid_value(both, mf4_decode_valid_value(record.bytes, record.length, how.id_size, how.data_bytes,
+                                                       how.channel)));
+}
+
+void exercise_value(lent record, reading how)
+{
+    mf4_value value = mf4_decode_value(record.bytes, record.length, how.id_size, how.channel);
+    uint64_t bits = mf4_decode_double(record.bytes, record.length, how.id_size, how.channel);
+    check_value(record, how, value);
+    MUST(same_value(value, mf4_decode_value(record.bytes, record.length, how.id_size, how.channel)));
+    exercise_both(record, how, value, exercise_validity(record, how));
+    check_double(bits, value, how.channel);
+    MUST(bits == mf4_decode_double(record.bytes, record.length, how.id_size, how.channel));
+    MUST(is_unchanged(record));
+}

@@ -1,0 +1,66 @@
+"""Compares mf4.h with the library's source, and both with the theorems that pin the order of fields and arguments.
+
+    compare.py BUILD_DIR [COMPILER]    from the repository's root
+
+The structs and calls of the source, in the words of C, must be those of the header, one by one: fields and arguments by
+name, type and order; sizes and offsets as a C compiler lays them out. Each struct NAME must have its theorem NAME-fields
+and each call NAME its theorem NAME-arguments, with the fields and arguments in that order. Exit status: 0 if all agree, 1 if
+not.
+"""
+
+import sys
+
+import theorems
+from header import Header
+from source import Source, Unreadable
+
+SOURCE, INCLUDE, HEADER, THEOREMS = "crates/mf4/src", "include", "include/mf4.h", "crates/mf4/proofs/Border.antt"
+
+
+def one_by_one(what, in_source, where, there):
+    """The differences of the source's dictionary and another's, in words."""
+    for name in sorted(in_source.keys() | there.keys()):
+        if name not in there:
+            yield f"{what} {name} follows from the source and is not in {where}"
+        elif name not in in_source:
+            yield f"{what} {name} is in {where} and does not follow from the source"
+        elif in_source[name] != there[name]:
+            yield f"{what} {name}\n    by the source: {in_source[name]}\n    in {where}: {there[name]}"
+
+
+def declarations(structs):
+    return {name: "; ".join(f"{kind} {field}" for field, kind in fields) for name, fields in structs.items()}
+
+
+def expected_layout(source):
+    """What the header's measuring program finds if the compiler lays the structs out as the source has them."""
+    layout = {}
+    for struct in source.structs:
+        places, size = source.layout(struct)
+        layout[struct] = f"size {size}"
+        layout.update((f"{struct}.{name}", f"offset {at} size {length}") for name, at, length in places)
+    return layout
+
+
+def differences(compiler, build):
+    source, header = Source(SOURCE), Header(HEADER)
+    yield from one_by_one("struct", declarations(source.structs), HEADER, declarations(header.structs))
+    yield from one_by_one("the layout of", expected_layout(source), HEADER, header.measured(compiler, INCLUDE, build))
+    yield from one_by_one("call", source.calls, HEADER, header.calls)
+    yield from one_by_one("theorem", theorems.expected(source), THEOREMS, theorems.stated(THEOREMS))
+    print(f"header: {len(header.structs)} structs and {len(header.calls)} calls compared with the source and the theorems")
+
+
+def main():
+    build, compiler = sys.argv[1], sys.argv[2] if len(sys.argv) > 2 else "gcc"
+    try:
+        found = list(differences(compiler, build))
+    except Unreadable as unreadable:
+        found = [unreadable]
+    for difference in found:
+        print(f"header: FAILED: {difference}")
+    return 1 if found else 0
+
+
+if __name__ == "__main__":
+    sys.exit(main())

@@ -1,0 +1,46 @@
+"""The structs and prototypes of mf4.h, and what a C compiler makes of the structs."""
+
+import re
+import subprocess
+from pathlib import Path
+
+STRUCT = re.compile(r"typedef struct (\w+) \{([^}]*)\} \1;")
+INLINE = re.compile(r"static inline [^{]*\{.*?\n\}\n", re.S)
+PROTOTYPE = re.compile(r"^([\w ]+ \*?(\w+)\([^)]*\));", re.M)
+
+
+def spaced(text):
+    return " ".join(text.split())
+
+
+class Header:
+    """structs: for each its fields as (name, type). calls: for each its prototype."""
+
+    def __init__(self, path):
+        text = re.sub(r"/\*.*?\*/", "", Path(path).read_text(encoding="utf-8"), flags=re.S)
+        self.structs = {name: self.fields(body) for name, body in STRUCT.findall(text)}
+        self.calls = {name: spaced(prototype) for prototype, name in PROTOTYPE.findall(INLINE.sub("", text))}
+
+    @staticmethod
+    def fields(body):
+        declarations = [declaration.split() for declaration in body.split(";") if declaration.strip()]
+        return [(name, kind) for kind, name in declarations]
+
+    def measuring_program(self):
+        """Prints a line for each struct and each of its fields: its name, then its place and size."""
+        lines = ['#include <stdio.h>', '#include "mf4.h"', "int main(void)", "{"]
+        for struct, fields in self.structs.items():
+            lines.append(f'    printf("{struct}=size %zu\\n", sizeof({struct}));')
+            for name, _ in fields:
+                measures = f"offsetof({struct}, {name}), sizeof((({struct} *)0)->{name})"
+                lines.append(f'    printf("{struct}.{name}=offset %zu size %zu\\n", {measures});')
+        return "\n".join(lines + ["    return 0;", "}", ""])
+
+    def measured(self, compiler, include, build):
+        """What the compiler makes of the structs, by name."""
+        program = Path(build) / "header_measured"
+        code = program.with_suffix(".c")
+        code.write_text(self.measuring_program(), encoding="utf-8")
+        subprocess.run([compiler, "-std=c99", "-Wall", "-Wextra", f"-I{include}", "-o", program, code], check=True)
+        printed = subprocess.run([program], check=True, capture_output=True, text=True).stdout
+        return dict(line.split("=") for line in printed.splitlines())

@@ -1,0 +1,83 @@
+"""The structs and calls for C of the library's own source, in the words of C."""
+
+import re
+from pathlib import Path
+
+NUMBERS = {"u8": "uint8_t", "u32": "uint32_t", "u64": "uint64_t", "i64": "int64_t"}
+SIZES = {"uint8_t": 1, "uint32_t": 4, "uint64_t": 8, "int64_t": 8}
+
+STRUCT = re.compile(r"#\[repr\(C\)\]\s*pub struct (\w+) \{(.*?)\}", re.S)
+CALL = re.compile(r'#\[no_mangle\]\s*pub extern "C" fn (\w+)\((.*?)\) -> (\w+)', re.S)
+MARKED = re.compile(r"#\[(?:repr\(C\)|no_mangle)\]")
+
+
+class Unreadable(Exception):
+    pass
+
+
+def snake(name):
+    return re.sub(r"(?<!^)(?=[A-Z])", "_", name).lower()
+
+
+def c_type(name):
+    if name in NUMBERS:
+        return NUMBERS[name]
+    if name.startswith("Mf4"):
+        return snake(name)
+    raise Unreadable(f"no type of C is known for {name}")
+
+
+def c_arguments(name, kind):
+    """A slice is a pointer and a count."""
+    slice_of = re.fullmatch(r"&(mut )?\[(\w+)\]", kind)
+    if not slice_of:
+        return [f"{c_type(kind)} {name}"]
+    constness = "" if slice_of[1] else "const "
+    return [f"{constness}{c_type(slice_of[2])} *{name}", f"size_t {name}_len"]
+
+
+def named(text):
+    """The (name, type) pairs of a struct's body or of an argument list."""
+    pairs = [part.strip().removeprefix("pub ") for part in text.split(",") if part.strip()]
+    return [tuple(word.strip() for word in pair.split(":")) for pair in pairs]
+
+
+class Source:
+    """structs: for each its fields as (name, type). calls: for each its prototype; arguments: their names in the source."""
+
+    def __init__(self, folder):
+        self.structs, self.calls, self.arguments = {}, {}, {}
+        for path in sorted(Path(folder).glob("**/*.rt")):
+            text = re.sub(r"//[^\n]*", "", path.read_text(encoding="utf-8"))
+            structs, calls = STRUCT.findall(text), CALL.findall(text)
+            if len(MARKED.findall(text)) != len(structs) + len(calls):
+                raise Unreadable(f"{path}: a struct or a call is written in another way than this test knows")
+            self.structs.update((snake(name), self.fields(body)) for name, body in structs)
+            self.calls.update((name, self.prototype(name, given, answer)) for name, given, answer in calls)
+            self.arguments.update((name, [argument for argument, _ in named(given)]) for name, given, _ in calls)
+
+    @staticmethod
+    def fields(body):
+        return [(name, c_type(kind)) for name, kind in named(body)]
+
+    @staticmethod
+    def prototype(name, given, answer):
+        arguments = [argument for pair in named(given) for argument in c_arguments(*pair)]
+        return f"{c_type(answer)} {name}({', '.join(arguments)})"
+
+    def alignment(self, kind):
+        return SIZES.get(kind) or max(self.alignment(field) for _, field in self.structs[kind])
+
+    def layout(self, struct):
+        """The (name, offset, size) of each field, and the struct's own size: each stands at a multiple of its alignment."""
+        places, end = [], 0
+        for name, kind in self.structs[struct]:
+            at = round_up(end, self.alignment(kind))
+            size = SIZES.get(kind) or self.layout(kind)[1]
+            places.append((name, at, size))
+            end = at + size
+        return places, round_up(end, self.alignment(struct))
+
+
+def round_up(number, step):
+    return (number + step - 1) // step * step

@@ -1,0 +1,46 @@
+"""The theorems that pin the border with C: the fields of each struct in their order, and each call's arguments in theirs."""
+
+import re
+from pathlib import Path
+
+THEOREM = re.compile(r"^pub ([\w-]+-(?:fields|arguments)) : (.*?)\n\1 ", re.M | re.S)
+FIELDS = re.compile(r"\(s : \w+\) → ([\w-]+)\.struct \.as-values s ≡ (.*)")
+ARGUMENTS = re.compile(r".* → Allows \d+ ([\w-]+)-kinds\.ps \1-kinds\.r \1\.Learnt κs (.*) y \(.*\) ≡ \(.*\)")
+
+# A word of the proof language cannot name an argument there.
+NAMED_OTHERWISE = {"record": "bytes"}
+
+
+def kebab(name):
+    return name.replace("_", "-")
+
+
+def nested(names):
+    """The tuple of a theorem: (a, (b, tt))."""
+    tuple_of = "tt"
+    for name in reversed(list(names)):
+        tuple_of = f"({name}, {tuple_of})"
+    return tuple_of
+
+
+def camel(name):
+    return re.sub(r"_(\w)", lambda letter: letter[1].upper(), NAMED_OTHERWISE.get(name, name))
+
+
+def expected(source):
+    """For each theorem what it is about, a struct or a call, and the order that it pins."""
+    fields = {f"{kebab(name)}-fields": f"{kebab(name)} {nested([field for field, _ in fields])}"
+              for name, fields in source.structs.items()}
+    arguments = {f"{kebab(name)}-arguments": f"{kebab(name)} {nested(map(camel, names))}"
+                 for name, names in source.arguments.items()}
+    return fields | arguments
+
+
+def stated(path):
+    """The same of the theorem file. A theorem in a form that is not known here is told as it stands."""
+    theorems = {}
+    for name, statement in THEOREM.findall(Path(path).read_text(encoding="utf-8")):
+        statement = " ".join(statement.split())
+        found = (FIELDS if name.endswith("-fields") else ARGUMENTS).fullmatch(statement)
+        theorems[name] = re.sub(r"s \.«?(\w+)»?", r"\1", f"{found[1]} {found[2]}") if found else statement
+    return theorems
