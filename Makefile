@@ -42,7 +42,7 @@ build/libmf4.a: $(SOURCES)
 	@mkdir -p build
 	@echo "proving the library and building it; build/archive.log has all that is said"
 	@{ rt staticlib mf4 2>&1; echo $$? >build/archive.status; } | tee build/archive.log \
-	    | sed -n 's/^rt: target.*/rt: mf4 proved and built/; s/^rt: /  /p'
+	    | sed -un 's/^rt: target.*/rt: mf4 proved and built/; s/^rt: /  /p'
 	@[ "$$(cat build/archive.status)" = 0 ] || { grep -m 1 ': error: ' build/archive.log >&2; echo "not built" >&2; exit 1; }
 	@cp target/staticlib/libmf4.a $@
 

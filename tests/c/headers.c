@@ -22,7 +22,7 @@ static int header_refused(mf4_header a, uint32_t reply, uint64_t told)
     return a.reply == reply && a.told == told && is_header(a.header, 0, 0, 0, 0);
 }
 
-static void check_reading(void)
+static void check_read_header(void)
 {
     mf4_header answer;
     lent input;
@@ -41,7 +41,7 @@ static void check_reading(void)
     CHECK(answer.reply == 0 && is_header(answer.header, 0x8000FEFF, 0, 0, 0));
 }
 
-static void check_writing(void)
+static void check_write_header(void)
 {
     const mf4_block_header header = { MF4_ID_DT, 0x01020304, UINT64_C(0x1122334455667788), UINT64_MAX };
     lent out;
@@ -77,8 +77,8 @@ static void check_reply_texts(void)
 
 void check_headers(void)
 {
-    check_reading();
-    check_writing();
+    check_read_header();
+    check_write_header();
     check_types();
     check_reply_texts();
 }

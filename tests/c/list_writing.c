@@ -22,7 +22,7 @@ static mf4_written write_variable(lent out, const uint64_t *links, size_t count,
                                    out.length);
 }
 
-static void check_two_links(void)
+static void check_write_two_links(void)
 {
     static const uint64_t links[] = { 0x50, 0x60 }, offsets[] = { 0, 10, 20 };
     lent out;
@@ -48,7 +48,7 @@ static void check_two_links(void)
     CHECK(write_refused(write_variable(no_bytes(), links, 2, offsets, 3), 5, 0));
 }
 
-static void check_no_links(void)
+static void check_write_no_links(void)
 {
     lent out;
     name_case("write a list of no data links");
@@ -73,7 +73,7 @@ static uint64_t little_at(const uint8_t *place)
     return number;
 }
 
-static void check_most_links(void)
+static void check_write_most_links(void)
 {
     static uint64_t numbers[4097];
     lent out;
@@ -102,7 +102,7 @@ static void check_most_links(void)
 
 void check_list_writing(void)
 {
-    check_two_links();
-    check_no_links();
-    check_most_links();
+    check_write_two_links();
+    check_write_no_links();
+    check_write_most_links();
 }

@@ -27,7 +27,7 @@ static mf4_list read_first(const char *text, size_t count)
     return mf4_read_list(input.bytes, input.length);
 }
 
-static void check_one_link(void)
+static void check_list_of_one_link(void)
 {
     mf4_list answer;
     name_case("read a list of one link");
@@ -45,7 +45,7 @@ static void check_one_link(void)
     CHECK(list_is(read_list(DL ZERO8 LINKS_NR("01") ZERO8 "FF 00 00 00 07 00 00 00 " ZERO8), 0, 0xFF, 7, 40, 1));
 }
 
-static void check_order(void)
+static void check_list_order(void)
 {
     name_case("read a list: the order of refusals");
     CHECK(list_refused(mf4_read_list(NULL, 0), 2, 24));
@@ -57,7 +57,7 @@ static void check_order(void)
 }
 
 /* The largest needed size that fits is 32 + 8 * (2^61 - 5) = 2^64 - 8; one link more needs 2^64, told as 2^64 - 1. */
-static void check_needs(void)
+static void check_list_needs(void)
 {
     name_case("read a list: told sizes");
     CHECK(list_refused(read_list(DL ZERO8 "FF FF FF FF FF FF FF FF " ZERO8 ZERO8), 2, MOST));
@@ -69,7 +69,7 @@ static void check_needs(void)
     CHECK(list_refused(read_first(DL ZERO8 LINKS_NR("02") ZERO8 ZERO8 "00 00 00 00 01 00 00 00 " ZERO8, 55), 2, 56));
 }
 
-static void check_two_data_links(void)
+static void check_lists_of_two_data_links(void)
 {
     name_case("read a list of two data links");
     CHECK(list_is(read_first(TWO_EQUAL, 64), 2, 1, 2, 56, 1));
@@ -85,8 +85,8 @@ static void check_two_data_links(void)
 
 void check_lists(void)
 {
-    check_one_link();
-    check_order();
-    check_needs();
-    check_two_data_links();
+    check_list_of_one_link();
+    check_list_order();
+    check_list_needs();
+    check_lists_of_two_data_links();
 }

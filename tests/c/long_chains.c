@@ -12,7 +12,7 @@ static void make_row_of_lists(size_t count)
     }
 }
 
-static void check_lists_in_a_row(void)
+static void check_many_lists(void)
 {
     name_case("256 and 257 lists");
     make_row_of_lists(MF4_MAX_LISTS);
@@ -55,7 +55,7 @@ static void add_narrow_list(size_t block)
     put(at + 32, block, 8), put(at + 40, MF4_LIST_EQUAL_LENGTH, 1), put(at + 44, 1, 4), put(at + 48, 2, 8);
 }
 
-static void check_fragments_of_one_list(void)
+static void check_many_fragments(void)
 {
     name_case("4,096 and 4,097 fragments");
     make_wide_list(MF4_MAX_FRAGMENTS, 2);
@@ -69,7 +69,7 @@ static void check_fragments_of_one_list(void)
     CHECK(refuses(0, 2, 10));  /* and after the list's own block length */
 }
 
-static void check_fragments_of_two_lists(void)
+static void check_many_fragments_of_two_lists(void)
 {
     size_t block;
     name_case("4,096 and 4,097 fragments of two lists");
@@ -96,8 +96,8 @@ static void check_loops(void)
 
 void check_long_chains(void)
 {
-    check_lists_in_a_row();
-    check_fragments_of_one_list();
-    check_fragments_of_two_lists();
+    check_many_lists();
+    check_many_fragments();
+    check_many_fragments_of_two_lists();
     check_loops();
 }

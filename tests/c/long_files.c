@@ -27,7 +27,7 @@ static const long_case long_cases[] = {
     { LONGEST, 0, 11 }, { LONGEST, LONGEST - 23, 11 }, { LONGEST, LONGEST - 24, 3 },
 };
 
-static void check_long_case(const uint8_t *file, long_case a)
+static void check_long_file(const uint8_t *file, long_case a)
 {
     static const mf4_channel byte = FIELD(MF4_UNSIGNED_LE, 0, 0, 8);
     lent buffer = lend_marked(OUTPUT, 8);
@@ -49,7 +49,7 @@ void check_long_files(void)
     }
     for (i = 0; i < COUNT(long_cases); i++) {
         name_row("files of 2^40 bytes and one more", i);
-        check_long_case(file, long_cases[i]);
+        check_long_file(file, long_cases[i]);
     }
     munmap(file, LONGEST + 1);
 }

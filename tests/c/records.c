@@ -91,7 +91,7 @@ static mf4_valid_value record_value(uint64_t number, uint64_t size, uint64_t id_
 }
 
 /* The records of 3 bytes are 01 02 03 and 04 05 06; with 2 data bytes the last byte holds the invalidation bits. */
-static void check_value_answers(void)
+static void check_record_value_answers(void)
 {
     static const expected first = UNSIGNED_IS(0x0201), second = UNSIGNED_IS(0x0504), text = TEXT_STANDS(1, 2);
     mf4_channel channel = FIELD(MF4_UNSIGNED_LE, 0, 0, 16);
@@ -112,7 +112,7 @@ static void check_value_answers(void)
 }
 
 /* The field is refused and the record stays. The marks behind the record are no part of it. */
-static void check_refused_fields(void)
+static void check_record_value_refusals(void)
 {
     const mf4_channel too_far = FIELD(MF4_UNSIGNED_LE, 0, 2, 16), good = FIELD(MF4_UNSIGNED_LE, 0, 0, 8);
     lent buffer;
@@ -148,7 +148,7 @@ void check_records(void)
     check_largest_record();
     check_no_data();
     check_repeated_block();
-    check_value_answers();
-    check_refused_fields();
+    check_record_value_answers();
+    check_record_value_refusals();
     check_refused_records();
 }

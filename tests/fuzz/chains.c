@@ -1,5 +1,5 @@
 /* The joined data's length, records and values through a chain of data lists. */
-#include "files.h"
+#include "log_file.h"
 
 #include <string.h>
 

@@ -9,7 +9,7 @@
  * The address checker does not see an archive that is not instrumented either: where slices stand is a choice, and two of
  * the three places that guarded.h names are beside an unreadable page.
  */
-#include "files.h"
+#include "log_file.h"
 
 #include <stdio.h>
 #include <stdlib.h>

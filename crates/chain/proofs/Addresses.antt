@@ -1,6 +1,6 @@
 -- Ends that are tested without a sum, addresses, and the bytes from an address on.
 use mathlib.Core.Path.{_≡_, refl, sym}
-use mathlib.Core.Bool.{Bool, true, false, not}
+use mathlib.Core.Bool.{Bool, true, false, not, _&&_}
 use mathlib.Core.List.{List}
 use Prim.Native.Nat.{ℕ, _+_, _-_, _≤_, _<_}
 use native.Mathlib.Omega.{arith}
@@ -29,6 +29,15 @@ module _ (at size len : ℕ) where
 
   pub past-by : size ≤ len → ltb (len - size) at ≡ ltb len (at + size)
   past-by l = past-test (ltb (len - size) at) refl l
+
+-- ---- a position between two others
+
+module _ (q first end : ℕ) where
+  pub stands-not : q < first → false ≡ (leb first q && ltb q end)
+  stands-not l = rw (lt-leb _ _ l)
+
+  pub stands-by : first ≤ q → ltb q end ≡ (leb first q && ltb q end)
+  stands-by l = rw (le-leb _ _ l)
 
 -- ---- an address
 

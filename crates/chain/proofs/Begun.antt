@@ -12,10 +12,10 @@ use Rattle.definitions.specs.DataList.{DataList}
 use Rattle.definitions.specs.Chain.{Block, listLimit, joined, fragmentOf, fragments, listAt, lists, chainOf}
 use Rattle.chain.specs.Walk.{ended, listFrom, listsBehind, chainFrom}
 use Rattle.chain.specs.declared.place.Place.{Place}
-use Rattle.chain.specs.Window.{laid, joinedOf}
+use Rattle.chain.specs.Window.{laid}
 use Rattle.definitions.proofs.Replies.{not-answered}
 use Rattle.chain.proofs.Answers.{followed, answered}
-use Rattle.chain.proofs.Laying.{laid-whole, lay-end}
+use Rattle.chain.proofs.Laying.{laid-whole}
 
 -- `all` begins with `before`
 abbrev Begins : List Block → List Block → Type 0
@@ -84,8 +84,7 @@ laid-front d from xs ys h =
 
 pub lay-full : (d : List ℕ) (from : ℕ) (id f : List ℕ) (start : ℕ) (p : Place) (bs all : List Block) (out : List ℕ)
     → chainOf id f start ≡ answer all → chainOf id f start ≡ chainFrom id f p bs
-    → from + length d ≤ length (joined f bs) → out ≡ laid d from 0 (joined f bs) → out ≡ laid d from 0 (joinedOf id f start)
+    → from + length d ≤ length (joined f bs) → out ≡ laid d from 0 (joined f bs) → out ≡ laid d from 0 (joined f all)
 lay-full d from id f start p bs all out e r full so =
     let g = from-begin id f p bs all (sym r ∙ e) in
-    lay-end d from id f start all out e
-    (so ∙ sym (ap (λ (xs : List Block). laid d from 0 (joined f xs)) (g .1) ∙ ap (laid d from 0) (joined-append f bs (g .0)) ∙ laid-front d from (joined f bs) (joined f (g .0)) full))
+    so ∙ sym (ap (λ (xs : List Block). laid d from 0 (joined f xs)) (g .1) ∙ ap (laid d from 0) (joined-append f bs (g .0)) ∙ laid-front d from (joined f bs) (joined f (g .0)) full)

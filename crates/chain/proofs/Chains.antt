@@ -8,22 +8,13 @@ use lib.ListN.{length, drop, length-append}
 use lib.Dec.{eqb}
 use Rattle.definitions.specs.Reply.{Reply, answer, if_then_else_}
 use Rattle.definitions.specs.DataList.{DataList}
-use Rattle.definitions.specs.Chain.{Block, dataLimit, listLimit, fragmentLimit, dataOf, joined, total, fragmentOf, fragments, listAt, lists, chainOf}
+use Rattle.definitions.specs.Chain.{Block, listLimit, fragmentLimit, dataOf, joined, total, fragmentOf, fragments, listAt, lists, chainOf}
 use Rattle.definitions.proofs.Replies.{not-answered}
+use Rattle.chain.specs.Walk.{Inside, Stand}
 use Rattle.words.proofs.Spans.{length-span}
 use Rattle.chain.proofs.Answers.{followed, answered}
 use Rattle.chain.proofs.Lists.{list-stands}
 use Rattle.chain.proofs.Fragments.{Taken, fragment-stands}
-
--- each block lies in the file, with its header
-unfoldable pub Inside : List ℕ → List Block → Type 0
-Inside f [] = Unit {0}
-Inside f (b ∷ bs) = (b .address + 24 + b .size ≤ length f) × Inside f bs
-
-pub record Stand (f : List ℕ) (bs : List Block) : Type 0 where
-  pub inside : Inside f bs
-  pub few : length bs ≤ fragmentLimit
-  pub bounded : total bs ≤ dataLimit
 
 -- ---- one block more
 

@@ -10,11 +10,11 @@ use native.Mathlib.Omega.{arith}
 use native.Mathlib.Nat.{add-zero}
 use lib.ListN.{length, take, drop, length-append, length-take, length-drop, take-append-drop, drop-of-length-le}
 use lib.Seq.{take-all, take-nil, drop-drop, paste, take-append-seam, take-append-le, drop-append-le, take-append-add, drop-append-add}
-use Rattle.definitions.specs.Reply.{answer}
 use Rattle.definitions.specs.Bytes.{span}
-use Rattle.definitions.specs.Chain.{Block, dataOf, joined, total, chainOf}
-use Rattle.chain.specs.Window.{overwritten, laid, joinedOf}
-use Rattle.chain.proofs.Chains.{Inside, joined-length, joined-more}
+use Rattle.definitions.specs.Chain.{Block, dataOf, joined, total}
+use Rattle.chain.specs.Window.{overwritten, laid}
+use Rattle.chain.specs.Walk.{Inside}
+use Rattle.chain.proofs.Chains.{joined-length, joined-more}
 
 split-by : (a b : ℕ) (t : Bool) → leb a b ≡ t → (a ≤ b) ⊎ (b < a)
 split-by a b true e = inl (leb-true a b e)
@@ -51,10 +51,6 @@ overwritten-paste d g c n h e = ⊎-elim
 length-overwritten : (d : List ℕ) (g : ℕ) (c : List ℕ) → length (overwritten d g c) ≡ length d
 unfolding overwritten
 length-overwritten d g c = simp (length-append, length-take, length-drop) (omega arith)
-
-laid-none : (d : List ℕ) (from : ℕ) → laid d from 0 [] ≡ d
-unfolding laid
-laid-none d from = rw (drop-of-length-le {A = ℕ} [] {i = from - 0} (omega arith)) (overwritten-none d (0 - from))
 
 -- b ends before the window
 pub laid-before : (d : List ℕ) (from p : ℕ) (b : List ℕ) → length b ≤ from - p → laid d from p b ≡ d
@@ -152,10 +148,9 @@ laid-part d from p b g k eg ek =
 -- ---- along a chain
 
 module _ (d : List ℕ) (from : ℕ) where
-  -- before the first block
-  pub lay-start : (f : List ℕ) → d ≡ laid d from 0 (joined f [])
-  unfolding joined
-  lay-start f = sym (laid-none d from)
+  -- where no block so far reaches into the window
+  pub lay-start : (f : List ℕ) (bs : List Block) (p : ℕ) → Inside f bs → total bs ≡ p → p ≤ from → d ≡ laid d from 0 (joined f bs)
+  lay-start f bs p h size l = sym (laid-before d from 0 (joined f bs) (omega (arith, joined-length f bs h)))
 
   -- a turn: the data x of one block more
   pub lay-turn : (f : List ℕ) (bs : List Block) (b : Block) (p : ℕ) (x out new : List ℕ) → Inside f bs → total bs ≡ p
@@ -163,15 +158,3 @@ module _ (d : List ℕ) (from : ℕ) where
   lay-turn f bs b p x out new h size so its turn =
       let long : p ≡ length (joined f bs) = sym (joined-length f bs h ∙ size) in
       turn ∙ rw (so, its, long, joined-more f b bs) (laid-more d from (joined f bs) (dataOf f b))
-
-  -- behind the last
-  pub lay-end : (id f : List ℕ) (start : ℕ) (bs : List Block) (out : List ℕ) → chainOf id f start ≡ answer bs
-      → out ≡ laid d from 0 (joined f bs) → out ≡ laid d from 0 (joinedOf id f start)
-  unfolding joinedOf
-  lay-end id f start bs out e h = rw e h
-
-  -- a window inside the joined data of an accepted chain
-  pub window-whole : (id f : List ℕ) (start : ℕ) (bs : List Block) → chainOf id f start ≡ answer bs → from + length d ≤ length (joined f bs)
-      → laid d from 0 (joinedOf id f start) ≡ span (joined f bs) from (length d)
-  unfolding joinedOf
-  window-whole id f start bs e h = rw e (laid-whole d from (joined f bs) h)

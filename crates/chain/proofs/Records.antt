@@ -11,11 +11,11 @@ use lib.Dec.{eqb, leb, ltb}
 use borrow.Author.Tests.{eq-eqb, ne-eqb, lt-ltb, le-ltb, le-leb, lt-leb, ltb-true, ltb-false, eqb-false}
 use Rattle.definitions.specs.Reply.{answer, refusal, if_then_else_}
 use Rattle.definitions.specs.Bytes.{span}
-use Rattle.definitions.specs.Chain.{Block, fileLimit, recordLimit, idDT, joined, chainOf, totalOf, dataLength, badSize, recordOf, fetched}
-use Rattle.chain.specs.Window.{laid, joinedOf}
+use Rattle.definitions.specs.Chain.{Block, fileLimit, dataLimit, recordLimit, idDT, joined, chainOf, totalOf, dataLength, badSize, recordOf, fetched}
+use Rattle.chain.specs.Window.{laid}
 use Rattle.chain.proofs.Answers.{passed, followed, answered, unfollowed}
 use Rattle.chain.proofs.Chains.{joined-length, chain-stands}
-use Rattle.chain.proofs.Laying.{window-whole}
+use Rattle.chain.proofs.Laying.{laid-whole}
 
 -- ---- a record's size
 
@@ -54,6 +54,18 @@ module _ (t k size : ℕ) (z : 0 < size) where
 
   pub ends-is : leb (t / size) k ≡ ltb t (k * size + size)
   ends-is = ends-by (ltb t (k * size + size)) refl
+
+-- ---- a record's first byte
+
+module _ (k size : ℕ) (z : 0 < size) where
+  pub first-past : (n : ℕ) → dataLimit / size < k → k * size ≤ dataLimit → n ≡ k * size
+  first-past n h l =
+      let m : dataLimit < k * size = div-lt-iff-lt-mul {k = size} {x = dataLimit} {y = k} z .0 h in
+      let no : ⊥ = omega arith in
+      absurd no
+
+  pub first-fits : k ≤ dataLimit / size → k * size ≤ dataLimit
+  first-fits h = le-div-iff-mul-le {k = size} {x = k} {y = dataLimit} z .0 h
 
 -- ---- the ways out
 
@@ -95,15 +107,21 @@ module _ (f : List ℕ) (start k size : ℕ) (out : List ℕ) where
       unfolding fetched recordOf
       fetch-behind h = let w = data-whole f start n e in rw (good, w .0, w .2, w .3, h)
 
+      -- where the record begins
+      pub fetch-first : ltb n (k * size + size) ≡ false → k * size ≤ dataLimit
+      fetch-first h =
+          let w = data-whole f start n e in
+          let s = chain-stands idDT f start (w .1) (w .2) in
+          omega (arith, w .3, joined-length f (w .1) (s .inside), s .bounded, ltb-false n (k * size + size) h)
+
       -- the window on the record, in the front of the buffer
-      pub fetch-record : (r : List ℕ) → ltb n (k * size + size) ≡ false → r ≡ laid (take size out) (k * size) 0 (joinedOf idDT f start)
+      pub fetch-record : (r : List ℕ) (from : ℕ) → ltb n (k * size + size) ≡ false → from ≡ k * size → r ≡ laid (take size out) from 0 (joined f (data-whole f start n e .1))
           → record { reply = answer tt; buffer = r ++ drop size out } ≡ fetched f start k size out
       unfolding fetched recordOf
-      fetch-record r h is =
+      fetch-record r from h first is =
           let w = data-whole f start n e in
           let j : List ℕ = joined f (w .1) in
           let m : length (take size out) ≡ size = length-take-le size out (size-good size (length out) good .1) in
-          let inside : k * size + length (take size out) ≤ length j = omega (arith, w .3, ltb-false n (k * size + size) h) in
-          let front : r ≡ span j (k * size) size =
-          is ∙ window-whole (take size out) (k * size) idDT f start (w .1) (w .2) inside ∙ ap (span j (k * size)) m in
+          let inside : from + length (take size out) ≤ length j = omega (arith, w .3, ltb-false n (k * size + size) h) in
+          let front : r ≡ span j (k * size) size = is ∙ laid-whole (take size out) from j inside ∙ ap (span j from) m ∙ ap (λ (x : ℕ). span j x size) first in
           rw (good, w .0, w .2, w .3, h, front)

@@ -7,44 +7,43 @@ use lib.ListN.{length, drop, length-append}
 use borrow.Author.Tests.{lt-ltb, le-ltb}
 use Rattle.definitions.specs.Reply.{Reply, answer, refusal, andThen}
 use Rattle.definitions.specs.Chain.{Block, fileLimit, listLimit, fragmentLimit, idDT, total, listAt, chainOf, totalOf, dataLength}
-use Rattle.chain.specs.Walk.{Known, startAt, behind, entered, fragmentAt, Onward, aList, theEnd, nextOf, listFrom, listsBehind, chainFrom, goOn}
+use Rattle.refusals.specs.Meaning.{refused}
+use Rattle.refusals.specs.declared.Refusal.{Refusal}
+use Rattle.chain.specs.Located.{Locates}
+use Rattle.chain.specs.Walk.{Inside, At, startAt, behind, entered, fragmentAt, Onward, aList, theEnd, nextOf, listFrom, listsBehind, chainFrom, goOn}
 use Rattle.chain.specs.declared.place.FileAddress.{FileAddress}
+use Rattle.chain.specs.declared.place.DataPosition.{DataPosition}
 use Rattle.chain.specs.declared.place.Place.{Place}
+use Rattle.chain.specs.declared.acceptance.Located.{Located}
+use Rattle.chain.specs.declared.acceptance.Located.the-variants.{Whole as Found, Refused as NotFound}
 use Rattle.chain.proofs.Answers.{followed}
 use Rattle.chain.proofs.Fragments.{Taken, fragment-stands}
-use Rattle.chain.proofs.Chains.{Inside, Stand, total-more, stand-more}
+use Rattle.chain.proofs.Chains.{total-more, stand-more}
 use Rattle.chain.proofs.Steps.{known-behind, known-entered, rest-fragment, rest-next, Tells, next-tells}
-
--- p₀ is where the walk began
-pub record At (id f : List ℕ) (p₀ p : Place) (before : List Block) : Type 0 where
-  pub known : Known f p
-  pub stand : Stand f before
-  pub count : length before ≡ p .fragments + p .index
-  pub size : total before ≡ p .position .0
-  pub rest : chainOf id f (p₀ .list .next .0) ≡ chainFrom id f p before
 
 -- no walk makes more turns than this
 abbrev pub turnsLeft : Place → ℕ
 turnsLeft p = (listLimit - p .lists) * (fragmentLimit + 1) + (p .list .links - p .index)
 
-module _ (id f : List ℕ) (p₀ : Place) where
-  module _ (a : FileAddress) (begun : p₀ ≡ startAt a) where
-    pub at-start : At id f p₀ p₀ []
-    unfolding chainOf total Inside listFrom listsBehind
-    at-start =
-        rw begun
-        (record {
-          known = record { inside = omega arith; few = omega arith; none = omega arith; read = λ some. let no : ⊥ = omega arith in absurd no };
-          stand = record { inside = tt; few = omega arith; bounded = omega arith };
-          count = refl;
-          size = refl;
-          rest = refl;
-        })
+-- where the walk begins
+module _ (id f : List ℕ) (p₀ : Place) (a : FileAddress) (begun : p₀ ≡ startAt a) where
+  pub at-start : At id f (p₀ .list .next .0) p₀ []
+  unfolding chainOf total Inside listFrom listsBehind
+  at-start =
+      rw begun
+      (record {
+        known = record { inside = omega arith; few = omega arith; none = omega arith; read = λ some. let no : ⊥ = omega arith in absurd no };
+        stand = record { inside = tt; few = omega arith; bounded = omega arith };
+        count = refl;
+        size = refl;
+        rest = refl;
+      })
 
-    from-start : chainOf id f (a .0) ≡ chainOf id f (p₀ .list .next .0)
-    from-start = rw begun
+  pub from-start : (p : Place) (before : List Block) → At id f (p₀ .list .next .0) p before → At id f (a .0) p before
+  from-start p before m = subst (λ (s : ℕ). At id f s p before) (ap (λ (x : Place). x .list .next .0) begun) m
 
-  module _ (p : Place) (before : List Block) (m : At id f p₀ p before) where
+module _ (id f : List ℕ) (start : ℕ) where
+  module _ (p : Place) (before : List Block) (m : At id f start p before) where
     pub few-before : p .fragments + p .index ≤ fragmentLimit
     few-before = omega (arith, m .known .inside, m .known .few)
 
@@ -53,13 +52,13 @@ module _ (id f : List ℕ) (p₀ : Place) where
     module _ (h : p .index < p .list .links) where
       -- the chain gives what the fragment gives
       over : (r : Reply Block) → fragmentAt id f p ≡ r
-          → chainOf id f (p₀ .list .next .0) ≡ andThen r (λ b. chainFrom id f (behind p (b .size)) (before ++ (b ∷ [])))
+          → chainOf id f start ≡ andThen r (λ b. chainFrom id f (behind p (b .size)) (before ++ (b ∷ [])))
       over r e =
           m .rest ∙ rest-fragment id f p before (m .known) (m .size) h
           ∙ ap (λ (x : Reply Block). andThen x (λ b. chainFrom id f (behind p (b .size)) (before ++ (b ∷ [])))) e
 
-      pub refused-here : (a : FileAddress) → p₀ ≡ startAt a → (n t : ℕ) → fragmentAt id f p ≡ refusal n t → chainOf id f (a .0) ≡ refusal n t
-      refused-here a begun n t e = from-start a begun ∙ over _ e
+      pub refused-here : (n t : ℕ) → fragmentAt id f p ≡ refusal n t → chainOf id f start ≡ refusal n t
+      refused-here n t e = over _ e
 
       module _ (b : Block) (e : fragmentAt id f p ≡ answer b) where
         -- the fragment lies in the file, and there is room for one more
@@ -70,10 +69,10 @@ module _ (id f : List ℕ) (p₀ : Place) where
             let t = fragment-stands id f (drop (p .list .address .0) f) (read .0) (p .index) (p .position .0) b (read .2) in
             (t, omega (arith, m .known .few), omega (arith, t .bounded))
 
-        pub at-behind : (q : Place) → q ≡ behind p (b .size) → At id f p₀ q (before ++ (b ∷ [])) × (turnsLeft q < turnsLeft p)
+        pub at-behind : (q : Place) → q ≡ behind p (b .size) → At id f start q (before ++ (b ∷ [])) × (turnsLeft q < turnsLeft p)
         at-behind q is =
             let here : Taken f (total before) b = rw (m .size) (taken-here .0) in
-            let there : At id f p₀ (behind p (b .size)) (before ++ (b ∷ [])) × (turnsLeft (behind p (b .size)) < turnsLeft p) = (
+            let there : At id f start (behind p (b .size)) (before ++ (b ∷ [])) × (turnsLeft (behind p (b .size)) < turnsLeft p) = (
               record {
                 known = known-behind f p (m .known) (b .size) h;
                 stand = stand-more f b before (m .stand) (omega (arith, m .count, m .known .few)) here;
@@ -83,34 +82,33 @@ module _ (id f : List ℕ) (p₀ : Place) where
               },
               omega arith,
             ) in
-            subst (λ (x : Place). At id f p₀ x (before ++ (b ∷ [])) × (turnsLeft x < turnsLeft p)) (sym is) there
+            subst (λ (x : Place). At id f start x (before ++ (b ∷ [])) × (turnsLeft x < turnsLeft p)) (sym is) there
 
     -- ---- behind its last fragment
 
     module _ (h : p .list .links ≤ p .index) where
       -- the chain gives what the next list gives
-      onward : (r : Reply Onward) → nextOf f p ≡ r → chainOf id f (p₀ .list .next .0) ≡ andThen r (goOn id f before)
+      onward : (r : Reply Onward) → nextOf f p ≡ r → chainOf id f start ≡ andThen r (goOn id f before)
       onward r e = m .rest ∙ rest-next id f p before (m .known) (m .count) h ∙ ap (λ (x : Reply Onward). andThen x (goOn id f before)) e
 
-      module _ (a : FileAddress) (begun : p₀ ≡ startAt a) where
-        pub refused-next : (n t : ℕ) → nextOf f p ≡ refusal n t → chainOf id f (a .0) ≡ refusal n t
-        refused-next n t e = from-start a begun ∙ onward _ e
+      pub refused-next : (n t : ℕ) → nextOf f p ≡ refusal n t → chainOf id f start ≡ refusal n t
+      refused-next n t e = onward _ e
 
-        pub at-end : (n : ℕ) → nextOf f p ≡ answer (theEnd n) → (chainOf id f (a .0) ≡ answer before) × (total before ≡ n)
-        unfolding Tells
-        at-end n e = (from-start a begun ∙ onward _ e, m .size ∙ sym (next-tells f p (theEnd n) e))
+      pub at-end : (n : ℕ) → nextOf f p ≡ answer (theEnd n) → (chainOf id f start ≡ answer before) × (total before ≡ n)
+      unfolding Tells
+      at-end n e = (onward _ e, m .size ∙ sym (next-tells f p (theEnd n) e))
 
-      pub at-list : (q : Place) → nextOf f p ≡ answer (aList q) → At id f p₀ q before × (turnsLeft q < turnsLeft p)
+      pub at-list : (q : Place) → nextOf f p ≡ answer (aList q) → At id f start q before × (turnsLeft q < turnsLeft p)
       unfolding Tells
       at-list q e =
           let t = next-tells f p (aList q) e in
           let known = known-entered f p (m .known) (t .0) (t .1) in
-          let gone : chainOf id f (p₀ .list .next .0) ≡ chainFrom id f (entered p (t .0)) before = onward _ (e ∙ ap (λ (x : Place). answer (aList x)) (sym (t .2))) in
-          let there : At id f p₀ (entered p (t .0)) before × (turnsLeft (entered p (t .0)) < turnsLeft p) = (
+          let gone : chainOf id f start ≡ chainFrom id f (entered p (t .0)) before = onward _ (e ∙ ap (λ (x : Place). answer (aList x)) (sym (t .2))) in
+          let there : At id f start (entered p (t .0)) before × (turnsLeft (entered p (t .0)) < turnsLeft p) = (
             record { known = known; stand = m .stand; count = omega (arith, m .count); size = m .size; rest = gone },
             omega (arith, t .3, known .few),
           ) in
-          subst (λ (x : Place). At id f p₀ x before × (turnsLeft x < turnsLeft p)) (t .2) there
+          subst (λ (x : Place). At id f start x before × (turnsLeft x < turnsLeft p)) (t .2) there
 
 -- ---- the length of the joined data
 
@@ -132,3 +130,25 @@ module _ (f : List ℕ) (start : ℕ) where
   pub length-total : length f ≤ fileLimit → totalOf idDT f start ≡ dataLength f start
   unfolding dataLength
   length-total l = rw (le-ltb _ _ l)
+
+-- ---- a position that was looked for
+
+module _ (id f : List ℕ) (start wanted : ℕ) (reply : Reply ℕ) where
+  pub located-refused : (why : Refusal) → refused why ≡ reply → Locates id f start wanted reply (NotFound why)
+  located-refused why e = record {
+    replied = e;
+    place = λ n p is. let z : _≡_ {A = ℕ} 0 1 = cc in let no : ⊥ = omega arith in absurd no;
+  }
+
+  pub located-whole : (n : DataPosition) (p : Place) (before : List Block) → answer (n .0) ≡ reply → At id f start p before → p .position .0 ≤ wanted
+      → Locates id f start wanted reply (Found n p)
+  located-whole n p before e m l = record {
+    replied = e;
+    place = λ k q is.
+        let same : p ≡ q = cc in
+        (before, subst (λ (x : Place). At id f start x before) same m, subst (λ (x : Place). x .position .0 ≤ wanted) same l);
+  }
+
+  -- the same reply by another name
+  pub located-so : (other : Reply ℕ) (r : Located) → other ≡ reply → Locates id f start wanted other r → Locates id f start wanted reply r
+  located-so other r e l = record { replied = l .replied ∙ e; place = l .place }

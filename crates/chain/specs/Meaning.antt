@@ -9,6 +9,8 @@ use Rattle.chain.specs.declared.block.BlockRead.{BlockRead}
 use Rattle.chain.specs.declared.block.BlockRead.the-variants.{Block as ABlock, Refused as NoBlock}
 use Rattle.chain.specs.declared.acceptance.ChainRead.{ChainRead}
 use Rattle.chain.specs.declared.acceptance.ChainRead.the-variants.{Whole, Refused as NoChain}
+use Rattle.chain.specs.declared.acceptance.Located.{Located}
+use Rattle.chain.specs.declared.acceptance.Located.the-variants.{Whole as Found, Refused as NotFound}
 use Rattle.chain.specs.declared.record.RecordRead.{RecordRead}
 use Rattle.chain.specs.declared.record.RecordRead.the-variants.{Record, Refused as NoRecord}
 
@@ -26,6 +28,11 @@ blockReply (NoBlock r) = refused r
 abbrev pub chainReply : ChainRead → Reply ℕ
 chainReply (Whole q) = answer (q .0)
 chainReply (NoChain r) = refused r
+
+-- the same of a chain in which a position was looked for
+abbrev pub locatedReply : Located → Reply ℕ
+locatedReply (Found q p) = answer (q .0)
+locatedReply (NotFound r) = refused r
 
 -- ---- a record
 

@@ -3,12 +3,12 @@
 use mathlib.Core.Path.{_≡_}
 use mathlib.Core.Bool.{Bool, false}
 use Prim.Native.Nat.{ℕ, _+_, _-_, _*_, _≤_, _<_}
-use mathlib.Core.List.{List}
+use mathlib.Core.List.{List, [], _∷_}
 use lib.ListN.{length, drop}
 use lib.Dec.{leb, eqb}
 use Rattle.definitions.specs.Reply.{Reply, answer, refusal, if_then_else_, andThen}
 use Rattle.definitions.specs.DataList.{DataList, restCount}
-use Rattle.definitions.specs.Chain.{Block, fragmentLimit, listLimit, fragmentOf, fragments, listAt, lists}
+use Rattle.definitions.specs.Chain.{Block, dataLimit, fragmentLimit, listLimit, total, fragmentOf, fragments, listAt, lists, chainOf}
 use Rattle.refusals.specs.Meaning.{refused}
 use Rattle.chain.specs.declared.place.FileAddress.{FileAddress}
 use Rattle.chain.specs.declared.place.DataPosition.{DataPosition}
@@ -128,3 +128,31 @@ chainFrom id f p before = andThen (listFrom id f p before) (listsBehind id f p)
 abbrev pub goOn : List ℕ → List ℕ → List Block → Onward → Reply (List Block)
 goOn id f before (aList p) = chainFrom id f p before
 goOn id f before (theEnd n) = answer before
+
+-- ---- a walk so far
+
+-- each block lies in the file, with its header
+unfoldable pub Inside : List ℕ → List Block → Type 0
+Inside f [] = Unit {0}
+Inside f (b ∷ bs) = (b .address + 24 + b .size ≤ length f) × Inside f bs
+
+pub record Stand (f : List ℕ) (bs : List Block) : Type 0 where
+  pub inside : Inside f bs
+  pub few : length bs ≤ fragmentLimit
+  pub bounded : total bs ≤ dataLimit
+
+-- a walk along the chain from `start` on stands at p, and has met the blocks `before`
+pub record At (id f : List ℕ) (start : ℕ) (p : Place) (before : List Block) : Type 0 where
+  pub known : Known f p
+  pub stand : Stand f before
+  pub count : length before ≡ p .fragments + p .index
+  pub size : total before ≡ p .position .0
+  pub rest : chainOf id f start ≡ chainFrom id f p before
+
+-- p is a place on the way along an accepted chain
+pub record Walked (id f : List ℕ) (p : Place) : Type 0 where
+  pub start : ℕ
+  pub before : List Block
+  pub blocks : List Block
+  pub at : At id f start p before
+  pub whole : chainOf id f start ≡ answer blocks

@@ -1,9 +1,7 @@
 -- A window on a longer list, as on the joined data of a chain.
 use Prim.Native.Nat.{ℕ, _+_, _-_}
-use mathlib.Core.List.{List, [], _++_}
+use mathlib.Core.List.{List, _++_}
 use lib.ListN.{length, take, drop}
-use Rattle.definitions.specs.Reply.{Reply, answer, refusal}
-use Rattle.definitions.specs.Chain.{Block, joined, chainOf}
 
 -- d with c over it from index g on, as far as d goes
 unfoldable pub overwritten : List ℕ → ℕ → List ℕ → List ℕ
@@ -12,11 +10,3 @@ overwritten d g c = take g d ++ take (length d - g) c ++ drop (g + length c) d
 -- d is the window from index `from` on of a longer list, in which b stands at p
 unfoldable pub laid : List ℕ → ℕ → ℕ → List ℕ → List ℕ
 laid d from p b = overwritten d (p - from) (drop (from - p) b)
-
-abbrev dataIn : List ℕ → Reply (List Block) → List ℕ
-dataIn f (answer bs) = joined f bs
-dataIn f (refusal n t) = []
-
--- the joined data of a chain that is accepted
-unfoldable pub joinedOf : List ℕ → List ℕ → ℕ → List ℕ
-joinedOf id f start = dataIn f (chainOf id f start)

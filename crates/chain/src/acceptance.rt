@@ -1,7 +1,8 @@
-// The first reader of a chain: is it accepted, and how much data does it join?
+// The first reader of a chain: is it accepted, how much data does it join, and where does a position of that data stand?
 ghost use mathlib.Core.Path.{_≡_};
-ghost use Rattle.definitions.specs.Chain.{dataLength, totalOf};
-ghost use Rattle.chain.specs.Meaning.{chainReply};
+ghost use Rattle.definitions.specs.Chain.{idDT, dataLength, totalOf};
+ghost use Rattle.chain.specs.Meaning.{chainReply, locatedReply};
+ghost use Rattle.chain.specs.Located.{Locates};
 use crate::block::BlockRead;
 use crate::block::DataBlock;
 use crate::fragment::fragment_at;
@@ -19,25 +20,40 @@ pub enum ChainRead {
     Refused(Refusal),
 }
 
-pub fn accept(file: &[u8], start: FileAddress, id: &[u8; 4]) -> ChainRead
-    ensures { λ r. ⌜ chainReply r ≡ totalOf (now (id .entry)) (now (file .entry)) (start .0) ⌝ }
+pub enum Located {
+    // the length of the joined data, and a place on the way that is not behind the wanted position
+    Whole(DataPosition, Place),
+    Refused(Refusal),
+}
+
+// Walks all of a chain, since a position stands in a chain that is whole, and keeps the place before the fragment that
+// holds the wanted position.
+pub fn locate(file: &[u8], start: FileAddress, id: &[u8; 4], wanted: DataPosition) -> Located
+    ensures { λ r. ⌜ Locates (now (id .entry)) (now (file .entry)) (start .0) (wanted .0) (totalOf (now (id .entry)) (now (file .entry)) (start .0)) r ⌝ }
 {
     let mut place = Place::start(start);
+    let mut kept = place;
     loop {
         if place.index < place.list.links {
             let read = fragment_at(file, place, id);
             let BlockRead::Block(block) = read else {
-                return ChainRead::Refused(read.refusal());
+                return Located::Refused(read.refusal());
             };
-            place = place.behind(block.size);
+            let here = place;
+            place = here.behind(block.size);
+            let first = here.position;
+            let end = place.position;
+            if wanted.stands_in(first, end) {
+                kept = here;
+            }
         } else {
             let next = next_list(file, place);
             match next {
                 NextRead::Refused(why) => {
-                    return ChainRead::Refused(why);
+                    return Located::Refused(why);
                 }
                 NextRead::End(total) => {
-                    return ChainRead::Whole(total);
+                    return Located::Whole(total, kept);
                 }
                 NextRead::List(entered) => {
                     place = entered;
@@ -47,14 +63,52 @@ pub fn accept(file: &[u8], start: FileAddress, id: &[u8; 4]) -> ChainRead
     }
 }
 
+// The same in a chain of data blocks, of a file that is not too long
+pub(crate) fn locate_data(file: &[u8], start: FileAddress, wanted: DataPosition) -> Located
+    ensures { λ r. ⌜ Locates idDT (now (file .entry)) (start .0) (wanted .0) (dataLength (now (file .entry)) (start .0)) r ⌝ }
+{
+    if FILE_LIMIT < file.len() {
+        return Located::Refused(Refusal::FileTooLong);
+    }
+    locate(file, start, &DataBlock::ID, wanted)
+}
+
+pub fn accept(file: &[u8], start: FileAddress, id: &[u8; 4]) -> ChainRead
+    ensures { λ r. ⌜ chainReply r ≡ totalOf (now (id .entry)) (now (file .entry)) (start .0) ⌝ }
+{
+    let found = locate(file, start, id, DataPosition(0));
+    found.chain()
+}
+
 // The length of the joined data of a chain of data blocks
 pub fn data_length(file: &[u8], start: FileAddress) -> ChainRead
     ensures { λ r. ⌜ chainReply r ≡ dataLength (now (file .entry)) (start .0) ⌝ }
 {
-    if FILE_LIMIT < file.len() {
-        return ChainRead::Refused(Refusal::FileTooLong);
+    let found = locate_data(file, start, DataPosition(0));
+    found.chain()
+}
+
+impl Located {
+    // what is told of the chain alone
+    pub(crate) fn chain(self) -> ChainRead
+        ensures { λ r. ⌜ chainReply r ≡ locatedReply self ⌝ }
+    {
+        match self {
+            Located::Whole(total, _) => ChainRead::Whole(total),
+            Located::Refused(why) => ChainRead::Refused(why),
+        }
     }
-    accept(file, start, &DataBlock::ID)
+
+    // Why the chain was refused. Only a refusal is asked, so the second arm is never taken.
+    pub fn refusal(self) -> Refusal
+        requires { ⌜ ((why : Refusal) × (self ≡ Located.Refused why)) ⌝ }
+        ensures { λ r. ⌜ self ≡ Located.Refused r ⌝ }
+    {
+        match self {
+            Located::Refused(why) => why,
+            Located::Whole(_, _) => Refusal::NoBlockThere,
+        }
+    }
 }
 
 impl ChainRead {

@@ -1,18 +1,16 @@
 // A window on the joined data of a chain that is accepted.
 ghost use mathlib.Core.Path.{_≡_};
-ghost use mathlib.Core.List.{List};
 ghost use Prim.Native.Nat.{_-_, _≤_, min};
 ghost use lib.ListN.{length};
-ghost use Rattle.definitions.specs.Reply.{answer};
-ghost use Rattle.definitions.specs.Chain.{Block, chainOf};
-ghost use Rattle.chain.specs.Window.{overwritten, laid, joinedOf};
+ghost use Rattle.definitions.specs.Chain.{joined};
+ghost use Rattle.chain.specs.Walk.{Walked};
+ghost use Rattle.chain.specs.Window.{overwritten, laid};
 use crate::block::BlockRead;
 use crate::block::data_of;
 use crate::fragment::fragment_at;
 use crate::next::NextRead;
 use crate::next::next_list;
 use crate::place::DataPosition;
-use crate::place::FileAddress;
 use crate::place::Place;
 
 // a less b, and 0 where that is less
@@ -57,13 +55,13 @@ fn lay(data: &[u8], position: DataPosition, from: DataPosition, out: &mut [u8])
     copy_over(&data[start..], out, gap as usize);
 }
 
-// The bytes of the joined data from `from` on, as far as `out` goes. Of each fragment only what falls into the window is read,
-// and none behind it.
-pub fn window(file: &[u8], start: FileAddress, id: &[u8; 4], from: DataPosition, out: &mut [u8])
-    requires { ⌜ ((blocks : List Block) × (chainOf (now id) (now file) (start .0) ≡ answer blocks)) ⌝ }
-    ensures { λ _. ⌜ now (out .exit) ≡ laid (now (out .entry)) (from .0) 0 (joinedOf (now (id .entry)) (now (file .entry)) (start .0)) ⌝ }
+// The bytes of the joined data from `from` on, as far as `out` goes, by a walk from a place that is not behind them. Of each
+// fragment only what falls into the window is read, and none behind it.
+pub fn window(file: &[u8], begin: Place, id: &[u8; 4], from: DataPosition, out: &mut [u8])
+    requires { ⌜ (Walked (now id) (now file) begin) × (begin .position .0 ≤ from .0) ⌝ }
+    ensures { λ _. ⌜ ((w : Walked (now (id .entry)) (now (file .entry)) begin) → now (out .exit) ≡ laid (now (out .entry)) (from .0) 0 (joined (now (file .entry)) (w .blocks))) ⌝ }
 {
-    let mut place = Place::start(start);
+    let mut place = begin;
     loop {
         if place.index < place.list.links {
             let read = fragment_at(file, place, id);

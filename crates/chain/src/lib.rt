@@ -10,8 +10,10 @@ mod place;
 mod record;
 
 pub use acceptance::ChainRead;
+pub use acceptance::Located;
 pub use acceptance::accept;
 pub use acceptance::data_length;
+pub use acceptance::locate;
 pub use block::BlockRead;
 pub use block::DataBlock;
 pub use block::data_of;

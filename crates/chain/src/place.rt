@@ -1,5 +1,6 @@
 // Two kinds of numbers, addresses in the file and positions in the joined data, and where a walk stands.
 ghost use mathlib.Core.Path.{_≡_};
+ghost use mathlib.Core.Bool.{_&&_};
 ghost use Prim.Native.Nat.{_+_, _≤_, _<_};
 ghost use lib.ListN.{length, drop};
 ghost use lib.Dec.{ltb, leb};
@@ -93,6 +94,16 @@ impl DataPosition {
             return false;
         }
         size <= self.0 - from.0
+    }
+
+    // whether it is that of a byte from one position on and before another
+    pub(crate) fn stands_in(self, first: DataPosition, end: DataPosition) -> bool
+        ensures { λ r. ⌜ r ≡ (leb (first .0) (self .0) && ltb (self .0) (end .0)) ⌝ }
+    {
+        if self.0 < first.0 {
+            return false;
+        }
+        self.0 < end.0
     }
 
     pub(crate) fn further(self, size: u64) -> DataPosition

@@ -1,13 +1,14 @@
 // A record of the joined data, fetched into a lent buffer.
 ghost use mathlib.Core.Path.{_≡_};
-ghost use Prim.Native.Nat.{_+_, _*_, _<_};
+ghost use Prim.Native.Nat.{_+_, _*_, _≤_, _<_};
 ghost use lib.Dec.{ltb};
-ghost use Rattle.definitions.specs.Chain.{badSize, fetched};
+ghost use Rattle.definitions.specs.Chain.{dataLimit, badSize, fetched};
 ghost use Rattle.chain.specs.Meaning.{fetchedBy};
-use crate::acceptance::ChainRead;
-use crate::acceptance::data_length;
+use crate::acceptance::Located;
+use crate::acceptance::locate_data;
 use crate::block::DataBlock;
 use crate::joined::window;
+use crate::limits::DATA_LIMIT;
 use crate::limits::RECORD_LIMIT;
 use crate::place::DataPosition;
 use crate::place::FileAddress;
@@ -40,6 +41,17 @@ fn ends_behind(total: u64, number: u64, size: u64) -> bool
     total / size <= number
 }
 
+// The position of a record's first byte. A product that could wrap is behind all data, and is not taken.
+fn first_byte(number: u64, size: u64) -> DataPosition
+    requires { ⌜ 0 < size ⌝ }
+    ensures { λ r. ⌜ (number * size ≤ dataLimit → r .0 ≡ number * size) ⌝ }
+{
+    if DATA_LIMIT / size < number {
+        return DataPosition(DATA_LIMIT);
+    }
+    DataPosition(number * size)
+}
+
 // Record `number` of the joined data. The chain is accepted first, so that a refusal leaves the buffer alone.
 pub fn read_record(
     file: &[u8],
@@ -53,16 +65,16 @@ pub fn read_record(
     if bad_size(record_size, buffer.len() as u64) {
         return RecordRead::Refused(Refusal::BadRecordSize);
     }
-    let chain = data_length(file, start);
-    let ChainRead::Whole(total) = chain else {
-        return RecordRead::Refused(chain.refusal());
+    let from = first_byte(number, record_size);
+    let found = locate_data(file, start, from);
+    let Located::Whole(total, place) = found else {
+        return RecordRead::Refused(found.refusal());
     };
     if ends_behind(total.0, number, record_size) {
         return RecordRead::Refused(Refusal::NoSuchRecord);
     }
-    let from = DataPosition(number * record_size);
     let size = record_size as usize;
-    window(file, start, &DataBlock::ID, from, &mut buffer[..size]);
+    window(file, place, &DataBlock::ID, from, &mut buffer[..size]);
     RecordRead::Record
 }
 

@@ -1,7 +1,8 @@
 -- The meanings are one-to-one: from a reply the code's own answer comes back.
-use mathlib.Core.Path.{_≡_, refl, sym, ap, _∙_}
+use mathlib.Core.Path.{_≡_, refl, ap}
 use Rattle.definitions.specs.Reply.{Reply, answer, refusal}
 use Rattle.definitions.specs.Channel.{Value, ValidValue, unsigned, signed, double, text, bytes, sample, stream, unknownValue}
+use Rattle.definitions.proofs.Replies.{one-by}
 use Rattle.refusals.proofs.Back.{refusalOf, back}
 use Rattle.decoder.specs.Meaning.{valueMeant, valueReply, validValueReply}
 use Rattle.decoder.specs.declared.value.DecodedValue.{DecodedValue}
@@ -40,7 +41,7 @@ value-read-back (Valued v) = ap Valued (value-back v)
 value-read-back (NotValued r) = ap NotValued (back r)
 
 pub value-one : (a b : ValueRead) → valueReply a ≡ valueReply b → a ≡ b
-value-one a b e = sym (value-read-back a) ∙ ap valueRead e ∙ value-read-back b
+value-one = one-by valueReply valueRead value-read-back
 
 abbrev pub validValueRead : Reply ValidValue → ValidValueRead
 validValueRead (answer v) = Judged (record { value = valueDecoded (v .value); «is_valid» = v .valid })
@@ -51,4 +52,4 @@ valid-value-back (Judged v) = ap (λ (x : DecodedValue). Judged (record { value 
 valid-value-back (NotJudged r) = ap NotJudged (back r)
 
 pub valid-value-one : (a b : ValidValueRead) → validValueReply a ≡ validValueReply b → a ≡ b
-valid-value-one a b e = sym (valid-value-back a) ∙ ap validValueRead e ∙ valid-value-back b
+valid-value-one = one-by validValueReply validValueRead valid-value-back

@@ -16,7 +16,7 @@ use Rattle.definitions.specs.Channel.{Channel, Value, variableLength, startOf, 
 use Rattle.doubles.proofs.Nan.{integer-never-nan}
 use Rattle.refusals.specs.declared.Refusal.{Refusal}
 use Rattle.decoder.specs.Form.{orderMeant, formOf, numberKind, numberDouble, formValue}
-use Rattle.decoder.specs.Found.{doubleAt, Told, Found}
+use Rattle.decoder.specs.Known.{doubleAt, FieldCase, FieldTold}
 use Rattle.decoder.specs.declared.form.Number as numbers
 use Rattle.decoder.specs.declared.form.Content.{Content}
 use Rattle.decoder.specs.declared.form.Form.{Form}
@@ -39,7 +39,7 @@ wide-float count x e = rw (eq-eqb count 64 e)
 pub narrow-float : (count x : ℕ) {r : ℕ} → (count ≡ 64 → ⊥) → r ≡ widened x → r ≡ floatBits count x
 narrow-float count x other e = rw (ne-eqb count 64 other) e
 
-module _ {k : Kind} {reply : Reply Value} {s : List ℕ} {c : Channel} {found : FieldFound} (h : Found k reply s c found) where
+module _ {k : Kind} {reply : Reply Value} {s : List ℕ} {c : Channel} {found : FieldFound} (h : FieldTold k reply s c found) where
   pub double-refused : {r : Refusal} → found ≡ Refused r → nanPattern ≡ doubleIn reply
   double-refused e = sym (ap doubleIn (refused-as h e))
 
@@ -48,7 +48,7 @@ module _ {k : Kind} {reply : Reply Value} {s : List ℕ} {c : Channel} {found : 
   double-found {at} {n} {x} {r} {number} {big} e ef ex er =
       er ∙ ap (numberDouble number (c .bitCount)) ex ∙ sym (number-double number (c .bitCount) (numberIn (orderMeant big) s at c))
       ∙ ap (λ (f : Form). doubleIn (answer (formValue f s at n c))) (sym ef) ∙ ap (λ (v : Value). doubleIn (answer v)) (value-form (c .dataType) s at n c)
-      ∙ sym (ap doubleIn (subst (Told k reply s c) e (h .told) .value))
+      ∙ sym (ap doubleIn (subst (FieldCase k reply s c) e (h .told) .value))
 
 module _ (s : List ℕ) (idSize : ℕ) (c : Channel) where
   pub double-payload : variableLength c ≡ true → nanPattern ≡ recordDouble s idSize c

@@ -14,7 +14,7 @@ use Rattle.definitions.specs.Channel.{Channel, Value, decoded, isNumber, isInte
 use Rattle.words.proofs.Bits.{field-below}
 use Rattle.definitions.specs.Bytes.{numberOf, span, bytesFor, fieldAt}
 use Rattle.decoder.specs.Form.{orderMeant, numberKind, formKind}
-use Rattle.decoder.specs.Found.{valueAt, Readable, Sound, Valued, Fitting}
+use Rattle.decoder.specs.Known.{valueAt, FieldBounds, Sound, Valued, Fitting}
 use Rattle.decoder.specs.declared.form.Number.{Number}
 use Rattle.decoder.specs.declared.form.Number.the-variants.{Float}
 use Rattle.decoder.specs.declared.form.Form.{Form}
@@ -96,7 +96,7 @@ sound integer payload at n s c en a b d e f =
     let z : c .bitCount ≡ 0 → ⊥ = eqb-false (c .bitCount) 0 a in
     record {
       inside = x;
-      number = λ _. record { near = omega arith; some = omega (arith, z); few = w; inside = omega arith };
+      number = λ _. record { low = omega arith; some = omega (arith, z); few = w; inside = omega arith };
       width = λ h. absurd (true≢false (sym h));
     }
 sound floating payload at n s c en a b d e f =
@@ -105,12 +105,12 @@ sound floating payload at n s c en a b d e f =
     elim (float-width (c .bitCount) f) [
       | inl w ↦ record {
         inside = x;
-        number = λ _. record { near = omega arith; some = omega arith; few = omega arith; inside = omega arith };
+        number = λ _. record { low = omega arith; some = omega arith; few = omega arith; inside = omega arith };
         width = λ _ _. w;
       }
       | inr w ↦ record {
         inside = x;
-        number = λ _. record { near = omega arith; some = omega arith; few = omega arith; inside = omega arith };
+        number = λ _. record { low = omega arith; some = omega arith; few = omega arith; inside = omega arith };
         width = λ _ other. absurd (other w);
       }
     ]
@@ -140,7 +140,7 @@ pub number-sound : {form : Form} {number : Number} {order : Bool} {s : List ℕ}
     → Sound (formKind form) s at n c → Sound (numberKind number) s at n c
 number-sound {s = s} {at = at} {n = n} {c = c} e h = subst (λ (f : Form). Sound (formKind f) s at n c) e h
 
-pub readable : (number : Number) (s : List ℕ) (at n : ℕ) (c : Channel) → Sound (numberKind number) s at n c → Readable s at (c .bitOffset) (c .bitCount)
+pub readable : (number : Number) (s : List ℕ) (at n : ℕ) (c : Channel) → Sound (numberKind number) s at n c → FieldBounds s at (c .bitOffset) (c .bitCount)
 readable number s at n c h = h .number (is-number number)
 
 pub fitting : (number : Number) (order : Bool) (s : List ℕ) (at n : ℕ) (c : Channel) {x : ℕ} → Sound (numberKind number) s at n c

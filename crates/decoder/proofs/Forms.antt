@@ -1,5 +1,5 @@
 -- A type's kind, values and doubles, by its form.
-use mathlib.Core.Path.{_≡_, refl}
+use mathlib.Core.Path.{_≡_, refl, sym, _∙_, subst}
 use mathlib.Core.Bool.{Bool, true, false, _&&_}
 use mathlib.Core.List.{List}
 use Prim.Native.Nat.{ℕ}
@@ -11,7 +11,7 @@ use Rattle.definitions.specs.DataType.{DataType, unsignedInteger, signedInteger
 use Rattle.definitions.specs.Channel.{Channel, decoded, isNumber, isInteger, isFloating, bitSpan, spanIn, doubleIn}
 use Rattle.decoder.specs.Form.{formOf, numberKind, contentKind, formKind, numberValue, numberDouble, contentValue, formValue}
 use Rattle.decoder.specs.declared.form.Number.{Number}
-use Rattle.decoder.specs.declared.form.Number.the-variants.{Integer, Float}
+use Rattle.decoder.specs.declared.form.Number.the-variants.{Unsigned, Signed, Float}
 use Rattle.decoder.specs.declared.form.Form.{Form}
 use Rattle.decoder.specs.declared.form.Form.the-variants.{Number as numbered, Other}
 use Rattle.decoder.specs.declared.form.Content.{Content}
@@ -55,7 +55,8 @@ value-form unknown s at n c = refl
 
 -- what holds of the kinds of numbers, and of the other kinds
 pub number-kinds : (P : Kind → Type 0) → P integer → P floating → (number : Number) → P (numberKind number)
-number-kinds P i f (Integer signed) = i
+number-kinds P i f Unsigned = i
+number-kinds P i f Signed = i
 number-kinds P i f Float = f
 
 pub content-kinds : (P : Kind → Type 0) → P whole → P undecoded → (content : Content) → P (contentKind content)
@@ -76,8 +77,8 @@ pub is-number : (number : Number) → isNumber (numberKind number) ≡ true
 is-number number = number-kinds (λ k. isNumber k ≡ true) refl refl number
 
 pub number-double : (number : Number) (count x : ℕ) → doubleIn (answer (numberValue number count x)) ≡ numberDouble number count x
-number-double (Integer false) count x = refl
-number-double (Integer true) count x = refl
+number-double Unsigned count x = refl
+number-double Signed count x = refl
 number-double Float count x = refl
 
 pub content-double : (content : Content) (s : List ℕ) (at n : ℕ) → doubleIn (answer (contentValue content s at n)) ≡ nanPattern
@@ -100,3 +101,11 @@ module _ {form : Form} (t : Bool) where
 
   pub number-tested : {number : Number} {order : Bool} → form ≡ numbered number order → t ≡ isNumber (formKind form) && t
   number-tested {number} e = rw e (number-kinds (λ k. t ≡ isNumber k && t) refl refl number)
+
+-- what is no number is none
+abbrev IsNumbered : Form → Type 0
+IsNumbered (numbered number order) = Unit {0}
+IsNumbered (Other content) = ⊥
+
+pub no-number : {form : Form} {content : Content} {number : Number} {order : Bool} → form ≡ Other content → form ≡ numbered number order → ⊥
+no-number e h = subst IsNumbered (sym h ∙ e) tt

@@ -6,7 +6,7 @@ pub mod Fields
 pub mod ExactIntegers
 pub mod Values
 pub mod Doubles
-pub mod Nearby
+pub mod WordFields
 pub mod Invalidation
 pub mod Types
 pub mod Locality

@@ -5,15 +5,16 @@ use mathlib.Core.List.{List}
 use Prim.Native.Nat.{ℕ, _+_, _-_}
 use native.Mathlib.Omega.{arith}
 use lib.ListN.{length, take, drop}
-use Rattle.definitions.specs.Reply.{Reply, answer, refusal, if_then_else_}
+use Rattle.definitions.specs.Reply.{Reply, answer, if_then_else_}
 use Rattle.definitions.specs.Bytes.{span}
 use Rattle.definitions.specs.Unicode.{Encoding, stopped}
 use Rattle.definitions.specs.DataType.{Kind, kindOf}
-use Rattle.definitions.specs.Channel.{Channel, Value, text, variableLength, startOf, valueOf, validOf, validValueOf}
+use Rattle.definitions.specs.Channel.{Channel, Value, ValidValue, text, variableLength, startOf, valueOf, validOf, validValueOf}
 use Rattle.refusals.specs.Meaning.{refused}
 use Rattle.refusals.specs.declared.Refusal.{Refusal}
+use Rattle.decoder.specs.Meaning.{judgedReply}
 use Rattle.decoder.specs.Form.{formOf, formKind, formValue}
-use Rattle.decoder.specs.Found.{valueAt, Told, Found, Sound, fieldRefusal}
+use Rattle.decoder.specs.Known.{valueAt, FieldCase, FieldTold, Sound}
 use Rattle.decoder.specs.declared.form.Form.{Form}
 use Rattle.decoder.specs.declared.field.FieldFound.{FieldFound}
 use Rattle.decoder.specs.declared.field.FieldFound.the-variants.{Field, Refused}
@@ -36,23 +37,23 @@ looked-for s idSize c {form} {payload} {skipped} {offset} ef ep es eo =
     ap (λ (j : Kind). valueAt j payload s (skipped + offset) c) ek
     ∙ ap₂ (λ (a : ℕ) (p : Bool). valueAt k p s a c) ea ep
 
-module _ {k : Kind} {reply : Reply Value} {s : List ℕ} {c : Channel} {found : FieldFound} (h : Found k reply s c found) where
+module _ {k : Kind} {reply : Reply Value} {s : List ℕ} {c : Channel} {found : FieldFound} (h : FieldTold k reply s c found) where
   pub refused-as : {r : Refusal} → found ≡ Refused r → reply ≡ refused r
-  refused-as e = subst (Told k reply s c) e (h .told)
+  refused-as e = subst (FieldCase k reply s c) e (h .told)
 
   pub sound-at : {at n : ℕ} → found ≡ Field at n → Sound k s at n c
-  sound-at e = subst (Told k reply s c) e (h .told) .sound
+  sound-at e = subst (FieldCase k reply s c) e (h .told) .sound
 
   -- a refusal is handed on
-  pub handed-on : {r q : Refusal} {v : Reply Value} → found ≡ Refused r → q ≡ fieldRefusal found → reply ≡ v → refused q ≡ v
-  handed-on e eq ev = ap refused (eq ∙ ap fieldRefusal e) ∙ sym (refused-as e) ∙ ev
+  pub handed-on : {r : Refusal} {v : Reply Value} → found ≡ Refused r → reply ≡ v → refused r ≡ v
+  handed-on e ev = sym (refused-as e) ∙ ev
 
   -- and a field gives the value that its form has
   pub valued : {at n : ℕ} {form : Form} {x : Value} {v : Reply Value} → found ≡ Field at n → form ≡ formOf (c .dataType)
       → x ≡ formValue form s at n c → reply ≡ v → answer x ≡ v
   valued {at} {n} e ef ex ev =
       ap answer (ex ∙ ap (λ (f : Form). formValue f s at n c) ef ∙ value-form (c .dataType) s at n c)
-      ∙ sym (subst (Told k reply s c) e (h .told) .value) ∙ ev
+      ∙ sym (subst (FieldCase k reply s c) e (h .told) .value) ∙ ev
 
 -- a text stops in the part of the slice that is its span
 pub text-in : (e : Encoding) (s : List ℕ) (at n : ℕ) {stop : ℕ} → stop ≡ length (stopped e (take (at + n - at) (drop at s)))
@@ -60,12 +61,10 @@ pub text-in : (e : Encoding) (s : List ℕ) (at n : ℕ) {stop : ℕ} → stop �
 text-in e s at n h = ap (text at) (h ∙ ap (λ (m : ℕ). length (stopped e (take m (drop at s)))) {x = at + n - at} {y = n} (omega arith))
 
 -- with its validity
-module _ (s : List ℕ) (idSize dataBytes : ℕ) (c : Channel) where
-  pub no-valid-value : {n t : ℕ} → valueOf s idSize c ≡ refusal n t → refusal n t ≡ validValueOf s idSize dataBytes c
+module _ (s : List ℕ) (idSize dataBytes : ℕ) (c : Channel) {valid : Bool} (ev : valid ≡ validOf s idSize dataBytes c) where
+  pub judged-as : {reply : Reply Value} {r : Reply ValidValue} → r ≡ judgedReply valid reply → reply ≡ valueOf s idSize c → r ≡ validValueOf s idSize dataBytes c
   unfolding validValueOf
-  no-valid-value e = rw e
+  judged-as er e = er ∙ ap₂ judgedReply ev e
 
-  pub valid-value : {v : Value} {valid : Bool} → valueOf s idSize c ≡ answer v → valid ≡ validOf s idSize dataBytes c
-      → answer (record { value = v; valid = valid }) ≡ validValueOf s idSize dataBytes c
-  unfolding validValueOf
-  valid-value e ev = rw (e, ev)
+  pub valid-value : {v : Value} → answer v ≡ valueOf s idSize c → answer (record { value = v; valid = valid }) ≡ validValueOf s idSize dataBytes c
+  valid-value {v} e = judged-as {reply = answer v} refl e

@@ -13,7 +13,7 @@ pub use Rattle.text.specs.Meaning.{orderMeant}
 use Rattle.text.specs.Meaning.{encodingOf}
 use Rattle.text.specs.declared.encoding.Encoding.the-variants.{Latin1, Utf8, Utf16Le, Utf16Be}
 use Rattle.decoder.specs.declared.form.Number as numbers
-use Rattle.decoder.specs.declared.form.Number.the-variants.{Integer, Float}
+use Rattle.decoder.specs.declared.form.Number.the-variants.{Unsigned, Signed, Float}
 use Rattle.decoder.specs.declared.form.Form.{Form}
 use Rattle.decoder.specs.declared.form.Form.the-variants.{Number, Other}
 use Rattle.decoder.specs.declared.form.Content.{Content}
@@ -24,8 +24,8 @@ isBig little = false
 isBig big = true
 
 abbrev pub formOf : DataType → Form
-formOf (unsignedInteger o) = Number (Integer false) (isBig o)
-formOf (signedInteger o) = Number (Integer true) (isBig o)
+formOf (unsignedInteger o) = Number Unsigned (isBig o)
+formOf (signedInteger o) = Number Signed (isBig o)
 formOf (float o) = Number Float (isBig o)
 formOf (string latin1) = Other (Text Latin1)
 formOf (string utf8) = Other (Text Utf8)
@@ -40,7 +40,8 @@ formOf (complex o) = Other Undecoded
 formOf unknown = Other Undecoded
 
 abbrev pub numberKind : numbers.Number → Kind
-numberKind (Integer s) = integer
+numberKind Unsigned = integer
+numberKind Signed = integer
 numberKind Float = floating
 
 abbrev pub contentKind : Content → Kind
@@ -69,13 +70,13 @@ placed type channelType bitOffset byteOffset bitCount dataLink = record {
 
 -- what the field x of a number stands for, and as a double
 abbrev pub numberValue : numbers.Number → ℕ → ℕ → Value
-numberValue (Integer false) count x = unsigned x
-numberValue (Integer true) count x = signed (twosComplement count x)
+numberValue Unsigned count x = unsigned x
+numberValue Signed count x = signed (twosComplement count x)
 numberValue Float count x = doubleValue (floatBits count x)
 
 abbrev pub numberDouble : numbers.Number → ℕ → ℕ → ℕ
-numberDouble (Integer false) count x = doubleOf (pos x)
-numberDouble (Integer true) count x = doubleOf (twosComplement count x)
+numberDouble Unsigned count x = doubleOf (pos x)
+numberDouble Signed count x = doubleOf (twosComplement count x)
 numberDouble Float count x = floatBits count x
 
 -- what the n bytes from `at` on stand for

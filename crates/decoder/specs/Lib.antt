@@ -1,3 +1,3 @@
 pub mod Meaning
 pub mod Form
-pub mod Found
+pub mod Known

@@ -1,10 +1,9 @@
 -- What the code's own types mean in the definitions.
-use Rattle.definitions.specs.Reply.{Reply, answer}
+use mathlib.Core.Bool.{Bool}
+use Rattle.definitions.specs.Reply.{Reply, answer, andThen}
 use Rattle.definitions.specs.Channel as channels
 use Rattle.definitions.specs.Channel.{Value, ValidValue, unsigned, signed, double, text, bytes, sample, stream, unknownValue}
 use Rattle.refusals.specs.Meaning.{refused}
-use Rattle.refusals.specs.declared.Refusal.{Refusal}
-use Rattle.refusals.specs.declared.Refusal.the-variants.{NoValue}
 use Rattle.blocks.specs.Meaning.{typeMeant}
 use Rattle.decoder.specs.declared.channel.Channel.{Channel}
 use Rattle.decoder.specs.declared.value.DecodedValue.{DecodedValue}
@@ -41,10 +40,6 @@ abbrev pub valueReply : ValueRead → Reply Value
 valueReply (Valued v) = answer (valueMeant v)
 valueReply (NotValued r) = refused r
 
-abbrev pub valueRefusal : ValueRead → Refusal
-valueRefusal (Valued v) = NoValue
-valueRefusal (NotValued r) = r
-
 abbrev pub validValueMeant : DecodedChannelValue → ValidValue
 validValueMeant v = record { value = valueMeant (v .value); valid = v .«is_valid» }
 
@@ -52,6 +47,6 @@ abbrev pub validValueReply : ValidValueRead → Reply ValidValue
 validValueReply (Judged v) = answer (validValueMeant v)
 validValueReply (NotJudged r) = refused r
 
-abbrev pub validValueRefusal : ValidValueRead → Refusal
-validValueRefusal (Judged v) = NoValue
-validValueRefusal (NotJudged r) = r
+-- a value with its validity; a refusal has none
+abbrev pub judgedReply : Bool → Reply Value → Reply ValidValue
+judgedReply valid reply = andThen reply (λ v. answer (record { value = v; valid = valid }))

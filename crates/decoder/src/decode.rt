@@ -1,21 +1,22 @@
 // A channel's value in a record.
 ghost use mathlib.Core.Path.{_≡_};
-ghost use Rattle.definitions.specs.Reply.{if_then_else_};
-ghost use Rattle.definitions.specs.Channel.{valueOf, validValueOf};
-ghost use Rattle.decoder.specs.Meaning.{channelMeant, valueMeant, valueReply, validValueReply};
+ghost use Prim.Native.Nat.{_+_, _/_, _%_};
 ghost use lib.ListN.{length};
-ghost use Rattle.blocks.specs.Meaning.{typeMeant};
-ghost use Rattle.decoder.specs.Form.{formOf, formKind, formValue, placed};
-ghost use Rattle.decoder.specs.Found.{Near, Sound};
+ghost use Rattle.definitions.specs.Reply.{if_then_else_};
+ghost use Rattle.definitions.specs.Bytes.{fieldAt};
+ghost use Rattle.definitions.specs.Channel.{variableLength, valueOf, validValueOf};
+ghost use Rattle.decoder.specs.Meaning.{channelMeant, valueMeant, valueReply, validValueReply, judgedReply};
+ghost use Rattle.decoder.specs.Form.{orderMeant, formKind, formValue, numberValue};
+ghost use Rattle.decoder.specs.Known.{InWord, Sound};
 use crate::channel::Channel;
 use crate::content::content_at;
 use crate::field::FieldFound;
 use crate::field::find_field;
-use crate::field::is_no_float_width;
 use crate::form::Form;
 use crate::form::Number;
 use crate::form::form_of;
-use crate::near::is_near;
+use crate::near::NumberFound;
+use crate::near::near_number;
 use crate::number::number_at;
 use crate::number::number_value;
 use crate::validity::check_value_validity;
@@ -23,8 +24,6 @@ use crate::value::DecodedChannelValue;
 use crate::value::DecodedValue;
 use crate::value::ValidValueRead;
 use crate::value::ValueRead;
-use blocks::DataType;
-use refusals::Refusal;
 use words::near_be;
 use words::near_le;
 
@@ -65,80 +64,81 @@ fn any_value(record: &[u8], record_id_size: usize, channel: Channel) -> ValueRea
     ValueRead::Value(value_at(record, at, length, form, channel))
 }
 
-// It takes numbers and not the channel: that would have to lie in memory for it, and every near field would wait for that.
-fn far_value(
-    record: &[u8],
-    record_id_size: usize,
-    data_type: DataType,
-    channel_type: u8,
-    bit_offset: u8,
-    byte_offset: u32,
-    bit_count: u32,
-    data: u64,
-) -> ValueRead
-    ensures { λ r. ⌜ valueReply r ≡ valueOf (now («record» .entry)) «record_id_size» (placed (typeMeant «data_type») «channel_type» «bit_offset» «byte_offset» «bit_count» «data») ⌝ }
+fn one_if(set: bool) -> u8
+    ensures { λ r. ⌜ r ≡ (if set then 1 else 0) ⌝ }
 {
-    let channel = Channel {
-        data_type,
-        channel_type,
-        bit_offset,
-        byte_offset,
-        bit_count,
-        flags: 0,
-        pos_invalidation_bit: 0,
-        data,
-    };
-    any_value(record, record_id_size, channel)
+    if set { 1 } else { 0 }
 }
 
-// The value of a number that is near
-fn near_value(
-    record: &[u8],
-    record_id_size: usize,
-    number: Number,
-    big_endian: bool,
-    channel: Channel,
-) -> ValueRead
-    requires { ⌜ Near (length (now «record»)) «record_id_size» (channelMeant channel) × (formOf (typeMeant (channel .«data_type»)) ≡ Form.Number number «big_endian») ⌝ }
+// The same as a call apart. The channel is laid down anew for it, so that it lies in memory on this way alone.
+fn far_value(record: &[u8], record_id_size: usize, payload: bool, channel: Channel) -> ValueRead
+    requires { ⌜ payload ≡ variableLength (channelMeant channel) ⌝ }
     ensures { λ r. ⌜ valueReply r ≡ valueOf (now («record» .entry)) «record_id_size» (channelMeant channel) ⌝ }
 {
-    let form = Form::Number(number, big_endian);
-    if is_no_float_width(form, channel.bit_count) {
-        return ValueRead::Refused(Refusal::NoValue);
-    }
-    let at = record_id_size + channel.byte_offset as usize;
-    let bit_offset = channel.bit_offset as u32;
-    let x = if big_endian {
-        near_be(record, at, bit_offset, channel.bit_count)
-    } else {
-        near_le(record, at, bit_offset, channel.bit_count)
+    let data_type = channel.data_type;
+    let laid = Channel {
+        data_type,
+        channel_type: one_if(payload),
+        bit_offset: channel.bit_offset,
+        byte_offset: channel.byte_offset,
+        bit_count: channel.bit_count,
+        flags: 0,
+        pos_invalidation_bit: 0,
+        data: one_if(payload) as u64,
     };
-    ValueRead::Value(number_value(number, channel.bit_count, x))
+    any_value(record, record_id_size, laid)
+}
+
+// The value of a number in a word
+fn near_value(
+    record: &[u8],
+    number: Number,
+    big_endian: bool,
+    word: usize,
+    from: u32,
+    bit_count: u32,
+) -> DecodedValue
+    requires { ⌜ InWord number (length (now «record»)) word from «bit_count» ⌝ }
+    ensures { λ r. ⌜ valueMeant r ≡ numberValue number «bit_count» (fieldAt (orderMeant «big_endian») (now («record» .entry)) (word + from / 8) (from % 8) «bit_count») ⌝ }
+{
+    let x = if big_endian {
+        near_be(record, word, from, bit_count)
+    } else {
+        near_le(record, word, from, bit_count)
+    };
+    number_value(number, bit_count, x)
 }
 
 pub fn decode_channel_value(record: &[u8], record_id_size: usize, channel: Channel) -> ValueRead
     ensures { λ r. ⌜ valueReply r ≡ valueOf (now («record» .entry)) «record_id_size» (channelMeant channel) ⌝ }
 {
-    let data_type = channel.data_type;
-    if is_near(record.len(), record_id_size, channel) {
-        let form = form_of(data_type);
-        if let Form::Number(number, big_endian) = form {
-            return near_value(record, record_id_size, number, big_endian, channel);
-        }
+    if channel.is_variable_length() {
+        return far_value(record, record_id_size, true, channel);
     }
-    far_value(
-        record,
-        record_id_size,
-        data_type,
-        channel.channel_type,
-        channel.bit_offset,
-        channel.byte_offset,
-        channel.bit_count,
-        channel.data,
-    )
+    let found = near_number(record.len(), record_id_size, channel);
+    let NumberFound::At {
+        number,
+        big_endian,
+        word,
+        from,
+    } = found
+    else {
+        return far_value(record, record_id_size, false, channel);
+    };
+    let count = channel.bit_count;
+    ValueRead::Value(near_value(record, number, big_endian, word, from, count))
 }
 
-// By way of the value of any field: what is near is not looked for here.
+fn judged(read: ValueRead, is_valid: bool) -> ValidValueRead
+    ensures { λ r. ⌜ validValueReply r ≡ judgedReply «is_valid» (valueReply read) ⌝ }
+{
+    let ValueRead::Value(value) = read else {
+        return ValidValueRead::Refused(read.refusal());
+    };
+    ValidValueRead::Value(DecodedChannelValue { value, is_valid })
+}
+
+// It goes the same ways as the value alone, and calls what that does: each of the two calls has the short way inlined.
 pub fn decode_channel_value_with_validity(
     record: &[u8],
     record_id_size: usize,
@@ -147,10 +147,34 @@ pub fn decode_channel_value_with_validity(
 ) -> ValidValueRead
     ensures { λ r. ⌜ validValueReply r ≡ validValueOf (now («record» .entry)) «record_id_size» «cg_data_bytes» (channelMeant channel) ⌝ }
 {
-    let read = any_value(record, record_id_size, channel);
-    let ValueRead::Value(value) = read else {
-        return ValidValueRead::Refused(read.refusal());
-    };
     let is_valid = check_value_validity(record, record_id_size, cg_data_bytes, channel);
+    if channel.is_variable_length() {
+        return judged(far_value(record, record_id_size, true, channel), is_valid);
+    }
+    let found = near_number(record.len(), record_id_size, channel);
+    let NumberFound::At {
+        number,
+        big_endian,
+        word,
+        from,
+    } = found
+    else {
+        return judged(far_value(record, record_id_size, false, channel), is_valid);
+    };
+    let count = channel.bit_count;
+    let value = near_value(record, number, big_endian, word, from, count);
     ValidValueRead::Value(DecodedChannelValue { value, is_valid })
+}
+
+// The same by the general way, for callers that have done much already: a second one would keep the short way from being inlined.
+pub fn any_valid_value(
+    record: &[u8],
+    record_id_size: usize,
+    cg_data_bytes: u32,
+    channel: Channel,
+) -> ValidValueRead
+    ensures { λ r. ⌜ validValueReply r ≡ validValueOf (now («record» .entry)) «record_id_size» «cg_data_bytes» (channelMeant channel) ⌝ }
+{
+    let is_valid = check_value_validity(record, record_id_size, cg_data_bytes, channel);
+    judged(any_value(record, record_id_size, channel), is_valid)
 }

@@ -10,33 +10,32 @@ ghost use Rattle.blocks.specs.Meaning.{typeMeant};
 ghost use Rattle.decoder.specs.Meaning.{channelMeant};
 ghost use lib.ListN.{length};
 ghost use Rattle.decoder.specs.Form.{numberDouble, placed};
-ghost use Rattle.decoder.specs.Found.{Near, Fitting};
+ghost use Rattle.decoder.specs.Known.{Near, Fitting};
 use crate::channel::Channel;
 use crate::field::FieldFound;
 use crate::field::find_field;
 use crate::form::Form;
 use crate::form::Number;
 use crate::form::form_of;
-use crate::integer::double_of_integer;
 use crate::integer::signed_double;
 use crate::integer::unsigned_double;
-use crate::near::has_a_word;
+use crate::near::WordFound;
+use crate::near::find_word;
 use crate::number::float_bits;
 use crate::number::number_at;
 use blocks::DataType;
+use doubles::NAN;
 use doubles::widen;
 use words::near_be;
 use words::near_le;
-
-// What stands for no value
-const NAN: u64 = 0x7ff8_0000_0000_0000;
 
 fn number_double(number: Number, bit_count: u32, x: u64) -> u64
     requires { ⌜ Fitting number «bit_count» x ⌝ }
     ensures { λ r. ⌜ r ≡ numberDouble number «bit_count» x ⌝ }
 {
     match number {
-        Number::Integer { signed } => double_of_integer(signed, bit_count, x),
+        Number::Unsigned => unsigned_double(bit_count, x),
+        Number::Signed => signed_double(bit_count, x),
         Number::Float => float_bits(bit_count, x),
     }
 }
@@ -101,22 +100,26 @@ fn near_float(bit_count: u32, x: u64) -> u64
     NAN
 }
 
-// The double of a field that is near, where it is a number's
-fn near_double(record: &[u8], record_id_size: usize, channel: Channel) -> u64
-    requires { ⌜ Near (length (now «record»)) «record_id_size» (channelMeant channel) ⌝ }
+// The double of a field that eight bytes hold, where it is a number's
+fn near_double(
+    record: &[u8],
+    record_id_size: usize,
+    channel: Channel,
+    word: usize,
+    from: u32,
+) -> u64
+    requires { ⌜ Near (length (now «record»)) «record_id_size» (channelMeant channel) word from ⌝ }
     ensures { λ r. ⌜ r ≡ recordDouble (now («record» .entry)) «record_id_size» (channelMeant channel) ⌝ }
 {
-    let at = record_id_size + channel.byte_offset as usize;
-    let offset = channel.bit_offset as u32;
     let count = channel.bit_count;
     let data_type = channel.data_type;
     match data_type {
-        DataType::UnsignedIntegerLE => unsigned_double(count, near_le(record, at, offset, count)),
-        DataType::UnsignedIntegerBE => unsigned_double(count, near_be(record, at, offset, count)),
-        DataType::SignedIntegerLE => signed_double(count, near_le(record, at, offset, count)),
-        DataType::SignedIntegerBE => signed_double(count, near_be(record, at, offset, count)),
-        DataType::FloatLE => near_float(count, near_le(record, at, offset, count)),
-        DataType::FloatBE => near_float(count, near_be(record, at, offset, count)),
+        DataType::UnsignedIntegerLE => unsigned_double(count, near_le(record, word, from, count)),
+        DataType::UnsignedIntegerBE => unsigned_double(count, near_be(record, word, from, count)),
+        DataType::SignedIntegerLE => signed_double(count, near_le(record, word, from, count)),
+        DataType::SignedIntegerBE => signed_double(count, near_be(record, word, from, count)),
+        DataType::FloatLE => near_float(count, near_le(record, word, from, count)),
+        DataType::FloatBE => near_float(count, near_be(record, word, from, count)),
         _ => NAN,
     }
 }
@@ -130,7 +133,8 @@ pub fn decode_f64_from_record(record: &[u8], record_id_size: usize, channel: Cha
     let data_type = channel.data_type;
     let offset = channel.bit_offset;
     let count = channel.bit_count;
-    if !has_a_word(record.len(), record_id_size, channel.byte_offset) {
+    // There is no value then. A function that is called twice is not inlined, and keeps its registers off the short way.
+    if 7 < offset {
         return far_double(
             record,
             record_id_size,
@@ -143,10 +147,14 @@ pub fn decode_f64_from_record(record: &[u8], record_id_size: usize, channel: Cha
     if count == 0 {
         return NAN;
     }
-    if 7 < offset {
-        return NAN;
-    }
-    if 64 < offset as u64 + count as u64 {
+    let found = find_word(
+        record.len(),
+        record_id_size,
+        channel.byte_offset,
+        offset,
+        count,
+    );
+    let WordFound::At(word, from) = found else {
         return far_double(
             record,
             record_id_size,
@@ -155,6 +163,6 @@ pub fn decode_f64_from_record(record: &[u8], record_id_size: usize, channel: Cha
             channel.byte_offset,
             count,
         );
-    }
-    near_double(record, record_id_size, channel)
+    };
+    near_double(record, record_id_size, channel, word, from)
 }

@@ -6,7 +6,7 @@ ghost use lib.Dec.{ltb, eqb};
 ghost use Rattle.definitions.specs.Channel.{isNumber, isInteger, isFloating};
 ghost use Rattle.decoder.specs.Meaning.{channelMeant};
 ghost use Rattle.decoder.specs.Form.{formKind};
-ghost use Rattle.decoder.specs.Found.{valueAt, Found, fieldRefusal};
+ghost use Rattle.decoder.specs.Known.{valueAt, FieldTold};
 use crate::channel::Channel;
 use crate::form::Form;
 use crate::form::Number;
@@ -20,12 +20,13 @@ pub(crate) enum FieldFound {
 }
 
 impl FieldFound {
-    // What is handed on where there is no field
+    // Why there is no field. Only a refusal is asked, so the second arm is never taken.
     pub(crate) fn refusal(self) -> Refusal
-        ensures { λ r. ⌜ r ≡ fieldRefusal self ⌝ }
+        requires { ⌜ ((why : Refusal) × (self ≡ FieldFound.Refused why)) ⌝ }
+        ensures { λ r. ⌜ self ≡ FieldFound.Refused r ⌝ }
     {
         match self {
-            FieldFound::Refused(r) => r,
+            FieldFound::Refused(why) => why,
             FieldFound::Field { .. } => Refusal::NoValue,
         }
     }
@@ -56,7 +57,8 @@ fn is_over_a_word(form: Form, bit_count: u32) -> bool
         return false;
     };
     match number {
-        Number::Integer { .. } => 64 < bit_count,
+        Number::Unsigned => 64 < bit_count,
+        Number::Signed => 64 < bit_count,
         Number::Float => false,
     }
 }
@@ -77,7 +79,8 @@ pub(crate) fn is_no_float_width(form: Form, bit_count: u32) -> bool
         return false;
     };
     match number {
-        Number::Integer { .. } => false,
+        Number::Unsigned => false,
+        Number::Signed => false,
         Number::Float => !is_float_width(bit_count),
     }
 }
@@ -91,7 +94,7 @@ pub(crate) fn find_field(
     form: Form,
     channel: Channel,
 ) -> FieldFound
-    ensures { λ r. ⌜ Found (formKind form) (valueAt (formKind form) payload (now («record» .entry)) (skipped + «byte_offset») (channelMeant channel)) (now («record» .entry)) (channelMeant channel) r ⌝ }
+    ensures { λ r. ⌜ FieldTold (formKind form) (valueAt (formKind form) payload (now («record» .entry)) (skipped + «byte_offset») (channelMeant channel)) (now («record» .entry)) (channelMeant channel) r ⌝ }
 {
     if has_no_bits(form, channel.bit_count) {
         return FieldFound::Refused(Refusal::NoValue);

@@ -6,7 +6,8 @@ use blocks::DataType;
 use text::Encoding;
 
 pub(crate) enum Number {
-    Integer { signed: bool },
+    Unsigned,
+    Signed,
     Float,
 }
 
@@ -27,8 +28,8 @@ pub(crate) enum Form {
 pub(crate) fn form_of(data_type: DataType) -> Form
     ensures { λ r. ⌜ r ≡ formOf (typeMeant «data_type») ⌝ }
 {
-    let unsigned = Number::Integer { signed: false };
-    let signed = Number::Integer { signed: true };
+    let unsigned = Number::Unsigned;
+    let signed = Number::Signed;
     let little = false;
     let big = true;
     match data_type {

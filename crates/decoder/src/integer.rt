@@ -5,7 +5,7 @@ ghost use lib.Dec.{T};
 ghost use lib.Ieee.{binary64, inFloat};
 ghost use Rattle.definitions.specs.Ieee754.{doubleOf};
 ghost use Rattle.decoder.specs.Form.{numberDouble};
-ghost use Rattle.decoder.specs.Found.{Fitting};
+ghost use Rattle.decoder.specs.Known.{Fitting};
 use crate::form::Number;
 use doubles::double_of;
 use doubles::double_of_signed;
@@ -20,8 +20,8 @@ fn exact_double(n: i64) -> u64
 }
 
 pub(crate) fn unsigned_double(bit_count: u32, x: u64) -> u64
-    requires { ⌜ Fitting (Number.Integer false) «bit_count» x ⌝ }
-    ensures { λ r. ⌜ r ≡ numberDouble (Number.Integer false) «bit_count» x ⌝ }
+    requires { ⌜ Fitting Number.Unsigned «bit_count» x ⌝ }
+    ensures { λ r. ⌜ r ≡ numberDouble Number.Unsigned «bit_count» x ⌝ }
 {
     if bit_count <= 53 {
         return exact_double(x as i64);
@@ -30,22 +30,12 @@ pub(crate) fn unsigned_double(bit_count: u32, x: u64) -> u64
 }
 
 pub(crate) fn signed_double(bit_count: u32, x: u64) -> u64
-    requires { ⌜ Fitting (Number.Integer true) «bit_count» x ⌝ }
-    ensures { λ r. ⌜ r ≡ numberDouble (Number.Integer true) «bit_count» x ⌝ }
+    requires { ⌜ Fitting Number.Signed «bit_count» x ⌝ }
+    ensures { λ r. ⌜ r ≡ numberDouble Number.Signed «bit_count» x ⌝ }
 {
     let n = signed_of(x, bit_count);
     if bit_count <= 53 {
         return exact_double(n);
     }
     double_of_signed(n)
-}
-
-pub(crate) fn double_of_integer(signed: bool, bit_count: u32, x: u64) -> u64
-    requires { ⌜ Fitting (Number.Integer signed) «bit_count» x ⌝ }
-    ensures { λ r. ⌜ r ≡ numberDouble (Number.Integer signed) «bit_count» x ⌝ }
-{
-    if signed {
-        return signed_double(bit_count, x);
-    }
-    unsigned_double(bit_count, x)
 }

@@ -13,6 +13,7 @@ mod validity;
 mod value;
 
 pub use channel::Channel;
+pub use decode::any_valid_value;
 pub use decode::decode_channel_value;
 pub use decode::decode_channel_value_with_validity;
 pub use double::decode_f64_from_record;

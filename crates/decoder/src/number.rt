@@ -5,7 +5,7 @@ ghost use Rattle.definitions.specs.Bytes.{fieldAt};
 ghost use Rattle.definitions.specs.Channel.{doubleValue, floatBits};
 ghost use Rattle.decoder.specs.Meaning.{valueMeant};
 ghost use Rattle.decoder.specs.Form.{orderMeant, numberValue};
-ghost use Rattle.decoder.specs.Found.{Readable, Fitting};
+ghost use Rattle.decoder.specs.Known.{FieldBounds, Fitting};
 use crate::form::Number;
 use crate::value::DecodedValue;
 use doubles::value_of;
@@ -21,7 +21,7 @@ pub(crate) fn number_at(
     bit_offset: u32,
     bit_count: u32,
 ) -> u64
-    requires { ⌜ Readable (now «record») at «bit_offset» «bit_count» ⌝ }
+    requires { ⌜ FieldBounds (now «record») at «bit_offset» «bit_count» ⌝ }
     ensures { λ r. ⌜ r ≡ fieldAt (orderMeant «big_endian») (now («record» .entry)) at «bit_offset» «bit_count» ⌝ }
 {
     if big_endian {
@@ -50,22 +50,13 @@ fn float_of(bits: u64) -> DecodedValue
     }
 }
 
-fn integer_of(signed: bool, bit_count: u32, x: u64) -> DecodedValue
-    requires { ⌜ Fitting (Number.Integer signed) «bit_count» x ⌝ }
-    ensures { λ r. ⌜ valueMeant r ≡ numberValue (Number.Integer signed) «bit_count» x ⌝ }
-{
-    if signed {
-        return DecodedValue::SignedInteger(signed_of(x, bit_count));
-    }
-    DecodedValue::UnsignedInteger(x)
-}
-
 pub(crate) fn number_value(number: Number, bit_count: u32, x: u64) -> DecodedValue
     requires { ⌜ Fitting number «bit_count» x ⌝ }
     ensures { λ r. ⌜ valueMeant r ≡ numberValue number «bit_count» x ⌝ }
 {
     match number {
-        Number::Integer { signed } => integer_of(signed, bit_count, x),
+        Number::Unsigned => DecodedValue::UnsignedInteger(x),
+        Number::Signed => DecodedValue::SignedInteger(signed_of(x, bit_count)),
         Number::Float => float_of(float_bits(bit_count, x)),
     }
 }

@@ -26,7 +26,7 @@ impl ValueRead {
         ensures { λ r. ⌜ self ≡ ValueRead.Refused r ⌝ }
     {
         match self {
-            ValueRead::Refused(r) => r,
+            ValueRead::Refused(why) => why,
             ValueRead::Value(_) => Refusal::NoValue,
         }
     }
@@ -43,13 +43,13 @@ pub enum ValidValueRead {
 }
 
 impl ValidValueRead {
-    // the same
+    // The same of a value with its validity
     pub fn refusal(self) -> Refusal
         requires { ⌜ ((why : Refusal) × (self ≡ ValidValueRead.Refused why)) ⌝ }
         ensures { λ r. ⌜ self ≡ ValidValueRead.Refused r ⌝ }
     {
         match self {
-            ValidValueRead::Refused(r) => r,
+            ValidValueRead::Refused(why) => why,
             ValidValueRead::Value(_) => Refusal::NoValue,
         }
     }

@@ -5,6 +5,7 @@ mod sign;
 mod value;
 mod widening;
 
+pub use patterns::NAN;
 pub use round::double_of;
 pub use sign::double_of_sign;
 pub use sign::double_of_signed;

@@ -1,7 +1,8 @@
 // The patterns of doubles that stand for no number, and the parts of a pattern.
 pub(crate) const INFINITY: u64 = 0x7ff0_0000_0000_0000;
 
-pub(crate) const NAN: u64 = 0x7ff8_0000_0000_0000;
+// The NaN that stands for no value
+pub const NAN: u64 = 0x7ff8_0000_0000_0000;
 
 pub(crate) const SIGN: u64 = 0x8000_0000_0000_0000;
 

@@ -8,7 +8,7 @@ use chain::RecordRead;
 use chain::read_record;
 use decoder::Channel;
 use decoder::ValidValueRead;
-use decoder::decode_channel_value_with_validity;
+use decoder::any_valid_value;
 
 // The value and the validity are read from the record's bytes alone. A field that is refused leaves the record in the buffer.
 pub fn read_value(
@@ -28,5 +28,5 @@ pub fn read_value(
         return ValidValueRead::Refused(fetched.refusal());
     };
     let size = record_size as usize;
-    decode_channel_value_with_validity(&buffer[..size], record_id_size, data_bytes, channel)
+    any_valid_value(&buffer[..size], record_id_size, data_bytes, channel)
 }

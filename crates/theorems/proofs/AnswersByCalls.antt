@@ -10,7 +10,7 @@ use Rattle.definitions.specs.Unicode.{TextWritten, textOf}
 use Rattle.definitions.specs.DataList.{equal, variable}
 use Rattle.definitions.specs.Chain.{Block}
 use Rattle.definitions.specs.Accepted.{Accepted}
-use Rattle.theorems.specs.Sole.{Slice}
+use Rattle.mf4.specs.Clauses.{Slice}
 use Rattle.theorems.specs.Exactly.{Exactly, ListStands, ListFits, FieldStands, Joinable, Fetchable, ValueFetchable}
 use Rattle.theorems.specs.Clauses.{ReadsHeader, WritesHeader, ReadsList, WritesEqual, WritesVariable, WritesText, ReadsValue, ReadsValidValue, AcceptsChain, ReadsLength, ReadsRecord, ReadsRecordValue}
 use Rattle.theorems.proofs.Answers.{header-exactly, list-exactly, header-written-exactly, list-written-exactly, text-written-exactly, value-exactly, valid-value-exactly, total-exactly, length-exactly, fetched-exactly, value-fetched-exactly}

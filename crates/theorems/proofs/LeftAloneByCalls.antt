@@ -9,7 +9,7 @@ use Rattle.definitions.specs.Reply.{Reply, Outcome, answer, refusal}
 use Rattle.definitions.specs.DataList.{equal, variable}
 use Rattle.definitions.specs.Bytes.{span}
 use Rattle.definitions.specs.Chain.{joined}
-use Rattle.theorems.specs.Sole.{Slice}
+use Rattle.mf4.specs.Clauses.{Slice}
 use Rattle.theorems.specs.Exactly.{Fetchable}
 use Rattle.theorems.specs.Clauses.{WritesHeader, WritesEqual, WritesVariable, WritesText, ReadsRecord, ReadsRecordValue}
 use Rattle.theorems.proofs.LeftAlone.{SameBehind, untouched, Leaves, itself, countOf, header-leaves, list-leaves, text-leaves, fetch-leaves, value-spares, value-behind, value-holds}

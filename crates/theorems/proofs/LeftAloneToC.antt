@@ -18,10 +18,10 @@ use Rattle.mf4.specs.Values.{channelGiven, validValueC, fetchedC}
 use Rattle.mf4.specs.declared.header.Mf4BlockHeader.{Mf4BlockHeader}
 use Rattle.mf4.specs.declared.written.Mf4Written.{Mf4Written}
 use Rattle.mf4.specs.declared.texts.Mf4Text.{Mf4Text}
-use Rattle.mf4.specs.declared.values.Mf4Channel.{Mf4Channel}
-use Rattle.mf4.specs.declared.values.Mf4ValidValue.{Mf4ValidValue}
+use Rattle.mf4.specs.declared.channel.Mf4Channel.{Mf4Channel}
+use Rattle.mf4.specs.declared.valid_values.Mf4ValidValue.{Mf4ValidValue}
 use Rattle.mf4.specs.declared.fetches.Mf4Fetched.{Mf4Fetched}
-use Rattle.theorems.specs.Sole.{Slice}
+use Rattle.mf4.specs.Clauses.{Slice}
 use Rattle.theorems.specs.Exactly.{Fetchable}
 use Rattle.theorems.specs.ClausesToC.{WritesHeaderC, WritesEqualC, WritesVariableC, WritesTextC, ReadsRecordC, ReadsRecordValueC}
 use Rattle.theorems.proofs.TextClausesToC.{text-clause}

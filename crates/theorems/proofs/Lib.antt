@@ -20,6 +20,7 @@ pub mod LocalityByCalls
 pub mod RoundTripsInBuffers
 pub mod RoundTripsByCalls
 pub mod TextClausesToC
+pub mod ToldToC
 pub mod AnswersToC
 pub mod LeftAloneToC
 pub mod RoundTripsToC

@@ -1,27 +1,33 @@
--- Two records that agree on a fixed field give the same value and the same double: about each call's own clause.
-use mathlib.Core.Path.{_≡_, refl, sym, ap, _∙_}
+-- Two records that are alike in a fixed field give the same value and the same double, and with the invalidation bit the same
+-- validity: about each call's own clause.
+use mathlib.Core.Path.{_≡_, refl, sym, ap, ap₂, _∙_}
 use mathlib.Core.Bool.{Bool, true, false}
 use mathlib.Core.List.{List}
 use Prim.Native.Nat.{ℕ, _+_, _≤_, _<_}
 use contract.Lifetimes.{Lfts}
 use lib.ListN.{length, getD}
+use Rattle.definitions.specs.Reply.{Reply, answer, andThen}
 use Rattle.definitions.specs.Bytes.{bytesFor}
 use Rattle.definitions.specs.DataType.{kindOf}
-use Rattle.definitions.specs.Channel.{Channel, variableLength, spanIn, isNumber, valueOf, doubleIn, recordDouble}
+use Rattle.definitions.specs.Channel.{Channel, Value, variableLength, spanIn, isNumber, valueOf, validValueOf, doubleIn, recordDouble}
 use Rattle.words.proofs.Numbers.{Bytes}
 use Rattle.words.proofs.Locality.{recordBit}
 use Rattle.decoder.proofs.Locality.{orderOf, locality, content-locality}
+use Rattle.decoder.proofs.OneBit.{invalidationBitIn, one-bit}
 use Rattle.decoder.proofs.Doubles.{double-fixed}
-use Rattle.decoder.proofs.Back.{value-one}
+use Rattle.decoder.proofs.Back.{value-one, valid-value-one}
 use Rattle.decoder.specs.Meaning.{channelMeant}
 use Rattle.decoder.specs.declared.channel.Channel.{Channel as Description}
 use Rattle.decoder.specs.declared.value.ValueRead.{ValueRead}
-use Rattle.theorems.specs.Sole.{Slice}
-use Rattle.theorems.specs.Clauses.{ReadsValue, ReadsDouble}
-use Rattle.theorems.specs.ClausesToC.{ReadsValueC, ReadsDoubleC}
-use Rattle.mf4.specs.Values.{channelGiven, valueC}
-use Rattle.mf4.specs.declared.values.Mf4Channel.{Mf4Channel}
+use Rattle.decoder.specs.declared.value.ValidValueRead.{ValidValueRead}
+use Rattle.mf4.specs.Clauses.{Slice}
+use Rattle.theorems.specs.Clauses.{ReadsValue, ReadsValidValue, ChecksValidity, ReadsDouble}
+use Rattle.theorems.specs.ClausesToC.{ReadsValueC, ReadsValidValueC, ChecksValidityC, ReadsDoubleC}
+use Rattle.mf4.specs.Replies.{flagC}
+use Rattle.mf4.specs.Values.{channelGiven, valueC, validValueC}
+use Rattle.mf4.specs.declared.channel.Mf4Channel.{Mf4Channel}
 use Rattle.mf4.specs.declared.values.Mf4Value.{Mf4Value}
+use Rattle.mf4.specs.declared.valid_values.Mf4ValidValue.{Mf4ValidValue}
 
 -- records of one length, that hold a fixed field's bits alike, or its bytes where it is no number
 pub record Alike (s t : List ℕ) (idSize : ℕ) (c : Channel) : Type 0 where
@@ -45,12 +51,29 @@ module _ (s t : List ℕ) (idSize : ℕ) (c : Channel) (h : Alike s t idSize c) 
   pub same-double : recordDouble s idSize c ≡ recordDouble t idSize c
   same-double = sym (double-fixed s idSize c (h .fixed)) ∙ ap doubleIn same-value ∙ double-fixed t idSize c (h .fixed)
 
+  -- with the invalidation bit alike, the value with its validity
+  pub same-valid-value : (dataBytes : ℕ) → invalidationBitIn s idSize dataBytes c ≡ invalidationBitIn t idSize dataBytes c
+      → validValueOf s idSize dataBytes c ≡ validValueOf t idSize dataBytes c
+  unfolding validValueOf
+  same-valid-value dataBytes e =
+      ap₂ (λ (r : Reply Value) (b : Bool). andThen r (λ v. answer (record { value = v; valid = b }))) same-value (one-bit s t idSize dataBytes c e)
+
 module _ (κs : Lfts 1) (s t : Slice) (idSize : ℕ) (channel : Description) (h : Alike (s .now) (t .now) idSize (channelMeant channel)) where
   pub value-read-alike : (y z : ValueRead) → ReadsValue κs s idSize channel y → ReadsValue κs t idSize channel z → y ≡ z
   value-read-alike y z p q = value-one y z (p ∙ same-value (s .now) (t .now) idSize (channelMeant channel) h ∙ sym q)
 
   pub double-read-alike : (y z : ℕ) → ReadsDouble κs s idSize channel y → ReadsDouble κs t idSize channel z → y ≡ z
   double-read-alike y z p q = p ∙ same-double (s .now) (t .now) idSize (channelMeant channel) h ∙ sym q
+
+  pub valid-value-read-alike : (dataBytes : ℕ) → invalidationBitIn (s .now) idSize dataBytes (channelMeant channel) ≡ invalidationBitIn (t .now) idSize dataBytes (channelMeant channel)
+      → (y z : ValidValueRead) → ReadsValidValue κs s idSize dataBytes channel y → ReadsValidValue κs t idSize dataBytes channel z → y ≡ z
+  valid-value-read-alike dataBytes e y z p q = valid-value-one y z (p ∙ same-valid-value (s .now) (t .now) idSize (channelMeant channel) h dataBytes e ∙ sym q)
+
+-- validity alone reads that one bit
+pub validity-alike : (κs : Lfts 1) (s t : Slice) (idSize dataBytes : ℕ) (channel : Description)
+    → invalidationBitIn (s .now) idSize dataBytes (channelMeant channel) ≡ invalidationBitIn (t .now) idSize dataBytes (channelMeant channel)
+    → (y z : Bool) → ChecksValidity κs s idSize dataBytes channel y → ChecksValidity κs t idSize dataBytes channel z → y ≡ z
+validity-alike κs s t idSize dataBytes channel e y z p q = p ∙ one-bit (s .now) (t .now) idSize dataBytes (channelMeant channel) e ∙ sym q
 
 -- ---- for C
 
@@ -60,3 +83,14 @@ module _ (κs : Lfts 1) (s t : Slice) (idSize : ℕ) (channel : Mf4Channel) (h :
 
   pub mf4-decode-double-alike : (y z : ℕ) → ReadsDoubleC κs s idSize channel y → ReadsDoubleC κs t idSize channel z → y ≡ z
   mf4-decode-double-alike y z p q = p ∙ same-double (s .now) (t .now) idSize (channelGiven channel) h ∙ sym q
+
+  pub mf4-decode-valid-value-alike : (dataBytes : ℕ) → invalidationBitIn (s .now) idSize dataBytes (channelGiven channel) ≡ invalidationBitIn (t .now) idSize dataBytes (channelGiven channel)
+      → (y z : Mf4ValidValue) → ReadsValidValueC κs s idSize dataBytes channel y → ReadsValidValueC κs t idSize dataBytes channel z → y ≡ z
+  mf4-decode-valid-value-alike dataBytes e y z p q =
+      p ∙ ap validValueC (same-valid-value (s .now) (t .now) idSize (channelGiven channel) h dataBytes e) ∙ sym q
+
+pub mf4-check-validity-alike : (κs : Lfts 1) (s t : Slice) (idSize dataBytes : ℕ) (channel : Mf4Channel)
+    → invalidationBitIn (s .now) idSize dataBytes (channelGiven channel) ≡ invalidationBitIn (t .now) idSize dataBytes (channelGiven channel)
+    → (y z : ℕ) → ChecksValidityC κs s idSize dataBytes channel y → ChecksValidityC κs t idSize dataBytes channel z → y ≡ z
+mf4-check-validity-alike κs s t idSize dataBytes channel e y z p q =
+    p ∙ ap flagC (one-bit (s .now) (t .now) idSize dataBytes (channelGiven channel) e) ∙ sym q

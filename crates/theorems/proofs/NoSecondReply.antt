@@ -8,7 +8,8 @@ use denote.Triple.Clauses.{Lasts}
 use borrow.Fn.Kind.{PK, RK}
 use borrow.Fn.Kinds.{Out, Dens, resT, endedOf}
 use Rattle.definitions.specs.Reply.{Reply, Outcome}
-use Rattle.theorems.specs.Sole.{Allows, Settled}
+use Rattle.mf4.specs.Clauses.{Allows}
+use Rattle.theorems.specs.Sole.{Settled}
 use Rattle.blocks.specs.Meaning.{writtenReply}
 use Rattle.text.specs.Meaning.{textReply}
 use Rattle.decoder.specs.Meaning.{validValueReply}

@@ -12,7 +12,7 @@ use Rattle.blocks.specs.declared.header.BlockHeader.{BlockHeader}
 use Rattle.blocks.specs.declared.header.HeaderRead.{HeaderRead}
 use Rattle.blocks.specs.declared.data_list.ListRead.{ListRead}
 use Rattle.blocks.specs.declared.written.Written.{Written}
-use Rattle.theorems.specs.Sole.{Slice}
+use Rattle.mf4.specs.Clauses.{Slice}
 use Rattle.theorems.specs.Clauses.{ReadsHeader, WritesHeader, ReadsList, WritesEqual, WritesVariable}
 use Rattle.theorems.proofs.Rewritten.{Words}
 use Rattle.theorems.proofs.HeaderRoundTrip.{Fits}

@@ -7,7 +7,7 @@ use Rattle.definitions.specs.Bytes.{little, big}
 use Rattle.definitions.specs.Unicode.{Encoding, latin1, utf8, utf16, textWritten}
 use Rattle.mf4.specs.Replies.{returned, returnedBy, textC}
 use Rattle.mf4.specs.declared.texts.Mf4Text.{Mf4Text}
-use Rattle.theorems.specs.Sole.{Slice}
+use Rattle.mf4.specs.Clauses.{Slice}
 use Rattle.theorems.specs.ClausesToC.{WritesTextC}
 
 pub text-clause : (e : Encoding) (κs : Lfts 2) (bytes out : Slice) (y : Mf4Text) (after : List ℕ) → WritesTextC e κs bytes out y after

@@ -22,9 +22,9 @@ use Rattle.mf4.specs.Replies.{Returned, returned, returnedBy}
 use Rattle.mf4.specs.Values.{channelGiven, validValueC, lengthC, fetchedC}
 use Rattle.mf4.specs.declared.fetches.Mf4Length.{Mf4Length}
 use Rattle.mf4.specs.declared.fetches.Mf4Fetched.{Mf4Fetched}
-use Rattle.mf4.specs.declared.values.Mf4Channel.{Mf4Channel}
-use Rattle.mf4.specs.declared.values.Mf4ValidValue.{Mf4ValidValue}
-use Rattle.theorems.specs.Sole.{Slice}
+use Rattle.mf4.specs.declared.channel.Mf4Channel.{Mf4Channel}
+use Rattle.mf4.specs.declared.valid_values.Mf4ValidValue.{Mf4ValidValue}
+use Rattle.mf4.specs.Clauses.{Slice}
 use Rattle.theorems.specs.Clauses.{ReadsLength, ReadsRecord, ReadsRecordValue}
 use Rattle.theorems.specs.ClausesToC.{ReadsLengthC, ReadsRecordC, ReadsRecordValueC}
 use Rattle.theorems.proofs.TwoFiles.{Joins, recordIn, valueIn, length-of-joined, record-of-joined, value-of-joined}

@@ -2,8 +2,9 @@
 -- what the buffer holds afterwards.
 use Prim.Native.Nat.{ℕ}
 use mathlib.Core.List.{List}
+use mathlib.Core.Bool.{Bool}
 use contract.Lifetimes.{Lfts}
-use Rattle.theorems.specs.Sole.{Slice, Allows}
+use Rattle.mf4.specs.Clauses.{Slice, Allows}
 use Rattle.blocks.specs.declared.header.BlockHeader.{BlockHeader}
 use Rattle.blocks.specs.declared.header.HeaderRead.{HeaderRead}
 use Rattle.blocks.specs.declared.data_list.ListRead.{ListRead}
@@ -32,6 +33,8 @@ use Rattle.decoder.proofs.decode_channel_value.Kinds as value-read-kinds
 use Rattle.decoder.proofs.decode_channel_value.Reads as value-read
 use Rattle.decoder.proofs.decode_channel_value_with_validity.Kinds as valid-value-read-kinds
 use Rattle.decoder.proofs.decode_channel_value_with_validity.Reads as valid-value-read
+use Rattle.decoder.proofs.check_value_validity.Kinds as validity-kinds
+use Rattle.decoder.proofs.check_value_validity.Reads as validity
 use Rattle.decoder.proofs.decode_f64_from_record.Kinds as record-double-kinds
 use Rattle.decoder.proofs.decode_f64_from_record.Reads as record-double
 use Rattle.chain.proofs.accept.Kinds as chain-accept-kinds
@@ -77,6 +80,10 @@ ReadsValue κs bytes idSize channel y =
 abbrev pub ReadsValidValue : Lfts 1 → Slice → ℕ → ℕ → Channel → ValidValueRead → Type 0
 ReadsValidValue κs bytes idSize dataBytes channel y =
     Allows 1 valid-value-read-kinds.ps valid-value-read-kinds.r valid-value-read.Learnt κs (bytes, (idSize, (dataBytes, (channel, tt)))) y (tt, (tt, (tt, (tt, tt))))
+
+abbrev pub ChecksValidity : Lfts 1 → Slice → ℕ → ℕ → Channel → Bool → Type 0
+ChecksValidity κs bytes idSize dataBytes channel y =
+    Allows 1 validity-kinds.ps validity-kinds.r validity.Learnt κs (bytes, (idSize, (dataBytes, (channel, tt)))) y (tt, (tt, (tt, (tt, tt))))
 
 abbrev pub ReadsDouble : Lfts 1 → Slice → ℕ → Channel → ℕ → Type 0
 ReadsDouble κs bytes idSize channel y =

@@ -5,15 +5,15 @@ use mathlib.Core.List.{List}
 use contract.Lifetimes.{Lfts}
 use Rattle.definitions.specs.Bytes.{little, big}
 use Rattle.definitions.specs.Unicode.{Encoding, latin1, utf8, utf16}
-use Rattle.theorems.specs.Sole.{Slice, Allows}
+use Rattle.mf4.specs.Clauses.{Slice, Allows}
 use Rattle.mf4.specs.declared.header.Mf4BlockHeader.{Mf4BlockHeader}
 use Rattle.mf4.specs.declared.header.Mf4Header.{Mf4Header}
 use Rattle.mf4.specs.declared.list.Mf4List.{Mf4List}
 use Rattle.mf4.specs.declared.written.Mf4Written.{Mf4Written}
 use Rattle.mf4.specs.declared.texts.Mf4Text.{Mf4Text}
-use Rattle.mf4.specs.declared.values.Mf4Channel.{Mf4Channel}
+use Rattle.mf4.specs.declared.channel.Mf4Channel.{Mf4Channel}
 use Rattle.mf4.specs.declared.values.Mf4Value.{Mf4Value}
-use Rattle.mf4.specs.declared.values.Mf4ValidValue.{Mf4ValidValue}
+use Rattle.mf4.specs.declared.valid_values.Mf4ValidValue.{Mf4ValidValue}
 use Rattle.mf4.specs.declared.fetches.Mf4Length.{Mf4Length}
 use Rattle.mf4.specs.declared.fetches.Mf4Fetched.{Mf4Fetched}
 use Rattle.mf4.proofs.mf4_read_header.Kinds as read-header-kinds
@@ -38,6 +38,8 @@ use Rattle.mf4.proofs.mf4_decode_value.Kinds as decode-value-kinds
 use Rattle.mf4.proofs.mf4_decode_value.Reads as decode-value
 use Rattle.mf4.proofs.mf4_decode_valid_value.Kinds as decode-valid-value-kinds
 use Rattle.mf4.proofs.mf4_decode_valid_value.Reads as decode-valid-value
+use Rattle.mf4.proofs.mf4_check_validity.Kinds as check-validity-kinds
+use Rattle.mf4.proofs.mf4_check_validity.Reads as check-validity
 use Rattle.mf4.proofs.mf4_decode_double.Kinds as decode-double-kinds
 use Rattle.mf4.proofs.mf4_decode_double.Reads as decode-double
 use Rattle.mf4.proofs.mf4_data_length.Kinds as data-length-kinds
@@ -83,6 +85,10 @@ ReadsValueC κs bytes idSize channel y =
 abbrev pub ReadsValidValueC : Lfts 1 → Slice → ℕ → ℕ → Mf4Channel → Mf4ValidValue → Type 0
 ReadsValidValueC κs bytes idSize dataBytes channel y =
     Allows 1 decode-valid-value-kinds.ps decode-valid-value-kinds.r decode-valid-value.Learnt κs (bytes, (idSize, (dataBytes, (channel, tt)))) y (tt, (tt, (tt, (tt, tt))))
+
+abbrev pub ChecksValidityC : Lfts 1 → Slice → ℕ → ℕ → Mf4Channel → ℕ → Type 0
+ChecksValidityC κs bytes idSize dataBytes channel y =
+    Allows 1 check-validity-kinds.ps check-validity-kinds.r check-validity.Learnt κs (bytes, (idSize, (dataBytes, (channel, tt)))) y (tt, (tt, (tt, (tt, tt))))
 
 abbrev pub ReadsDoubleC : Lfts 1 → Slice → ℕ → Mf4Channel → ℕ → Type 0
 ReadsDoubleC κs bytes idSize channel y =

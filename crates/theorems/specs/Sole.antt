@@ -6,24 +6,16 @@ use mathlib.Core.Path.{_≡_}
 use mathlib.Core.List.{List}
 use contract.Lifetimes.{Lfts}
 use contract.Monad.{fact}
-use denote.Ref.{RefT}
-use denote.Triple.Clauses.{Lasts, AtExit, atExit}
+use denote.Triple.Clauses.{Lasts, AtExit}
 use borrow.Fn.Kind.{PK, RK}
 use borrow.Fn.Kinds.{In, Out, Dens, resT, endedOf}
 use borrow.Fn.World.{World, Pr}
-
--- a lent slice: `now` is what it holds
-abbrev pub Slice : Type 0
-Slice = RefT (List ℕ)
+use Rattle.mf4.specs.Clauses.{Allows}
 
 -- a call with n lent references, parameters ps and result r
 module _ (n : ℕ) (ps : List (PK n)) (r : RK n) where
   abbrev pub Clause : Type 2
   Clause = (κs : Lfts n) → Dens κs ps → Unit {0} → resT r κs .Denot → AtExit (endedOf n ps r) κs → (w : World) → Pr w
-
-  -- the clause `learnt` allows the result y with the contents b of the lent buffers at exit
-  abbrev pub Allows : Out n ps r → (κs : Lfts n) (a : Dens κs ps) → resT r κs .Denot → Lasts (endedOf n ps r) κs a → Type 0
-  Allows learnt κs a y b = learnt κs a y (atExit (endedOf n ps r) κs a b)
 
   pub record Settled (asked : In n ps) (ensures : Clause) (learnt : Out n ps r) : Type 2 where
     -- nothing is asked of the caller
@@ -33,5 +25,5 @@ module _ (n : ℕ) (ps : List (PK n)) (r : RK n) where
         → ensures κs a tt y e w ≡ fact (w .𝓤) (learnt κs a y e)
     -- two results, each with the contents of every lent buffer at exit, that it allows are the same
     pub sole : (κs : Lfts n) (a : Dens κs ps) (y z : resT r κs .Denot) (b c : Lasts (endedOf n ps r) κs a)
-        → Allows learnt κs a y b → Allows learnt κs a z c
+        → Allows n ps r learnt κs a y b → Allows n ps r learnt κs a z c
         → (y ≡ z) × (b ≡ c)

@@ -1,7 +1,7 @@
 -- The bits of a number, and its fields.
 use mathlib.Core.Path.{_≡_, sym, ap, ap₂, _∙_}
 use Prim.Native.Nat.{ℕ, zero, suc, _+_, _-_, _*_, _/_, _%_, _^_, _≤_, _<_}
-use native.Mathlib.Nat.{mod-one, mod-lt, mod-mod, mul-add-mod-self-right}
+use native.Mathlib.Nat.{mod-one, mod-lt, mul-add-mod-self-right}
 use native.Mathlib.Numerals.{one-add}
 use native.Mathlib.Omega.{arith}
 use lib.Pow.{pow-pos, mod-pow-add, shr-shr, field, mod-mod-pow}
@@ -41,9 +41,3 @@ by-bits x y offset (suc count) h =
     field-suc x offset count
     ∙ ap₂ (λ (b f : ℕ). b * 2 ^ count + f) (h (offset + count) (omega arith) (omega arith)) (by-bits x y offset count (λ k lo hi. h k lo (omega arith)))
     ∙ sym (field-suc y offset count)
-
--- and determines them
-pub bit-of-field : (x offset count k : ℕ) → k < count → bit (bits x offset count) k ≡ bit x (offset + k)
-bit-of-field x offset count k h =
-    agree (x / 2 ^ offset % 2 ^ count) (x / 2 ^ offset) k 1 count (omega arith) (mod-mod (x / 2 ^ offset) (2 ^ count))
-    ∙ ap (λ (z : ℕ). z % 2) (shr-shr x offset k)

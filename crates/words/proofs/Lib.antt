@@ -1,6 +1,7 @@
 -- The laws of bytes, words and fields, for the proofs here and in the crates above.
 pub mod Numbers
 pub mod Spans
+pub mod ByteOrder
 pub mod Bits
 pub mod Locality
 pub mod Stores

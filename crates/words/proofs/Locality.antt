@@ -11,7 +11,7 @@ use lib.Pow.{shr-shr, high}
 use Rattle.definitions.specs.Bytes.{Order, little, big, leOf, numberOf, span, bit, bytesFor, byteWith, fieldAt}
 use Rattle.words.proofs.Numbers.{Bytes, bytes-reverse}
 use Rattle.words.proofs.Spans.{bytes-span, length-span, getD-span}
-use Rattle.words.proofs.Bits.{above, by-bits, bit-of-field}
+use Rattle.words.proofs.Bits.{above, by-bits}
 
 le-bit : (bs : List ℕ) (q r : ℕ) → r < 8 → Bytes bs → bit (leOf bs) (8 * q + r) ≡ bit (getD bs q 0) r
 unfolding leOf
@@ -41,7 +41,7 @@ byte-inside little n k h = omega arith
 byte-inside big n k h = omega arith
 
 -- bit k of the number of some bytes is a bit of one of them
-pub number-bit : (o : Order) (bs : List ℕ) (k : ℕ) → Bytes bs → k < 8 * length bs
+number-bit : (o : Order) (bs : List ℕ) (k : ℕ) → Bytes bs → k < 8 * length bs
     → bit (numberOf o bs) k ≡ bit (getD bs (byteWith o (length bs) k) 0) (k % 8)
 number-bit little bs k b h =
     ap (bit (leOf bs)) {x = k} {y = 8 * (k / 8) + k % 8} (omega arith) ∙ le-bit bs (k / 8) (k % 8) (omega arith) b
@@ -53,20 +53,13 @@ number-bit big bs k b h =
 abbrev pub recordBit : Order → List ℕ → ℕ → ℕ → ℕ → ℕ
 recordBit o s at n k = bit (getD s (at + byteWith o n k) 0) (k % 8)
 
-pub span-bit : (o : Order) (s : List ℕ) (at n k : ℕ) → Bytes s → at + n ≤ length s → k < 8 * n
+span-bit : (o : Order) (s : List ℕ) (at n k : ℕ) → Bytes s → at + n ≤ length s → k < 8 * n
     → bit (numberOf o (span s at n)) k ≡ recordBit o s at n k
 span-bit o s at n k b h l =
     let e : length (span s at n) ≡ n = length-span s at n h in
     number-bit o (span s at n) k (bytes-span s at n b) (omega arith)
     ∙ ap (λ (m : ℕ). bit (getD (span s at n) (byteWith o m k) 0) (k % 8)) e
     ∙ ap (λ (x : ℕ). bit x (k % 8)) (getD-span s at n (byteWith o n k) (byte-inside o n k l))
-
--- bit k of a field is bit offset + k of the record
-pub field-bit : (o : Order) (s : List ℕ) (at offset count k : ℕ) → Bytes s → at + bytesFor offset count ≤ length s → k < count
-    → bit (fieldAt o s at offset count) k ≡ recordBit o s at (bytesFor offset count) (offset + k)
-field-bit o s at offset count k b h l =
-    bit-of-field (numberOf o (span s at (bytesFor offset count))) offset count k l
-    ∙ span-bit o s at (bytesFor offset count) (offset + k) b h (omega arith)
 
 -- records that agree at a field's bits have the same field
 pub locality : (o : Order) (s t : List ℕ) (at offset count : ℕ) → Bytes s → Bytes t
@@ -78,15 +71,3 @@ locality o s t at offset count bs bt hs ht same =
     let n : ℕ = bytesFor offset count in
     by-bits (numberOf o (span s at n)) (numberOf o (span t at n)) offset count
     (λ k lo hi. span-bit o s at n k bs hs (omega arith) ∙ same k lo hi ∙ sym (span-bit o t at n k bt ht (omega arith)))
-
--- and records with the same field agree at its bits
-pub locality-back : (o : Order) (s t : List ℕ) (at offset count : ℕ) → Bytes s → Bytes t
-    → at + bytesFor offset count ≤ length s → at + bytesFor offset count ≤ length t
-    → fieldAt o s at offset count ≡ fieldAt o t at offset count
-    → (k : ℕ) → offset ≤ k → k < offset + count
-    → recordBit o s at (bytesFor offset count) k ≡ recordBit o t at (bytesFor offset count) k
-locality-back o s t at offset count bs bt hs ht same k lo hi =
-    let j : ℕ = k - offset in
-    let e : k ≡ offset + j = omega arith in
-    let l : j < count = omega arith in
-    rw e (sym (field-bit o s at offset count j bs hs l) ∙ ap (λ (x : ℕ). bit x j) same ∙ field-bit o t at offset count j bt ht l)

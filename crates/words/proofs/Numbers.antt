@@ -2,7 +2,7 @@
 use mathlib.Core.Path.{_≡_, refl, sym, ap, ap₂, _∙_}
 use mathlib.Core.List.{List, [], _∷_, _++_, reverse, reverse-cons, reverse-append}
 use Prim.Native.Nat.{ℕ, zero, suc, _+_, _*_, _/_, _%_, _^_, _<_}
-use native.Mathlib.Nat.{mul-suc, mod-one, mod-eq-of-lt, mod-lt}
+use native.Mathlib.Nat.{mul-suc, mod-one, mod-lt}
 use native.Mathlib.Omega.{arith}
 use lib.ListN.{length, getD, length-append, length-reverse}
 use lib.Arith.{digits-lt}
@@ -23,7 +23,7 @@ upper little x y = y
 upper big x y = x
 
 -- one byte more of weight
-up : (n : ℕ) → 2 ^ (8 * suc n) ≡ 2 ^ (8 * n) * 256
+pub up : (n : ℕ) → 2 ^ (8 * suc n) ≡ 2 ^ (8 * n) * 256
 up n = ap (λ (k : ℕ). 2 ^ k) (mul-suc 8 n) ∙ pow-add 2 (8 * n) 8
 
 le-append : (xs ys : List ℕ) → leOf (xs ++ ys) ≡ leOf ys * 2 ^ (8 * length xs) + leOf xs
@@ -37,7 +37,7 @@ pub append : (o : Order) (xs ys : List ℕ)
 append little xs ys = le-append xs ys
 append big xs ys = rw (reverse-append, le-append, length-reverse)
 
-pub bytes-append : (xs ys : List ℕ) → Bytes xs → Bytes ys → Bytes (xs ++ ys)
+bytes-append : (xs ys : List ℕ) → Bytes xs → Bytes ys → Bytes (xs ++ ys)
 bytes-append [] ys a b i = b i
 bytes-append (x ∷ xs) ys a b zero = a zero
 bytes-append (x ∷ xs) ys a b (suc i) = bytes-append xs ys (λ j. a (suc j)) b i
@@ -83,10 +83,6 @@ unfolding leOf le
 le-back zero x = sym (mod-one x)
 le-back (suc n) x =
     rw (le-back n (x / 256)) (sym (ap (λ (k : ℕ). x % 2 ^ k) (mul-suc 8 n) ∙ mod-pow-add x (8 * n) 8))
-
--- so it is the number itself where that fits
-pub le-same : (n x : ℕ) → x < 2 ^ (8 * n) → leOf (le n x) ≡ x
-le-same n x h = le-back n x ∙ mod-eq-of-lt h
 
 -- the bytes of the number of some bytes are these
 pub back-le : (bs : List ℕ) → Bytes bs → le (length bs) (leOf bs) ≡ bs

@@ -30,7 +30,7 @@ turn-number out xs at i h new =
     rw (new, e, add-one, drop-cons xs i 0) (sym (sets-append out (at + i * 8) (le 8 x) (les (drop (suc i) xs))))
 
 -- what was stored is there
-pub span-sets : (l bs : List ℕ) (at : ℕ) → at + length bs ≤ length l → span (sets l at bs) at (length bs) ≡ bs
+span-sets : (l bs : List ℕ) (at : ℕ) → at + length bs ≤ length l → span (sets l at bs) at (length bs) ≡ bs
 span-sets l bs at h =
     rw (sets-eq bs l at h, append-assoc, drop-at (take at l) (bs ++ drop (at + length bs) l) at (length-take-le at l (omega arith)))
     (take-at bs (drop (at + length bs) l) (length bs) refl)

@@ -1,47 +1,68 @@
 -- The ways to a field: r is what is cut from the word, or the word and the byte, that a way reads.
 use mathlib.Core.Path.{_≡_, sym, ap, ap₂, _∙_}
 use mathlib.Core.List.{List}
-use Prim.Native.Nat.{ℕ, _+_, _-_, _*_, _/_, _%_, _^_, _≤_}
+use Prim.Native.Nat.{ℕ, _+_, _-_, _*_, _/_, _%_, _^_, _≤_, _<_}
 use native.Mathlib.Omega.{arith}
 use lib.ListN.{length, getD}
 use lib.Pow.{high, shr-shr}
-use Rattle.definitions.specs.Bytes.{Order, little, big, leOf, numberOf, span, bits, bytesFor, fieldAt}
+use Rattle.definitions.specs.Bytes.{Order, little, big, numberOf, span, bits, bytesFor, fieldAt}
 use Rattle.words.proofs.Numbers.{Bytes, lower, upper}
 use Rattle.words.proofs.Spans.{split, more, span-below}
 use Rattle.words.proofs.Bits.{above}
 
--- where in a word of eight bytes the field begins of which n hold it: behind the bytes that weigh less
-abbrev pub shiftIn : Order → ℕ → ℕ → ℕ
-shiftIn little n offset = offset
-shiftIn big n offset = 64 - n * 8 + offset
+-- of two spans that stand side by side, the lower one's bits stand below
+module _ (o : Order) (s : List ℕ) (p n m offset count : ℕ) (room : p + n + m ≤ length s) where
+  abbrev parts : (Order → List ℕ → List ℕ → List ℕ) → List ℕ
+  parts part = part o (span s p n) (span s (p + n) m)
 
-module _ (s : List ℕ) (p n offset count : ℕ) (room : p + 8 ≤ length s) (few : n ≤ 8) where
-  eight : (o : Order) → numberOf o (span s p 8)
-      ≡ numberOf o (upper o (span s p n) (span s (p + n) (8 - n))) * 2 ^ (8 * lower o n (8 - n)) + numberOf o (lower o (span s p n) (span s (p + n) (8 - n)))
-  eight o = ap (λ (m : ℕ). numberOf o (span s p m)) {x = 8} {y = n + (8 - n)} (omega arith) ∙ split o s p n (8 - n) (omega arith)
+  of-lower : offset + count ≤ 8 * lower o n m → bits (numberOf o (span s p (n + m))) offset count ≡ bits (numberOf o (parts lower)) offset count
+  of-lower ends = ap (λ (x : ℕ). bits x offset count) (split o s p n m room) ∙ above (numberOf o (parts upper)) (numberOf o (parts lower)) offset count (8 * lower o n m) ends
 
-  -- the field of n bytes, from the word of all eight
-  in-word : (o : Order) → Bytes s → offset + count ≤ 8 * n
-      → bits (numberOf o (span s p 8)) (shiftIn o n offset) count ≡ bits (numberOf o (span s p n)) offset count
-  in-word little b ends =
-      ap (λ (x : ℕ). bits x offset count) (eight little) ∙ above (leOf (span s (p + n) (8 - n))) (leOf (span s p n)) offset count (8 * n) ends
-  in-word big b ends =
-      let e : 64 - n * 8 ≡ 8 * (8 - n) = omega arith in
+  lower-below : (o' : Order) → Bytes s → numberOf o' (lower o' (span s p n) (span s (p + n) m)) < 2 ^ (8 * lower o' n m)
+  lower-below little b = span-below little s p n b (omega arith)
+  lower-below big b = span-below big s (p + n) m b room
+
+  of-upper : Bytes s → bits (numberOf o (span s p (n + m))) (8 * lower o n m + offset) count ≡ bits (numberOf o (parts upper)) offset count
+  of-upper b =
       ap (λ (x : ℕ). x % 2 ^ count)
-      (sym (shr-shr (numberOf big (span s p 8)) (64 - n * 8) offset)
+      (sym (shr-shr (numberOf o (span s p (n + m))) (8 * lower o n m) offset)
       ∙ ap (λ (x : ℕ). x / 2 ^ offset)
-      (ap₂ (λ (x k : ℕ). x / 2 ^ k) (eight big) e
-      ∙ high (numberOf big (span s p n)) (8 * (8 - n)) (span-below big s (p + n) (8 - n) b (omega arith))))
+      (ap (λ (x : ℕ). x / 2 ^ (8 * lower o n m)) (split o s p n m room) ∙ high (numberOf o (parts upper)) (8 * lower o n m) (lower-below o b)))
 
-module _ (o : Order) (s : List ℕ) (p offset count : ℕ) {r word : ℕ} where
-  pub near : r ≡ bits word (shiftIn o (bytesFor offset count) offset) count → word ≡ numberOf o (span s p 8)
-      → Bytes s → p + 8 ≤ length s → bytesFor offset count ≤ 8 → r ≡ fieldAt o s p offset count
-  near er ew b room few =
-      er ∙ ap (λ (x : ℕ). bits x (shiftIn o (bytesFor offset count) offset) count) ew
-      ∙ in-word s p (bytesFor offset count) offset count room few o b (omega arith)
+-- the field of the n bytes between a bytes before them and b after them: what weighs less is shifted out
+inner : (o : Order) (s : List ℕ) (p a n b offset count : ℕ) → Bytes s → p + (a + (n + b)) ≤ length s → offset + count ≤ 8 * n
+    → bits (numberOf o (span s p (a + (n + b)))) (8 * lower o a b + offset) count ≡ bits (numberOf o (span s (p + a) n)) offset count
+inner little s p a n b offset count bs room ends =
+    of-upper little s p a (n + b) offset count (omega arith) bs ∙ of-lower little s (p + a) n b offset count (omega arith) ends
+inner big s p a n b offset count bs room ends =
+    of-lower big s p a (n + b) (8 * b + offset) count (omega arith) (omega arith) ∙ of-upper big s (p + a) n b offset count (omega arith) bs
 
-  pub far : {byte : ℕ} → r ≡ bits (byte * 2 ^ 64 + word) offset count → byte ≡ getD s (upper o p (p + 8)) 0
+module _ (o : Order) (s : List ℕ) (p count : ℕ) {r word : ℕ} where
+  -- by the word at p, for the field at one of its bits
+  pub near : (from : ℕ) → r ≡ bits word (8 * lower o (from / 8) (8 - from / 8 - bytesFor (from % 8) count) + from % 8) count → word ≡ numberOf o (span s p 8)
+      → Bytes s → from + count ≤ 64 → p + 8 ≤ length s → r ≡ fieldAt o s (p + from / 8) (from % 8) count
+  near from er ew bs to room =
+      let a : ℕ = from / 8 in
+      let n : ℕ = bytesFor (from % 8) count in
+      let b : ℕ = 8 - a - n in
+      let e : 8 ≡ a + (n + b) = omega arith in
+      er ∙ ap (λ (x : ℕ). bits x (8 * lower o a b + from % 8) count) (ew ∙ ap (λ (m : ℕ). numberOf o (span s p m)) e)
+      ∙ inner o s p a n b (from % 8) count bs (omega arith) (omega arith)
+
+  pub far : (offset : ℕ) {byte : ℕ} → r ≡ bits (byte * 2 ^ 64 + word) offset count → byte ≡ getD s (upper o p (p + 8)) 0
       → word ≡ numberOf o (span s (lower o p (p + 1)) 8) → bytesFor offset count ≡ 9 → p + 9 ≤ length s → r ≡ fieldAt o s p offset count
-  far er eb ew en room =
+  far offset er eb ew en room =
       er ∙ ap (λ (x : ℕ). bits x offset count)
       (ap₂ (λ (x y : ℕ). x * 2 ^ 64 + y) eb ew ∙ sym (more o s p 8 (omega arith)) ∙ ap (λ (n : ℕ). numberOf o (span s p n)) (sym en))
+
+-- the bits below that field in the word, in either order
+pub low-le : (from : ℕ) → from ≡ 8 * (from / 8) + from % 8
+low-le from = omega arith
+
+pub low-be : (from count : ℕ) → from + count ≤ 64 → (64 - from - count) / 8 * 8 + from % 8 ≡ 8 * (8 - from / 8 - bytesFor (from % 8) count) + from % 8
+low-be from count h = omega arith
+
+-- the same field, by the place of its first byte and its offset there
+pub placed : (o : Order) (s : List ℕ) (p from at offset count : ℕ) {r : ℕ} → p + from / 8 ≡ at → from % 8 ≡ offset
+    → r ≡ fieldAt o s (p + from / 8) (from % 8) count → r ≡ fieldAt o s at offset count
+placed o s p from at offset count ep eo e = e ∙ ap₂ (λ (x y : ℕ). fieldAt o s x y count) ep eo

@@ -1,6 +1,6 @@
 // Bit fields of the bytes of a record, in either byte order.
 ghost use mathlib.Core.Path.{_≡_};
-ghost use Prim.Native.Nat.{_+_, _*_, _^_, _≤_, _<_};
+ghost use Prim.Native.Nat.{_+_, _*_, _/_, _%_, _^_, _≤_, _<_};
 ghost use lib.ListN.{length};
 ghost use Rattle.definitions.specs.Bytes.{little, big, bits, bytesFor, fieldAt};
 use crate::read::be_bytes;
@@ -28,21 +28,21 @@ fn cut_nine(byte: u8, word: u64, offset: u32, count: u32) -> u64
     )
 }
 
-// A field in at most eight bytes, the first the lowest, where eight can be read
-pub fn near_le(s: &[u8], at: usize, offset: u32, count: u32) -> u64
-    requires { ⌜ (offset < 8) × (1 ≤ count) × (bytesFor offset count ≤ 8) × (at + 8 ≤ length (now s)) ⌝ }
-    ensures { λ r. ⌜ r ≡ fieldAt little (now (s .entry)) at offset count ⌝ }
+// The count bits from bit `from` on of the eight bytes at `at`, the first the lowest: a field in any of those bytes
+pub fn near_le(s: &[u8], at: usize, from: u32, count: u32) -> u64
+    requires { ⌜ (1 ≤ count) × (from + count ≤ 64) × (at + 8 ≤ length (now s)) ⌝ }
+    ensures { λ r. ⌜ r ≡ fieldAt little (now (s .entry)) (at + from / 8) (from % 8) count ⌝ }
 {
-    cut(read_u64_le(s, at), offset, count)
+    cut(read_u64_le(s, at), from, count)
 }
 
 // The same with the first the highest: the bytes after the field are the low ones of the word
-pub fn near_be(s: &[u8], at: usize, offset: u32, count: u32) -> u64
-    requires { ⌜ (offset < 8) × (1 ≤ count) × (bytesFor offset count ≤ 8) × (at + 8 ≤ length (now s)) ⌝ }
-    ensures { λ r. ⌜ r ≡ fieldAt big (now (s .entry)) at offset count ⌝ }
+pub fn near_be(s: &[u8], at: usize, from: u32, count: u32) -> u64
+    requires { ⌜ (1 ≤ count) × (from + count ≤ 64) × (at + 8 ≤ length (now s)) ⌝ }
+    ensures { λ r. ⌜ r ≡ fieldAt big (now (s .entry)) (at + from / 8) (from % 8) count ⌝ }
 {
-    let after = (64 - offset - count) / 8 * 8;
-    cut(read_u64_be(s, at), after + offset, count)
+    let after = (64 - from - count) / 8 * 8;
+    cut(read_u64_be(s, at), after + from % 8, count)
 }
 
 // A field in nine bytes, the first the lowest

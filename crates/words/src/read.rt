@@ -2,10 +2,10 @@
 ghost use mathlib.Core.Path.{_≡_};
 ghost use Prim.Native.Nat.{_+_, _*_, _^_, _≤_, _<_};
 ghost use lib.ListN.{length};
-ghost use Rattle.definitions.specs.Bytes.{little, big, numberOf, span, u32At, u64At};
+ghost use Rattle.definitions.specs.Bytes.{little, big, numberOf, le, span, u32At, u64At};
 
 // The number x of i bytes with the byte b above it
-fn over(x: u64, i: usize, b: u8) -> u64
+fn with_byte_above(x: u64, i: usize, b: u8) -> u64
     requires { ⌜ (i < 8) × (x < 2 ^ (8 * i)) ⌝ }
     ensures { λ r. ⌜ r ≡ b * 2 ^ (8 * i) + x ⌝ }
 {
@@ -20,33 +20,33 @@ pub fn le_bytes(s: &[u8], at: usize, n: usize) -> u64
     let mut w: u64 = 0;
     let mut i = 0;
     while i < n {
-        w = over(w, i, s[at + i]);
+        w = with_byte_above(w, i, s[at + i]);
         i += 1;
     }
     w
 }
 
-// The n bytes of s from `at` on, the first the highest, so the last is read first
-pub fn be_bytes(s: &[u8], at: usize, n: usize) -> u64
-    requires { ⌜ (n ≤ 8) × (at + n ≤ length (now s)) ⌝ }
-    ensures { λ r. ⌜ (r ≡ numberOf big (span (now (s .entry)) at n)) × (r < 2 ^ (8 * n)) ⌝ }
+// The bytes of a word in the other order. The compiler makes one instruction of it.
+fn swapped(word: u64) -> u64
+    ensures { λ r. ⌜ r ≡ numberOf big (le 8 word) ⌝ }
 {
-    let mut w: u64 = 0;
-    let mut i = 0;
-    let mut left = n;
-    while i < n {
+    let mut done: u64 = 0;
+    let mut rest = word;
+    let mut left: u64 = 8;
+    while 0 < left {
+        done = done << 8 | rest % 256;
+        rest = rest / 256;
         left -= 1;
-        w = over(w, i, s[at + left]);
-        i += 1;
     }
-    w
+    done
 }
 
-pub fn read_u16_le(s: &[u8], at: usize) -> u16
-    requires { ⌜ at + 2 ≤ length (now s) ⌝ }
-    ensures { λ r. ⌜ r ≡ numberOf little (span (now (s .entry)) at 2) ⌝ }
+// The n bytes of s from `at` on, the first the highest: in a swapped word they are the upper ones
+pub fn be_bytes(s: &[u8], at: usize, n: usize) -> u64
+    requires { ⌜ (1 ≤ n) × (n ≤ 8) × (at + n ≤ length (now s)) ⌝ }
+    ensures { λ r. ⌜ r ≡ numberOf big (span (now (s .entry)) at n) ⌝ }
 {
-    le_bytes(s, at, 2) as u16
+    swapped(le_bytes(s, at, n)) >> (64 - 8 * n)
 }
 
 pub fn read_u32_le(s: &[u8], at: usize) -> u32

@@ -4,14 +4,6 @@ ghost use Prim.Native.Nat.{_+_, _-_, _^_, _≤_, _<_};
 ghost use lib.IntN.{pos, negsuc};
 ghost use Rattle.definitions.specs.Bytes.{twosComplement};
 
-// The weight of the sign bit
-fn sign_bit(width: u32) -> u64
-    requires { ⌜ (1 ≤ width) × (width ≤ 64) ⌝ }
-    ensures { λ r. ⌜ (r ≡ 2 ^ (width - 1)) × (2 ^ width ≡ r + r) × (1 ≤ r) × (r ≤ 2 ^ 63) ⌝ }
-{
-    1 << (width - 1)
-}
-
 fn positive(x: u64) -> i64
     requires { ⌜ x < 2 ^ 63 ⌝ }
     ensures { λ r. ⌜ r ≡ pos x ⌝ }
@@ -27,15 +19,21 @@ fn negative(x: u64) -> i64
     !(x as i64)
 }
 
-// What the `width` bits of x stand for
+// What the 64 bits of x stand for. The compiler makes nothing of it: they are the integer's own bits.
+fn signed_word(x: u64) -> i64
+    ensures { λ r. ⌜ r ≡ twosComplement 64 x ⌝ }
+{
+    if x < 9223372036854775808 {
+        positive(x)
+    } else {
+        negative(18446744073709551615 - x)
+    }
+}
+
+// What the `width` bits of x stand for: at the top of a word their sign is the word's, and a shift down copies it
 pub fn signed_of(x: u64, width: u32) -> i64
     requires { ⌜ (1 ≤ width) × (width ≤ 64) × (x < 2 ^ width) ⌝ }
     ensures { λ r. ⌜ r ≡ twosComplement width x ⌝ }
 {
-    let top = sign_bit(width);
-    if x < top {
-        positive(x)
-    } else {
-        negative(top - 1 - (x - top))
-    }
+    signed_word(x << (64 - width)) >> (64 - width)
 }

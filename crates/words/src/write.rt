@@ -19,13 +19,6 @@ pub fn put_le(out: &mut [u8], at: usize, n: usize, x: u64)
     }
 }
 
-pub fn put_u16_le(out: &mut [u8], at: usize, x: u16)
-    requires { ⌜ at + 2 ≤ length (now out) ⌝ }
-    ensures { λ _. ⌜ now (out .exit) ≡ sets (now (out .entry)) at (le 2 x) ⌝ }
-{
-    put_le(out, at, 2, x as u64);
-}
-
 pub fn put_u32_le(out: &mut [u8], at: usize, x: u32)
     requires { ⌜ at + 4 ≤ length (now out) ⌝ }
     ensures { λ _. ⌜ now (out .exit) ≡ sets (now (out .entry)) at (le 4 x) ⌝ }

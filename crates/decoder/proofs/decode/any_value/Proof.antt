@@ -9,7 +9,7 @@ returns c =
     let found = c .before .before .before in
     let second = found .before in
     let first = second .before .before in
-    handed-on (found .find-field .ensures) (c .before .enum-told .given .1) (c .refusal .ensures)
+    handed-on (found .find-field .ensures) (c .refusal .ensures)
     (looked-for _ _ _ (first .before .before .form-of .ensures) (first .before .is-variable-length .ensures) (first .unless .ensures) (second .unless2 .ensures))
 
 value-at-requires : tie.Need-value-at-requires

@@ -1,28 +1,47 @@
--- What is said of validity does not matter to the value.
+-- A payload, and what no word holds, goes the general way; a word's number has its value.
 use borrow.Author.Needs.{needs}
-use mathlib.Core.Path.{refl, sym, _∙_}
-use Rattle.decoder.proofs.Nearby.{near-of, value-alike}
+use mathlib.Core.Path.{sym, _∙_}
+use Rattle.decoder.specs.Meaning.{channelMeant}
+use Rattle.decoder.proofs.WordFields.{in-word, near-valued}
 use Rattle.decoder.proofs.decode.decode_channel_value.Statement.{statement}
 use Rattle.decoder.proofs.decode.decode_channel_value.Tie as tie
 
+far-value-requires : tie.Need-far-value-requires
+far-value-requires c κs = sym (c .if1 .taken) ∙ c .before .is-variable-length .ensures
+
+near-number-requires : tie.Need-near-number-requires
+near-number-requires c κs = sym (c .before .is-variable-length .ensures) ∙ c .if1 .left
+
+far-value-requires-2 : tie.Need-far-value-requires-2
+far-value-requires-2 c κs =
+    let one = c .before .before .before in
+    sym (one .if1 .left) ∙ one .before .is-variable-length .ensures
+
 near-value-requires : tie.Need-near-value-requires
 near-value-requires c κs =
-    let f = c .before in
-    let near = f .before .before .before in
-    (near-of _ _ _ (sym (near .before .is-near .ensures) ∙ near .if1 .taken), sym (f .before .before .form-of .ensures) ∙ f .form .given .1)
+    let found = c .before in
+    let near = found .before .before in
+    let a = near .before .before .before .before .args in
+    in-word (a .«record» .now) (a .record-id-size) (channelMeant (a .channel)) (near .near-number .ensures) (found .found .given .1)
 
-returns-2 : tie.Need-returns-2
-returns-2 c = c .far-value .ensures ∙ value-alike _ _ _ _ _ refl
+returns-3 : tie.Need-returns-3
+returns-3 c =
+    let found = c .before .before in
+    let near = found .before .before in
+    let a = near .before .before .before .before .args in
+    near-valued (a .«record» .now) (a .record-id-size) (channelMeant (a .channel)) (near .near-number .ensures) (found .found .given .1) (c .near-value .ensures)
 
 pub decode-channel-value-spec : {M : Type 1} → statement M
 decode-channel-value-spec =
     tie.close
     (tie.spec
     (λ c κs. search needs)
-    (λ c κs. search needs)
+    far-value-requires
+    (λ c. search needs)
+    near-number-requires
+    (λ c. search needs)
+    (λ c. search needs)
+    far-value-requires-2
     (λ c. search needs)
     near-value-requires
-    (λ c. search needs)
-    (λ c. search needs)
-    (λ c κs. search needs)
-    returns-2)
+    returns-3)

@@ -4,7 +4,7 @@ use mathlib.Core.Path.{ap, _∙_}
 use denote.Ref.{now}
 use Rattle.decoder.specs.Meaning.{channelMeant}
 use Rattle.decoder.specs.Form.{numberKind, numberValue}
-use Rattle.decoder.specs.Found.{Sound}
+use Rattle.decoder.specs.Known.{Sound}
 use Rattle.decoder.proofs.Fields.{number-sound, readable, fitting}
 use Rattle.decoder.proofs.decode.value_at.Statement.{statement}
 use Rattle.decoder.proofs.decode.value_at.Tie as tie

@@ -8,7 +8,7 @@ use Rattle.definitions.specs.Channel.{variableLength, valueOf, doubleIn}
 use Rattle.blocks.specs.Meaning.{typeMeant}
 use Rattle.decoder.specs.Meaning.{channelMeant}
 use Rattle.decoder.specs.Form.{formOf, numberKind}
-use Rattle.decoder.specs.Found.{valueAt}
+use Rattle.decoder.specs.Known.{valueAt}
 use Rattle.decoder.specs.declared.form.Form.the-variants.{Number}
 use Rattle.decoder.proofs.Fields.{readable, fitting}
 use Rattle.decoder.proofs.Values.{looked-for, sound-at}

@@ -1,12 +1,11 @@
--- A payload has no double, nor has a number that no field can be; else the field is near, or it is elsewhere.
+-- A payload has no double, nor has a number that no field can be; else a word holds the field, or it is found as any field is.
 use borrow.Author.Needs.{needs}
-use borrow.Author.Tests.{not-false}
 use mathlib.Core.Path.{_≡_, sym, _∙_}
 use mathlib.Core.Bool.{false}
 use Rattle.definitions.specs.Channel.{variableLength}
 use Rattle.decoder.specs.Meaning.{channelMeant}
 use Rattle.decoder.proofs.Doubles.{double-payload}
-use Rattle.decoder.proofs.Nearby.{near-by, without-bits, past-its-byte, double-alike}
+use Rattle.decoder.proofs.WordFields.{near-by, without-bits, double-alike}
 use Rattle.decoder.proofs.double.decode_f64_from_record.Statement.{statement}
 use Rattle.decoder.proofs.double.decode_f64_from_record.Tie as tie
 
@@ -17,23 +16,22 @@ returns : tie.Need-returns
 returns c = double-payload _ _ _ (sym (c .before .is-variable-length .ensures) ∙ c .if1 .taken)
 
 returns-2 : tie.Need-returns-2
-returns-2 c = c .far-double .ensures ∙ double-alike _ _ _ _ _ (sym (fixed (c .before .before .before)))
+returns-2 c = c .far-double .ensures ∙ double-alike _ _ _ _ _ (sym (fixed (c .before .before)))
 
 returns-3 : tie.Need-returns-3
-returns-3 c = without-bits _ _ _ (fixed (c .before .before .before)) (c .if3 .taken)
+returns-3 c = without-bits _ _ _ (fixed (c .before .before)) (c .if3 .taken)
 
 returns-4 : tie.Need-returns-4
-returns-4 c = past-its-byte _ _ _ (fixed (c .before .before .before .before)) (c .if4 .taken) (c .before .if3 .left)
-
-returns-5 : tie.Need-returns-5
-returns-5 c = c .far-double2 .ensures ∙ double-alike _ _ _ _ _ (sym (fixed (c .before .before .before .before .before .before)))
+returns-4 c = c .far-double2 .ensures ∙ double-alike _ _ _ _ _ (sym (fixed (c .before .before .before .before .before .before)))
 
 near-double-requires : tie.Need-near-double-requires
 near-double-requires c κs =
-    let four = c .before in
-    let three = four .before in
+    let f = c .before in
+    let find = f .before .before in
+    let three = find .before in
     let two = three .before in
-    near-by _ _ _ (fixed (two .before .before)) (sym (two .before .has-a-word .ensures) ∙ not-false _ (two .if2 .left)) (four .if4 .left) (three .if3 .left) (c .if5 .left)
+    let one = two .before in
+    near-by _ _ (channelMeant (one .before .before .before .args .channel)) (fixed one) (find .find-word .ensures) (f .found .given .1) (two .if2 .left) (three .if3 .left)
 
 pub decode-f64-from-record-spec : {M : Type 1} → statement M
 decode-f64-from-record-spec =
@@ -42,14 +40,12 @@ decode-f64-from-record-spec =
     (λ c κs. search needs)
     returns
     (λ c κs. search needs)
-    (λ c κs. search needs)
     returns-2
     returns-3
-    returns-4
-    (λ c. search needs)
+    (λ c κs. search needs)
     (λ c. search needs)
     (λ c. search needs)
     (λ c κs. search needs)
-    returns-5
+    returns-4
     near-double-requires
     (λ c. search needs))

@@ -1,4 +1,4 @@
--- Each type of a number by itself: its load is that of the field, and its double that of the field's number.
+-- Each type of a number by itself: the load is that of the field, and the double that of its number.
 use borrow.Author.Needs.{needs}
 use mathlib.Core.Path.{_≡_, refl, ap}
 use mathlib.Core.Bool.{true, false}
@@ -11,50 +11,67 @@ use Rattle.text.specs.declared.encoding.Encoding.the-variants.{Latin1, Utf8, Ut
 use Rattle.blocks.proofs.data_type.DataType.{the-type}
 use Rattle.blocks.specs.declared.data_type.DataType.{DataType}
 use Rattle.blocks.specs.declared.data_type.DataType.the-variants.{UnsignedIntegerLE, UnsignedIntegerBE, SignedIntegerLE, SignedIntegerBE, FloatLE, FloatBE, StringLatin1, StringUtf8, StringUtf16LE, StringUtf16BE, ByteArray as bytes, MimeSample as sample, MimeStream as stream, CanOpenDate, CanOpenTime, ComplexLE, ComplexBE, Unknown}
+use Rattle.decoder.specs.declared.form.Number.the-variants.{Unsigned, Signed}
 use Rattle.decoder.specs.declared.form.Content.{Content}
 use Rattle.decoder.specs.declared.form.Content.the-variants.{Text, ByteArray, MimeSample, MimeStream, Undecoded}
 use Rattle.decoder.specs.declared.form.Form.the-variants.{Other}
 use Rattle.decoder.proofs.Doubles.{double-other}
 use Rattle.decoder.specs.Form.{formOf}
-use Rattle.decoder.proofs.Nearby.{field-small, integer-fitting, integer-double, float-double}
+use Rattle.decoder.proofs.WordFields.{field-small, integer-fitting, integer-double, float-double}
 use Rattle.decoder.proofs.double.near_double.Statement.{statement}
 use Rattle.decoder.proofs.double.near_double.Tie as tie
 
+-- the form of the type that the channel has
+form : {type t : DataType} → type ≡ t → formOf (typeMeant type) ≡ formOf (typeMeant t)
+form e = ap (λ (t : DataType). formOf (typeMeant t)) e
+
 unsigned-double-requires : tie.Need-unsigned-double-requires
-unsigned-double-requires c κs = let start = c .before .before .before .before .before .before in integer-fitting _ _ _ (start .pre) false false (ap (λ (t : DataType). formOf (typeMeant t)) (c .before .enum-told .given .1)) (c .near-le .ensures)
+unsigned-double-requires c κs = integer-fitting _ _ _ (c .before .before .before .before .pre) false (c .near-le .ensures) Unsigned (form (c .before .enum-told .given .1)) refl
 
 unsigned-double-requires-2 : tie.Need-unsigned-double-requires-2
-unsigned-double-requires-2 c κs = let start = c .before .before .before .before .before .before in integer-fitting _ _ _ (start .pre) false true (ap (λ (t : DataType). formOf (typeMeant t)) (c .before .enum-told2 .given .1)) (c .near-be .ensures)
+unsigned-double-requires-2 c κs = integer-fitting _ _ _ (c .before .before .before .before .pre) true (c .near-be .ensures) Unsigned (form (c .before .enum-told2 .given .1)) refl
 
 signed-double-requires : tie.Need-signed-double-requires
-signed-double-requires c κs = let start = c .before .before .before .before .before .before in integer-fitting _ _ _ (start .pre) true false (ap (λ (t : DataType). formOf (typeMeant t)) (c .before .enum-told3 .given .1)) (c .near-le2 .ensures)
+signed-double-requires c κs = integer-fitting _ _ _ (c .before .before .before .before .pre) false (c .near-le2 .ensures) Signed (form (c .before .enum-told3 .given .1)) refl
 
 signed-double-requires-2 : tie.Need-signed-double-requires-2
-signed-double-requires-2 c κs = let start = c .before .before .before .before .before .before in integer-fitting _ _ _ (start .pre) true true (ap (λ (t : DataType). formOf (typeMeant t)) (c .before .enum-told4 .given .1)) (c .near-be2 .ensures)
+signed-double-requires-2 c κs = integer-fitting _ _ _ (c .before .before .before .before .pre) true (c .near-be2 .ensures) Signed (form (c .before .enum-told4 .given .1)) refl
 
 near-float-requires : tie.Need-near-float-requires
-near-float-requires c κs = let start = c .before .before .before .before .before .before in field-small _ _ _ (start .pre) false (c .near-le3 .ensures)
+near-float-requires c κs = field-small _ _ _ (c .before .before .before .before .pre) false (c .near-le3 .ensures)
 
 near-float-requires-2 : tie.Need-near-float-requires-2
-near-float-requires-2 c κs = let start = c .before .before .before .before .before .before in field-small _ _ _ (start .pre) true (c .near-be3 .ensures)
+near-float-requires-2 c κs = field-small _ _ _ (c .before .before .before .before .pre) true (c .near-be3 .ensures)
 
 returns : tie.Need-returns
-returns c = let start = c .before .before .before .before .before .before .before in integer-double _ _ _ (start .pre) false false (ap (λ (t : DataType). formOf (typeMeant t)) (c .before .before .enum-told .given .1)) (c .before .near-le .ensures) (c .unsigned-double .ensures)
+returns c =
+    let load = c .before in
+    integer-double _ _ _ (load .before .before .before .before .pre) false (load .near-le .ensures) Unsigned (form (load .before .enum-told .given .1)) refl (c .unsigned-double .ensures)
 
 returns-2 : tie.Need-returns-2
-returns-2 c = let start = c .before .before .before .before .before .before .before in integer-double _ _ _ (start .pre) false true (ap (λ (t : DataType). formOf (typeMeant t)) (c .before .before .enum-told2 .given .1)) (c .before .near-be .ensures) (c .unsigned-double2 .ensures)
+returns-2 c =
+    let load = c .before in
+    integer-double _ _ _ (load .before .before .before .before .pre) true (load .near-be .ensures) Unsigned (form (load .before .enum-told2 .given .1)) refl (c .unsigned-double2 .ensures)
 
 returns-3 : tie.Need-returns-3
-returns-3 c = let start = c .before .before .before .before .before .before .before in integer-double _ _ _ (start .pre) true false (ap (λ (t : DataType). formOf (typeMeant t)) (c .before .before .enum-told3 .given .1)) (c .before .near-le2 .ensures) (c .signed-double .ensures)
+returns-3 c =
+    let load = c .before in
+    integer-double _ _ _ (load .before .before .before .before .pre) false (load .near-le2 .ensures) Signed (form (load .before .enum-told3 .given .1)) refl (c .signed-double .ensures)
 
 returns-4 : tie.Need-returns-4
-returns-4 c = let start = c .before .before .before .before .before .before .before in integer-double _ _ _ (start .pre) true true (ap (λ (t : DataType). formOf (typeMeant t)) (c .before .before .enum-told4 .given .1)) (c .before .near-be2 .ensures) (c .signed-double2 .ensures)
+returns-4 c =
+    let load = c .before in
+    integer-double _ _ _ (load .before .before .before .before .pre) true (load .near-be2 .ensures) Signed (form (load .before .enum-told4 .given .1)) refl (c .signed-double2 .ensures)
 
 returns-5 : tie.Need-returns-5
-returns-5 c = let start = c .before .before .before .before .before .before .before in float-double _ _ _ (start .pre) false (ap (λ (t : DataType). formOf (typeMeant t)) (c .before .before .enum-told5 .given .1)) (c .before .near-le3 .ensures) (c .near-float .ensures)
+returns-5 c =
+    let load = c .before in
+    float-double _ _ _ (load .before .before .before .before .pre) false (load .near-le3 .ensures) (form (load .before .enum-told5 .given .1)) (c .near-float .ensures)
 
 returns-6 : tie.Need-returns-6
-returns-6 c = let start = c .before .before .before .before .before .before .before in float-double _ _ _ (start .pre) true (ap (λ (t : DataType). formOf (typeMeant t)) (c .before .before .enum-told6 .given .1)) (c .before .near-be3 .ensures) (c .near-float2 .ensures)
+returns-6 c =
+    let load = c .before in
+    float-double _ _ _ (load .before .before .before .before .pre) true (load .near-be3 .ensures) (form (load .before .enum-told6 .given .1)) (c .near-float2 .ensures)
 
 -- the types behind those of numbers
 abbrev others : List ℕ
@@ -82,7 +99,7 @@ other-form Unknown h = (Undecoded, refl)
 
 returns-7 : tie.Need-returns-7
 returns-7 c =
-    let start = c .before .before .before .before in
+    let start = c .before .before in
     let other = other-form (start .args .channel .«data_type») (c .match .keys7) in
     double-other _ _ _ (start .pre .fixed) (other .1)
 
@@ -90,9 +107,6 @@ pub near-double-spec : {M : Type 1} → statement M
 near-double-spec =
     tie.close
     (tie.spec
-    (λ c. search needs)
-    (λ c. search needs)
-    (λ c. search needs)
     (λ c. search needs)
     (λ c κs. search needs)
     unsigned-double-requires

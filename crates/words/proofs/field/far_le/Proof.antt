@@ -9,7 +9,7 @@ use Rattle.words.proofs.field.far_le.Tie as tie
 returns : tie.Need-returns
 returns c =
     let b = c .before .before .before .before in
-    far little (b .args .s .now) (b .args .at) (b .args .offset) (b .args .count) (c .cut-nine .ensures) refl (c .before .read-u64-le .ensures) (b .pre .2) (b .pre .3)
+    far little (b .args .s .now) (b .args .at) (b .args .count) (b .args .offset) (c .cut-nine .ensures) refl (c .before .read-u64-le .ensures) (b .pre .2) (b .pre .3)
 
 pub far-le-spec : {M : Type 1} → statement M
 far-le-spec =

@@ -1,7 +1,9 @@
--- The bytes after the field stand above it in the word, and are cut off.
+-- The bytes before the field stand below it in the word, and those after it above.
 use borrow.Author.Needs.{needs}
-use Rattle.definitions.specs.Bytes.{little}
-use Rattle.words.proofs.Ways.{near}
+use mathlib.Core.Path.{ap, _∙_}
+use Prim.Native.Nat.{ℕ}
+use Rattle.definitions.specs.Bytes.{little, bits}
+use Rattle.words.proofs.Ways.{near, low-le}
 use Rattle.words.proofs.field.near_le.Statement.{statement}
 use Rattle.words.proofs.field.near_le.Tie as tie
 
@@ -9,7 +11,10 @@ returns : tie.Need-returns
 returns c =
     let k = c .before .before in
     let b = k .before in
-    near little (b .args .s .now) (b .args .at) (b .args .offset) (b .args .count) (c .cut .ensures) (c .before .read-u64-le .ensures) (λ i. k .shared-slice-known .given i .fits) (b .pre .3) (b .pre .2)
+    let a = b .args in
+    near little (a .s .now) (a .at) (a .count) (a .from)
+    (c .cut .ensures ∙ ap (λ (n : ℕ). bits (c .before .read-u64-le .result) n (a .count)) (low-le (a .from)))
+    (c .before .read-u64-le .ensures) (λ i. k .shared-slice-known .given i .fits) (b .pre .1) (b .pre .2)
 
 pub near-le-spec : {M : Type 1} → statement M
 near-le-spec =

@@ -1,59 +1,16 @@
--- The loop goes down: w is the number of the last i bytes.
-use mathlib.Core.Path.{_≡_, refl, ap, _∙_}
-use Prim.Native.Nat.{ℕ, _+_, _-_}
-use native.Mathlib.Omega.{arith}
+-- The bytes of the word that are not read stand below in the swapped one, and are shifted out.
+use mathlib.Core.Path.{refl}
 use borrow.Author.Needs.{needs}
-use Rattle.definitions.specs.Bytes.{big, leOf, numberOf, span}
-use Rattle.words.proofs.Spans.{bounded, turn}
+use Rattle.words.proofs.ByteOrder.{in-other-order}
 use Rattle.words.proofs.read.be_bytes.Statement.{statement}
 use Rattle.words.proofs.read.be_bytes.Tie as tie
 
-abbrev Inv-loop : tie.InvT-loop
-Inv-loop s at n w₀ i₀ left₀ w i left = (i + left ≡ n) × (w ≡ numberOf big (span s (at + left) i))
-
-abbrev μ-loop : tie.MeasureT-loop
-μ-loop s at n w₀ i₀ left₀ w i left = n - i
-
-loop-holds : tie.Need-loop-holds Inv-loop μ-loop
-unfolding leOf
-loop-holds c = (search needs, refl)
-
-over-requires : tie.Need-over-requires Inv-loop μ-loop
-over-requires c κs =
-    let l = c .before .before in
-    let a = l .before .before .args in
-    (omega arith, bounded big (a .s .now) (a .at + l .loop .left) (l .loop .i) (λ j. c .shared-slice-known2 .given j .fits) (omega arith) (l .loop .inv .1) .1)
-
-loop-again : tie.Need-loop-again Inv-loop μ-loop
-loop-again c =
-    let l = c .before .before .before in
-    let a = l .before .before .args in
-    let e : a .at + l .loop .left ≡ a .at + (l .loop .left - 1) + 1 = omega arith in (
-      omega arith,
-      turn big (a .s .now) (a .at + (l .loop .left - 1)) (l .loop .i) (omega arith)
-          (l .loop .inv .1 ∙ ap (λ (p : ℕ). numberOf big (span (a .s .now) p (l .loop .i))) e) (c .over .ensures),
-    )
-
-returns : tie.Need-returns Inv-loop μ-loop
+returns : tie.Need-returns
 returns c =
-    let l = c .before in
-    let a = l .before .before .args in
-    let e : l .loop .i ≡ a .n = omega arith in
-    let p : a .at + l .loop .left ≡ a .at = omega arith in
-    bounded big (a .s .now) (a .at) (a .n) (λ j. l .before .shared-slice-known .given j .fits) (omega arith) (rw (e, p) at (l .loop .inv .1))
+    let k = c .before .before in
+    let b = k .before in
+    in-other-order (b .args .s .now) (b .args .at) (b .args .n) (b .pre .1) (λ i. k .shared-slice-known .given i .fits) (b .pre .2)
+    (c .before .le-bytes .ensures .0) (c .swapped .ensures) refl
 
 pub be-bytes-spec : {M : Type 1} → statement M
-be-bytes-spec =
-    tie.close
-    (tie.spec
-    Inv-loop
-    μ-loop
-    loop-holds
-    (λ c. search needs)
-    (λ c. search needs)
-    (λ c. search needs)
-    over-requires
-    (λ c. search needs)
-    (λ c. search needs)
-    loop-again
-    returns)
+be-bytes-spec = tie.close (tie.spec (λ c κs. search needs) (λ c κs. search needs) (λ c. search needs) (λ c. search needs) (λ c. search needs) returns)

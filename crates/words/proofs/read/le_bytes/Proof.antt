@@ -18,8 +18,8 @@ loop-holds : tie.Need-loop-holds Inv-loop μ-loop
 unfolding leOf
 loop-holds c = (search needs, refl)
 
-over-requires : tie.Need-over-requires Inv-loop μ-loop
-over-requires c κs =
+with-byte-above-requires : tie.Need-with-byte-above-requires Inv-loop μ-loop
+with-byte-above-requires c κs =
     let l = c .before .before in
     let a = l .before .before .args in
     (omega arith, bounded little (a .s .now) (a .at) (l .loop .i) (λ j. c .shared-slice-known2 .given j .fits) (omega arith) (l .loop .inv .1) .1)
@@ -28,7 +28,7 @@ loop-again : tie.Need-loop-again Inv-loop μ-loop
 loop-again c =
     let l = c .before .before .before in
     let a = l .before .before .args in
-    (search needs, turn little (a .s .now) (a .at) (l .loop .i) (omega arith) (l .loop .inv .1) (c .over .ensures))
+    (search needs, turn little (a .s .now) (a .at) (l .loop .i) (omega arith) (l .loop .inv .1) (c .with-byte-above .ensures))
 
 returns : tie.Need-returns Inv-loop μ-loop
 returns c =
@@ -46,7 +46,7 @@ le-bytes-spec =
     loop-holds
     (λ c. search needs)
     (λ c. search needs)
-    over-requires
+    with-byte-above-requires
     (λ c. search needs)
     (λ c. search needs)
     loop-again

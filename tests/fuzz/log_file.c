@@ -1,5 +1,5 @@
 /* Files with chains: built whole by the library's own writers, and then damaged. */
-#include "files.h"
+#include "log_file.h"
 
 #include <string.h>
 

@@ -1,6 +1,6 @@
 /* A file under construction. While it is whole, `joined` is what its data blocks hold, end to end. */
-#ifndef FILES_H
-#define FILES_H
+#ifndef LOG_FILE_H
+#define LOG_FILE_H
 
 #include "fuzz.h"
 

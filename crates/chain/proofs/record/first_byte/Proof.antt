@@ -1,0 +1,18 @@
+use mathlib.Core.Path.{refl}
+use native.Mathlib.Omega.{arith}
+use borrow.Author.Needs.{needs}
+use Rattle.chain.proofs.Records.{first-past, first-fits}
+use Rattle.chain.proofs.record.first_byte.Statement.{statement}
+use Rattle.chain.proofs.record.first_byte.Tie as tie
+
+returns : tie.Need-returns
+returns c = let a = c .before .args in first-past (a .number) (a .size) (c .before .pre) _ (c .if1 .taken)
+
+product : tie.Need-mul-t3
+product c = let a = c .before .args in omega (arith, first-fits (a .number) (a .size) (c .before .pre) (c .if1 .left))
+
+returns-2 : tie.Need-returns-2
+returns-2 c = λ l. refl
+
+pub first-byte-spec : {M : Type 1} → statement M
+first-byte-spec = tie.close (tie.spec (λ c. search needs) returns product returns-2)

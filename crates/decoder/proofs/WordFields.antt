@@ -1,0 +1,250 @@
+-- Fields that eight bytes of the record hold.
+use mathlib.Core.Path.{_≡_, refl, sym, ap, ap₂, subst, _∙_}
+use mathlib.Core.Bool.{Bool, true, false, not, _&&_, _||_, true≢false}
+use mathlib.Core.List.{List}
+use Prim.Native.Nat.{ℕ, _+_, _-_, _*_, _/_, _%_, _^_, _≤_, _<_}
+use native.Mathlib.Omega.{arith}
+use lib.ListN.{length}
+use lib.Dec.{ltb, eqb}
+use borrow.Author.Tests.{le-ltb, lt-ltb, eq-eqb, ne-eqb}
+use Rattle.definitions.specs.Reply.{Reply, answer, if_then_else_}
+use Rattle.definitions.specs.Bytes.{Order, span, bytesFor, numberOf, fieldAt}
+use Rattle.definitions.specs.Ieee754.{nanPattern}
+use Rattle.definitions.specs.DataType.{DataType, unsignedInteger, signedInteger, float, complex, string, byteArray, mimeSample, mimeStream, canOpenDate, canOpenTime, unknown, Kind, integer, floating, whole, undecoded, kindOf}
+use Rattle.definitions.specs.Channel.{Channel, Value, variableLength, startOf, bitSpan, spanIn, spanOf, floatBits, decoded, isNumber, isInteger, isFloating, noValue, valueBy, valueOf, doubleIn, recordDouble}
+use Rattle.decoder.specs.Form.{orderMeant, formOf, formKind, placed, numberKind, numberValue, numberDouble}
+use Rattle.decoder.specs.Known.{valueAt, Held, WordTold, Near, NearNumber, NumberTold, InWord, FieldTold, Fitting}
+use Rattle.decoder.specs.declared.form.Number as numbers
+use Rattle.decoder.specs.declared.form.Number.the-variants.{Float}
+use Rattle.decoder.specs.declared.form.Content.{Content}
+use Rattle.decoder.specs.declared.form.Form.{Form}
+use Rattle.decoder.specs.declared.form.Form.the-variants.{Number, Other}
+use Rattle.decoder.specs.declared.near.WordFound.{WordFound}
+use Rattle.decoder.specs.declared.near.WordFound.the-variants.{At, Nowhere}
+use Rattle.decoder.specs.declared.near.NumberFound.{NumberFound}
+use Rattle.decoder.specs.declared.near.NumberFound.the-variants.{At as NumberAt, Nowhere as NoNumber}
+use Rattle.decoder.specs.declared.field.FieldFound.the-variants.{Field}
+use Rattle.decoder.proofs.Forms.{number-kinds, number-span, is-number, no-number}
+use Rattle.decoder.proofs.Fields.{tested, value-tested, no-bits, no-float-width, found, fitting}
+use Rattle.decoder.proofs.Values.{looked-for, sound-at, valued}
+use Rattle.decoder.proofs.Doubles.{double-found, double-fixed, double-other, double-number}
+use Rattle.words.proofs.Bits.{field-below}
+use Rattle.words.proofs.Ways.{placed as placed-at}
+
+-- ---- the test
+
+module _ (length skipped : ℕ) (c : Channel) where
+  abbrev Told : WordFound → Type 0
+  Told found = WordTold length (skipped + c .byteOffset) (c .bitOffset) (c .bitCount) found
+
+  pub near-by : {found : WordFound} {word from : ℕ} → variableLength c ≡ false → Told found → found ≡ At word from → c .bitOffset ≤ 7 → (c .bitCount ≡ 0 → ⊥)
+      → Near length skipped c word from
+  near-by p told e low z = record { fixed = p; low = omega arith; some = above z; held = subst Told e told }
+    where
+      above : (c .bitCount ≡ 0 → ⊥) → 1 ≤ c .bitCount
+      above h = omega arith
+
+  -- a number with a value, and the word that was found
+  abbrev noWidth : Kind → Bool
+  noWidth k = isFloating k && not (eqb (c .bitCount) 32 || eqb (c .bitCount) 64)
+
+  module _ {form : Form} (ef : form ≡ formOf (c .dataType)) where
+    pub number-near : {number : numbers.Number} {big : Bool} {word from : ℕ} {t : Bool} → Near length skipped c word from → form ≡ Number number big
+        → t ≡ noWidth (numberKind number) → t ≡ false → NearNumber length skipped c number big word from
+    number-near near e et f = record { near = near; form = sym ef ∙ e; width = sym et ∙ f }
+
+    -- what has none has no such word
+    pub other-nowhere : {content : Content} → form ≡ Other content → NumberTold length skipped c NoNumber
+    other-nowhere e number big word from h = no-number (sym ef ∙ e) (h .form)
+
+    pub width-nowhere : {n : numbers.Number} {b t : Bool} → form ≡ Number n b → t ≡ noWidth (numberKind n) → t ≡ true → NumberTold length skipped c NoNumber
+    width-nowhere e et f number big word from h = true≢false (sym f ∙ et ∙ ap (λ (f : Form). noWidth (formKind f)) (sym e ∙ ef ∙ h .form) ∙ h .width)
+
+  pub word-nowhere : {found : WordFound} → Told found → found ≡ Nowhere → NumberTold length skipped c NoNumber
+  word-nowhere told e number big word from h = subst Told e told word from (h .near .held)
+
+-- ---- what it gives
+
+module _ (s : List ℕ) (idSize : ℕ) (c : Channel) {word from : ℕ} (near : Near (length s) idSize c word from) where
+  abbrev at : ℕ
+  at = idSize + c .byteOffset
+
+  module _ (number : numbers.Number) where
+    some : isNumber (numberKind number) && eqb (c .bitCount) 0 ≡ false
+    some =
+        let z : c .bitCount ≡ 0 → ⊥ = λ e. omega (arith, near .some) in
+        let e : eqb (c .bitCount) 0 ≡ false = ne-eqb _ _ z in
+        number-kinds (λ k. isNumber k && eqb (c .bitCount) 0 ≡ false) e e number
+
+    low : isNumber (numberKind number) && ltb 7 (c .bitOffset) ≡ false
+    low =
+        let e : ltb 7 (c .bitOffset) ≡ false = le-ltb 7 (c .bitOffset) (omega (arith, near .low)) in
+        number-kinds (λ k. isNumber k && ltb 7 (c .bitOffset) ≡ false) e e number
+
+    few : isInteger (numberKind number) && ltb 64 (c .bitCount) ≡ false
+    few = number-kinds (λ k. isInteger k && ltb 64 (c .bitCount) ≡ false) (le-ltb 64 (c .bitCount) (omega (arith, near .held .ends))) refl number
+
+    inside : ltb (length s) (at + bitSpan c) ≡ false
+    inside =
+        let h : Held (length s) at (c .bitOffset) (c .bitCount) word from = near .held in
+        le-ltb (length s) (at + bitSpan c) (omega (arith, near .low, near .some, h .same, h .ends, h .room))
+
+    module _ (big : Bool) (e : formOf (c .dataType) ≡ Number number big) where
+      by-form : valueAt (numberKind number) false s at c ≡ valueOf s idSize c
+      by-form = looked-for s idSize c {form = Number number big} {payload = false} (sym e) (sym (near .fixed)) refl refl
+
+      -- a number's field is found there
+      pub near-found : isFloating (numberKind number) && not (eqb (c .bitCount) 32 || eqb (c .bitCount) 64) ≡ false
+          → FieldTold (numberKind number) (valueOf s idSize c) s c (Field at (bitSpan c))
+      near-found f =
+          let v = found (numberKind number) false at (bitSpan c) s c (number-span number false (length s) c) some low few inside f in
+          record { told = record { value = sym by-form ∙ v .value; sound = v .sound } }
+
+      -- or it is a float of a width that none has
+      pub near-refused : isFloating (numberKind number) && not (eqb (c .bitCount) 32 || eqb (c .bitCount) 64) ≡ true → valueOf s idSize c ≡ noValue
+      near-refused f =
+          sym by-form ∙ ap (λ (n : ℕ). valueBy (numberKind number) at n s c) (sym (number-span number false (length s) c))
+          ∙ no-float-width (numberKind number) at (bitSpan c) s c some low few inside f
+
+  abbrev field : Bool → ℕ
+  field big = fieldAt (orderMeant big) s (idSize + c .byteOffset) (c .bitOffset) (c .bitCount)
+
+  -- what is read in the word is the field
+  abbrev read : Bool → ℕ
+  read big = fieldAt (orderMeant big) s (word + from / 8) (from % 8) (c .bitCount)
+
+  pub is-field : (big : Bool) {x : ℕ} → x ≡ read big → x ≡ field big
+  is-field big e =
+      placed-at (orderMeant big) s word from (idSize + c .byteOffset) (c .bitOffset) (c .bitCount) (omega (arith, near .held .same, near .low)) (omega (arith, near .held .same, near .low)) e
+
+-- ---- its value
+
+module _ (s : List ℕ) (idSize : ℕ) (c : Channel) {number : numbers.Number} {big : Bool} {word from : ℕ} {found : NumberFound}
+    (told : NumberTold (length s) idSize c found) (e : found ≡ NumberAt number big word from) where
+  number-told : NearNumber (length s) idSize c number big word from
+  number-told = subst (NumberTold (length s) idSize c) e told
+
+  field-told : FieldTold (numberKind number) (valueOf s idSize c) s c (Field (idSize + c .byteOffset) (bitSpan c))
+  field-told = near-found s idSize c (number-told .near) number big (number-told .form) (number-told .width)
+
+  pub in-word : InWord number (length s) word from (c .bitCount)
+  in-word =
+      let h = number-told .near in
+      record { some = h .some; ends = h .held .ends; room = h .held .room; width = sound-at field-told refl .width }
+
+  pub near-valued : {v : Value} → v ≡ numberValue number (c .bitCount) (fieldAt (orderMeant big) s (word + from / 8) (from % 8) (c .bitCount)) → answer v ≡ valueOf s idSize c
+  near-valued ev =
+      valued field-told refl (sym (number-told .form)) (ev ∙ ap (numberValue number (c .bitCount)) (is-field s idSize c (number-told .near) big refl)) refl
+
+-- a field there is of the class that it was found to be
+pub fitting-word : (number : numbers.Number) (o : Order) (s : List ℕ) (p offset : ℕ) {l word from count x : ℕ} → InWord number l word from count
+    → x ≡ fieldAt o s p offset count → Fitting number count x
+fitting-word number o s p offset {count = count} h e = record {
+  some = h .some;
+  few = omega (arith, h .ends);
+  below = rw e (field-below (numberOf o (span s p (bytesFor offset count))) offset count);
+  width = h .width;
+}
+
+-- ---- its double
+
+module _ (s : List ℕ) (idSize : ℕ) (c : Channel) {word from : ℕ} (near : Near (length s) idSize c word from) (big : Bool) {x : ℕ}
+    (ex : x ≡ fieldAt (orderMeant big) s (word + from / 8) (from % 8) (c .bitCount)) where
+  the-field : x ≡ fieldAt (orderMeant big) s (idSize + c .byteOffset) (c .bitOffset) (c .bitCount)
+  the-field = is-field s idSize c near big ex
+
+  pub field-small : x < 2 ^ (c .bitCount)
+  field-small = rw the-field (field-below (numberOf (orderMeant big) (span s (idSize + c .byteOffset) (bytesFor (c .bitOffset) (c .bitCount)))) (c .bitOffset) (c .bitCount))
+
+  module _ (number : numbers.Number) (e : formOf (c .dataType) ≡ Number number big) where
+    number-double : isFloating (numberKind number) && not (eqb (c .bitCount) 32 || eqb (c .bitCount) 64) ≡ false
+        → {r : ℕ} → r ≡ numberDouble number (c .bitCount) x → r ≡ recordDouble s idSize c
+    number-double w er = double-found (near-found s idSize c near number big e w) refl e the-field er ∙ double-fixed s idSize c (near .fixed)
+
+    -- an integer of either sign
+    module _ (integral : isFloating (numberKind number) ≡ false) where
+      any-width : isFloating (numberKind number) && not (eqb (c .bitCount) 32 || eqb (c .bitCount) 64) ≡ false
+      any-width = rw integral
+
+      pub integer-fitting : Fitting number (c .bitCount) x
+      integer-fitting = fitting number big s (idSize + c .byteOffset) (bitSpan c) c (sound-at (near-found s idSize c near number big e any-width) refl) the-field
+
+      pub integer-double : {r : ℕ} → r ≡ numberDouble number (c .bitCount) x → r ≡ recordDouble s idSize c
+      integer-double er = number-double any-width er
+
+  pub float-double : formOf (c .dataType) ≡ Number Float big → {r : ℕ}
+      → r ≡ (if not (eqb (c .bitCount) 32 || eqb (c .bitCount) 64) then nanPattern else floatBits (c .bitCount) x) → r ≡ recordDouble s idSize c
+  float-double e {r} er = go (not (eqb (c .bitCount) 32 || eqb (c .bitCount) 64)) refl er
+    where
+      go : (t : Bool) → not (eqb (c .bitCount) 32 || eqb (c .bitCount) 64) ≡ t → r ≡ (if t then nanPattern else floatBits (c .bitCount) x) → r ≡ recordDouble s idSize c
+      go true w eq = eq ∙ sym (ap doubleIn (near-refused s idSize c near Float big e w)) ∙ double-fixed s idSize c (near .fixed)
+      go false w eq = number-double Float e w eq
+
+-- ---- elsewhere
+
+-- the place of the field, its type, and whether there is a payload, say all of its value
+abbrev alike : Channel → ℕ → ℕ → Channel
+alike c channelType dataLink = placed (c .dataType) channelType (c .bitOffset) (c .byteOffset) (c .bitCount) dataLink
+
+decoded-alike : (type : DataType) (s : List ℕ) (at n : ℕ) (c : Channel) (t d : ℕ) → decoded type s at n (alike c t d) ≡ decoded type s at n c
+unfolding decoded
+decoded-alike (unsignedInteger o) s at n c t d = refl
+decoded-alike (signedInteger o) s at n c t d = refl
+decoded-alike (float o) s at n c t d = refl
+decoded-alike (string e) s at n c t d = refl
+decoded-alike byteArray s at n c t d = refl
+decoded-alike mimeSample s at n c t d = refl
+decoded-alike mimeStream s at n c t d = refl
+decoded-alike canOpenDate s at n c t d = refl
+decoded-alike canOpenTime s at n c t d = refl
+decoded-alike (complex o) s at n c t d = refl
+decoded-alike unknown s at n c t d = refl
+
+span-alike : (payload : Bool) (k : Kind) (n : ℕ) (c : Channel) (t d : ℕ) → spanIn payload k n (alike c t d) ≡ spanIn payload k n c
+span-alike payload integer n c t d = refl
+span-alike payload floating n c t d = refl
+span-alike payload whole n c t d = refl
+span-alike payload undecoded n c t d = refl
+
+module _ (s : List ℕ) (idSize : ℕ) (c : Channel) (t d : ℕ) (same : variableLength (alike c t d) ≡ variableLength c) where
+  by-alike : (k : Kind) (at n : ℕ) → valueBy k at n s (alike c t d) ≡ valueBy k at n s c
+  by-alike k at n =
+      value-tested k at n s (alike c t d) ∙ ap (tested k at n (length s) c) (decoded-alike (c .dataType) s at n c t d) ∙ sym (value-tested k at n s c)
+
+  pub value-alike : valueOf s idSize (alike c t d) ≡ valueOf s idSize c
+  unfolding valueOf
+  value-alike =
+      let k : Kind = kindOf (c .dataType) in
+      ap (λ (p : Bool). valueBy k (if p then 0 else (idSize + c .byteOffset)) (spanIn p k (length s) (alike c t d)) s (alike c t d)) same
+      ∙ ap (λ (n : ℕ). valueBy k (startOf idSize c) n s (alike c t d)) (span-alike (variableLength c) k (length s) c t d)
+      ∙ by-alike k (startOf idSize c) (spanOf s c)
+
+  pub double-alike : recordDouble s idSize (alike c t d) ≡ recordDouble s idSize c
+  unfolding recordDouble
+  double-alike =
+      ap (λ (p : Bool). if p then nanPattern else doubleIn (valueOf s idSize (alike c t d))) same
+      ∙ ap (λ (r : Reply Value). if variableLength c then nanPattern else doubleIn r) value-alike
+
+-- so a channel laid down anew has the same value, where it is told whether there is a payload
+pub laid-anew : (s : List ℕ) (idSize : ℕ) (c : Channel) (payload : Bool) {t d : ℕ} {r : Reply Value} → payload ≡ variableLength c
+    → t ≡ (if payload then 1 else 0) → d ≡ (if payload then 1 else 0) → r ≡ valueOf s idSize (alike c t d) → r ≡ valueOf s idSize c
+laid-anew s idSize c payload {t} {d} ep et ed er =
+    er ∙ value-alike s idSize c t d (ap₂ (λ (t d : ℕ). eqb t 1 && not (eqb d 0)) et ed ∙ as-told payload ∙ ep)
+  where
+    as-told : (p : Bool) → eqb (if p then 1 else 0) 1 && not (eqb (if p then 1 else 0) 0) ≡ p
+    as-told true = refl
+    as-told false = refl
+
+-- a number that no field can be has no double, and what is no number has none either
+module _ (s : List ℕ) (idSize : ℕ) (c : Channel) (fixed : variableLength c ≡ false) where
+  by-refusal : ((k : Kind) (at n : ℕ) → isNumber k ≡ true → valueBy k at n s c ≡ noValue) → nanPattern ≡ recordDouble s idSize c
+  by-refusal h = go (formOf (c .dataType)) refl
+    where
+      go : (f : Form) → formOf (c .dataType) ≡ f → nanPattern ≡ recordDouble s idSize c
+      go (Number number big) e =
+          double-number s idSize c fixed e
+          (sym (ap doubleIn (h (numberKind number) (idSize + c .byteOffset) (spanIn false (numberKind number) (length s) c) (is-number number))))
+      go (Other content) e = double-other s idSize c fixed e
+
+  pub without-bits : c .bitCount ≡ 0 → nanPattern ≡ recordDouble s idSize c
+  without-bits z = by-refusal (λ k at n e. no-bits k at n s c (rw (e, eq-eqb _ _ z)))
