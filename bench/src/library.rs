@@ -8,15 +8,30 @@ use crate::pieces::{Numbers, Pieces};
 
 pub fn doubles(records: Pieces, channel: &c::Channel) -> u64 {
     let (channel, id_size) = black_box((*channel, 0));
-    records.sum(|record| unsafe { c::mf4_decode_double(record.as_ptr(), record.len(), id_size, channel) })
+    records.sum(|record| double(record, id_size, channel))
+}
+
+pub fn doubles_of_all(records: Pieces, channels: &[c::Channel]) -> u64 {
+    let (channels, id_size) = black_box((channels, 0));
+    records.sum(|record| digest::sum(channels.iter().map(|channel| double(record, id_size, *channel))))
+}
+
+fn double(record: &[u8], id_size: u64, channel: c::Channel) -> u64 {
+    unsafe { c::mf4_decode_double(record.as_ptr(), record.len(), id_size, channel) }
 }
 
 pub fn values(records: Pieces, channel: &c::Channel) -> u64 {
     let (channel, id_size) = black_box((*channel, 0));
-    records.sum(|record| {
-        let answer = unsafe { c::mf4_decode_value(record.as_ptr(), record.len(), id_size, channel) };
-        word_of(record, &answer.value)
-    })
+    records.sum(|record| value(record, id_size, channel))
+}
+
+pub fn values_of_all(records: Pieces, channels: &[c::Channel]) -> u64 {
+    let (channels, id_size) = black_box((channels, 0));
+    records.sum(|record| digest::sum(channels.iter().map(|channel| value(record, id_size, *channel))))
+}
+
+fn value(record: &[u8], id_size: u64, channel: c::Channel) -> u64 {
+    word_of(record, &unsafe { c::mf4_decode_value(record.as_ptr(), record.len(), id_size, channel) })
 }
 
 pub fn valid_values(records: Pieces, data_bytes: u32, channel: &c::Channel) -> u64 {
@@ -24,17 +39,14 @@ pub fn valid_values(records: Pieces, data_bytes: u32, channel: &c::Channel) -> u
     records.sum(|record| {
         let (start, len) = (record.as_ptr(), record.len());
         let answer = unsafe { c::mf4_decode_valid_value(start, len, id_size, data_bytes, channel) };
-        word_of(record, &answer.value).wrapping_add(u64::from(answer.is_valid))
+        word_of(record, &answer.value()).wrapping_add(u64::from(answer.is_valid))
     })
 }
 
-/// A refusal's kind is 0.
-fn word_of(record: &[u8], value: &c::Decoded) -> u64 {
-    match value.kind {
-        1 => value.unsigned_value,
-        2 => value.signed_value as u64,
-        3 => value.double_bits,
-        4..=7 => digest::of_bytes(&record[value.at as usize..][..value.length as usize]),
+fn word_of(record: &[u8], answer: &c::Value) -> u64 {
+    match answer.kind {
+        c::kind::UNSIGNED..=c::kind::DOUBLE => answer.number,
+        c::kind::TEXT..=c::kind::STREAM => digest::of_bytes(&record[answer.at as usize..][..answer.length as usize]),
         _ => 0,
     }
 }
@@ -83,7 +95,7 @@ pub fn lists_written_equal(numbers: &Numbers, count: usize) -> u64 {
     digest::sum((0..count).map(|_| {
         let Numbers { next, links, length, .. } = black_box(numbers);
         let (to, room) = (out.as_mut_ptr(), out.len());
-        let answer = unsafe { c::mf4_write_list_equal(to, room, *next, links.as_ptr(), links.len(), *length) };
+        let answer = unsafe { c::mf4_write_list_equal(*next, links.as_ptr(), links.len(), *length, to, room) };
         digest::of_bytes(&out[..answer.count as usize])
     }))
 }
@@ -94,7 +106,7 @@ pub fn lists_written_variable(numbers: &Numbers, count: usize) -> u64 {
         let Numbers { next, links, offsets, .. } = black_box(numbers);
         let (to, room) = (out.as_mut_ptr(), out.len());
         let (link, offset) = (links.as_ptr(), offsets.as_ptr());
-        let answer = unsafe { c::mf4_write_list_variable(to, room, *next, link, links.len(), offset, offsets.len()) };
+        let answer = unsafe { c::mf4_write_list_variable(*next, link, links.len(), offset, offsets.len(), to, room) };
         digest::of_bytes(&out[..answer.count as usize])
     }))
 }

@@ -3,18 +3,17 @@
 use std::hint::black_box;
 use std::time::Instant;
 
-use crate::row::{Pass, Plan};
+use crate::row::{Pass, Plan, Row};
 
 const ROUNDS: usize = 31;
 
 /// A pass is timed in so many parts.
 const PARTS: usize = 20;
 
-/// Nanoseconds an item, of the sides of `Row::sides` and then of the copy. The check has warmed what they read and write.
-/// They take turns, and of each part the least time counts: whatever else the machine does can only add to it.
+/// Nanoseconds an item, of the sides of `Row::sides` and then of the copy. They take turns, and of each part the least
+/// time counts: whatever else the machine does can only add to it.
 pub fn times(plan: &Plan) -> Result<Vec<f64>, String> {
-    let row = (plan.make)(plan.items);
-    row.check(plan.items).map_err(|said| format!("{}: {said}", plan.name))?;
+    let row = checked(plan, plan.items)?;
     let mut passes: Vec<&Pass> = row.sides().into_iter().map(|(_, pass)| pass).collect();
     passes.push(&row.copy);
     let mut least = vec![[f64::INFINITY; PARTS]; passes.len()];
@@ -36,7 +35,7 @@ fn time_parts(pass: &Pass, items: usize, least: &mut [f64; PARTS]) {
 /// Two passes of each side, the second with twice the items, so that their difference is that of the items alone.
 pub fn count(plans: &[Plan]) -> Result<(), String> {
     for plan in plans {
-        let row = (plan.make)(2 * plan.counted);
+        let row = checked(plan, 2 * plan.counted)?;
         for (side, pass) in row.sides() {
             counted_pass(pass, plan.counted);
             counted_pass(pass, 2 * plan.counted);
@@ -44,6 +43,14 @@ pub fn count(plans: &[Plan]) -> Result<(), String> {
         }
     }
     Ok(())
+}
+
+/// A row whose sides have given the same answers once. That has warmed what they read, and memory that they take in each
+/// pass is used memory from then on, which costs the same every time.
+fn checked(plan: &Plan, items: usize) -> Result<Row, String> {
+    let row = (plan.make)(items);
+    row.check(items).map_err(|said| format!("{}: {said}", plan.name))?;
+    Ok(row)
 }
 
 // callgrind knows this function by its name.

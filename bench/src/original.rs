@@ -18,10 +18,26 @@ pub fn doubles(records: Pieces, given: &c::Channel) -> u64 {
     records.sum(|record| double(record, id_size, channel).to_bits())
 }
 
+pub fn doubles_of_all(records: Pieces, given: &[c::Channel]) -> u64 {
+    let channels: Vec<ChannelBlock> = given.iter().map(channel_of).collect();
+    let (channels, id_size) = black_box((&channels[..], 0));
+    records.sum(|record| digest::sum(channels.iter().map(|channel| double(record, id_size, channel).to_bits())))
+}
+
 pub fn values(records: Pieces, given: &c::Channel) -> u64 {
     let channel = channel_of(given);
     let (channel, id_size) = black_box((&channel, 0));
-    records.sum(|record| decode_channel_value(record, id_size, channel).map_or(0, word_of))
+    records.sum(|record| value(record, id_size, channel))
+}
+
+pub fn values_of_all(records: Pieces, given: &[c::Channel]) -> u64 {
+    let channels: Vec<ChannelBlock> = given.iter().map(channel_of).collect();
+    let (channels, id_size) = black_box((&channels[..], 0));
+    records.sum(|record| digest::sum(channels.iter().map(|channel| value(record, id_size, channel))))
+}
+
+fn value(record: &[u8], id_size: usize, channel: &ChannelBlock) -> u64 {
+    decode_channel_value(record, id_size, channel).map_or(0, word_of)
 }
 
 pub fn valid_values(records: Pieces, data_bytes: u32, given: &c::Channel) -> u64 {

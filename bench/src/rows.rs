@@ -2,6 +2,7 @@
 
 mod chains;
 mod lists;
+mod mixes;
 mod numbers;
 mod texts;
 
@@ -15,7 +16,8 @@ use crate::pieces::Pieces;
 use crate::row::{Pass, Plan, Row};
 
 pub fn all() -> Vec<Plan> {
-    [numbers::plans(), texts::plans(), lists::plans(), chains::plans()].into_iter().flatten().collect()
+    let rows = [numbers::plans(), mixes::plans(), texts::plans(), lists::plans(), chains::plans()];
+    rows.into_iter().flatten().collect()
 }
 
 /// A field that starts with a byte, of records that say nothing of validity.
@@ -44,4 +46,11 @@ fn copying(bytes: Vec<u8>, place: impl Fn(Range<usize>) -> Range<usize> + 'stati
         target[place.clone()].copy_from_slice(&bytes[place]);
         black_box(&target[..]).len() as u64
     })
+}
+
+/// Copies the same bytes for each item.
+fn copying_again(bytes: Vec<u8>) -> Pass {
+    let size = bytes.len();
+    let once = copying(bytes, move |_| 0..size);
+    Box::new(move |items| items.map(|item| once(item..item + 1)).sum())
 }

@@ -56,32 +56,60 @@ pub struct Channel {
     pub data: u64,
 }
 
-#[repr(C)]
-#[derive(Clone, Copy)]
-pub struct Decoded {
-    pub kind: u32,
-    pub unsigned_value: u64,
-    pub signed_value: i64,
-    pub double_bits: u64,
-    pub at: u64,
-    pub length: u64,
+/// The codes of `data_type`, as far as they are named here.
+pub mod data_type {
+    pub const UNSIGNED_LE: u8 = 0;
+    pub const UNSIGNED_BE: u8 = 1;
+    pub const SIGNED_LE: u8 = 2;
+    pub const FLOAT_LE: u8 = 4;
+    pub const FLOAT_BE: u8 = 5;
+    pub const LATIN1: u8 = 6;
+    pub const UTF8: u8 = 7;
+    pub const UTF16_LE: u8 = 8;
+    pub const BYTE_ARRAY: u8 = 10;
 }
 
 #[repr(C)]
 #[derive(Clone, Copy)]
 pub struct Value {
     pub reply: u32,
+    pub kind: u32,
     pub told: u64,
-    pub value: Decoded,
+    pub number: u64,
+    pub at: u64,
+    pub length: u64,
 }
 
 #[repr(C)]
 #[derive(Clone, Copy)]
 pub struct ValidValue {
     pub reply: u32,
+    pub kind: u32,
     pub told: u64,
-    pub value: Decoded,
+    pub number: u64,
+    pub at: u64,
+    pub length: u64,
     pub is_valid: u8,
+}
+
+impl ValidValue {
+    pub fn value(&self) -> Value {
+        let ValidValue { reply, kind, told, number, at, length, .. } = *self;
+        Value { reply, kind, told, number, at, length }
+    }
+}
+
+/// What `kind` says of a value.
+pub mod kind {
+    pub const NOTHING: u32 = 0;
+    pub const UNSIGNED: u32 = 1;
+    pub const SIGNED: u32 = 2;
+    pub const DOUBLE: u32 = 3;
+    pub const TEXT: u32 = 4;
+    pub const BYTES: u32 = 5;
+    pub const SAMPLE: u32 = 6;
+    pub const STREAM: u32 = 7;
+    pub const UNKNOWN: u32 = 8;
 }
 
 #[repr(C)]
@@ -91,6 +119,14 @@ pub struct Text {
     pub told: u64,
     pub count: u64,
     pub damaged: u8,
+}
+
+#[repr(C)]
+#[derive(Clone, Copy)]
+pub struct Length {
+    pub reply: u32,
+    pub told: u64,
+    pub length: u64,
 }
 
 #[repr(C)]
@@ -107,21 +143,21 @@ extern "C" {
     pub fn mf4_default_bits(code: u8) -> u32;
     pub fn mf4_read_list(bytes: *const u8, bytes_len: usize) -> List;
     pub fn mf4_write_list_equal(
-        out: *mut u8,
-        out_len: usize,
         next: u64,
         links: *const u64,
         links_len: usize,
         length: u64,
-    ) -> Written;
-    pub fn mf4_write_list_variable(
         out: *mut u8,
         out_len: usize,
+    ) -> Written;
+    pub fn mf4_write_list_variable(
         next: u64,
         links: *const u64,
         links_len: usize,
         offsets: *const u64,
         offsets_len: usize,
+        out: *mut u8,
+        out_len: usize,
     ) -> Written;
     pub fn mf4_decode_value(record: *const u8, record_len: usize, record_id_size: u64, channel: Channel) -> Value;
     pub fn mf4_check_validity(
@@ -143,6 +179,7 @@ extern "C" {
     pub fn mf4_text_utf8(bytes: *const u8, bytes_len: usize, out: *mut u8, out_len: usize) -> Text;
     pub fn mf4_text_utf16_le(bytes: *const u8, bytes_len: usize, out: *mut u8, out_len: usize) -> Text;
     pub fn mf4_text_utf16_be(bytes: *const u8, bytes_len: usize, out: *mut u8, out_len: usize) -> Text;
+    pub fn mf4_data_length(file: *const u8, file_len: usize, start: u64) -> Length;
     pub fn mf4_read_record(
         file: *const u8,
         file_len: usize,

@@ -50,7 +50,7 @@ fn contradiction(case: &Case, ours: &Owed<Answer>, due: &Result<Answer, Stopped>
     }
 }
 
-fn ask_library(case: &Case) -> Owed<Answer> {
+pub fn ask_library(case: &Case) -> Owed<Answer> {
     Ok(match case {
         Case::Type { code } => {
             Answer::Type { code: library::type_code(*code), default_bits: library::default_bits(*code) }

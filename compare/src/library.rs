@@ -76,12 +76,12 @@ const EMPTY_LIST: List = List {
 };
 
 pub fn write_list_equal(room: usize, next: u64, links: &[u64], length: u64) -> Owed<Reply<Vec<u8>>> {
-    written(room, |out, len| unsafe { c::mf4_write_list_equal(out, len, next, start(links), links.len(), length) })
+    written(room, |out, len| unsafe { c::mf4_write_list_equal(next, start(links), links.len(), length, out, len) })
 }
 
 pub fn write_list_variable(room: usize, next: u64, links: &[u64], offsets: &[u64]) -> Owed<Reply<Vec<u8>>> {
     written(room, |out, len| unsafe {
-        c::mf4_write_list_variable(out, len, next, start(links), links.len(), start(offsets), offsets.len())
+        c::mf4_write_list_variable(next, start(links), links.len(), start(offsets), offsets.len(), out, len)
     })
 }
 
@@ -90,7 +90,7 @@ pub fn write_list_variable(room: usize, next: u64, links: &[u64], offsets: &[u64
 pub fn decode_value(field: &Field) -> Owed<Reply<Value>> {
     let record = &field.record;
     let answer = unsafe { c::mf4_decode_value(start(record), record.len(), field.id_size, channel_of(&field.channel)) };
-    value_reply(answer.reply, answer.told, &answer.value)
+    value_reply(&answer)
 }
 
 pub fn check_validity(field: &Field) -> Owed<bool> {
@@ -112,7 +112,7 @@ pub fn decode_valid_value(field: &Field) -> Owed<Reply<(Value, bool)>> {
         )
     };
     let is_valid = flag(answer.is_valid)?;
-    match value_reply(answer.reply, answer.told, &answer.value)? {
+    match value_reply(&answer.value())? {
         Ok(value) => Ok(Ok((value, is_valid))),
         Err(_) if is_valid => Err("a refusal that says something of validity".to_string()),
         Err(refusal) => Ok(Err(refusal)),
@@ -137,43 +137,41 @@ fn channel_of(channel: &Channel) -> c::Channel {
     }
 }
 
-fn value_reply(number: u32, told: u64, decoded: &c::Decoded) -> Owed<Reply<Value>> {
-    if number != 0 {
-        let empty = fields(decoded) == [0; 5] && decoded.kind == 0;
-        return reply(number, told, empty, Value::Unknown);
+fn value_reply(answer: &c::Value) -> Owed<Reply<Value>> {
+    if answer.reply != 0 {
+        let empty = fields(answer) == [0; 3] && answer.kind == c::kind::NOTHING;
+        return reply(answer.reply, answer.told, empty, Value::Unknown);
     }
-    reply(number, told, false, value_of(decoded)?)
+    reply(answer.reply, answer.told, false, value_of(answer)?)
 }
 
 /// The value of its kind. The fields of the other kinds hold nothing, so that an answer has one form only.
-fn value_of(decoded: &c::Decoded) -> Owed<Value> {
-    let place = Place { at: decoded.at, length: decoded.length };
-    let value = match decoded.kind {
-        1 => Value::Unsigned(decoded.unsigned_value),
-        2 => Value::Signed(decoded.signed_value),
-        3 => Value::Double(decoded.double_bits),
-        4 => Value::Text(place),
-        5 => Value::Bytes(place),
-        6 => Value::Sample(place),
-        7 => Value::Stream(place),
-        8 => Value::Unknown,
+fn value_of(answer: &c::Value) -> Owed<Value> {
+    let place = Place { at: answer.at, length: answer.length };
+    let value = match answer.kind {
+        c::kind::UNSIGNED => Value::Unsigned(answer.number),
+        c::kind::SIGNED => Value::Signed(answer.number as i64),
+        c::kind::DOUBLE => Value::Double(answer.number),
+        c::kind::TEXT => Value::Text(place),
+        c::kind::BYTES => Value::Bytes(place),
+        c::kind::SAMPLE => Value::Sample(place),
+        c::kind::STREAM => Value::Stream(place),
+        c::kind::UNKNOWN => Value::Unknown,
         other => return Err(format!("an answer of kind {other}")),
     };
     let [_, first, second] = value.words();
     let expected = match value {
-        Value::Unsigned(_) => [first, 0, 0, 0, 0],
-        Value::Signed(_) => [0, first, 0, 0, 0],
-        Value::Double(_) => [0, 0, first, 0, 0],
-        _ => [0, 0, 0, first, second],
+        Value::Unsigned(_) | Value::Signed(_) | Value::Double(_) => [first, 0, 0],
+        _ => [0, first, second],
     };
-    if fields(decoded) != expected {
-        return Err(format!("a value of kind {} with fields of another kind: {:x?}", decoded.kind, fields(decoded)));
+    if fields(answer) != expected {
+        return Err(format!("a value of kind {} with fields of another kind: {:x?}", answer.kind, fields(answer)));
     }
     Ok(value)
 }
 
-fn fields(decoded: &c::Decoded) -> [u64; 5] {
-    [decoded.unsigned_value, decoded.signed_value as u64, decoded.double_bits, decoded.at, decoded.length]
+fn fields(answer: &c::Value) -> [u64; 3] {
+    [answer.number, answer.at, answer.length]
 }
 
 // ---- texts

@@ -1,7 +1,7 @@
 //! The differential comparison: mf4-rs 3.8.0, its own files unchanged, against the library's archive.
 //!
 //!     compare [COUNT] [--seed SEED]   compares COUNT generated inputs (default: ten million)
-//!     compare --replay LINE           compares the one input of a line, as a failing run prints it
+//!     compare --replay LINE           gives both answers to the one input of a line, as a failing run prints it
 //!     compare --sample COUNT FILE     writes COUNT inputs with the crate's answers, for a replay without Rust
 //!
 //! Inside the domain every answer must be equal. Outside it, the difference must be a listed one and the library must
@@ -54,7 +54,7 @@ use std::io::{self, BufWriter, Write};
 use std::process::ExitCode;
 
 use cases::Case;
-use check::{judge, Verdict};
+use check::{ask_library, judge, Verdict};
 use generate::Generator;
 use tally::Tally;
 
@@ -123,7 +123,8 @@ fn replay(line: &str) -> ExitCode {
         eprintln!("no input: {line}");
         return ExitCode::from(2);
     };
-    println!("the crate: {}", crate_line(&case));
+    println!("the crate:   {}", crate_line(&case));
+    println!("the library: {}", ask_library(&case).map_or_else(|why| why, |answer| answer.line()));
     match judge(&case) {
         Verdict::Equal => println!("equal"),
         Verdict::Listed { difference, crate_too: true } => println!("{}: both give what is due", difference.name()),

@@ -1,13 +1,15 @@
-//! Records through a chain. The crate has no such call, so the library stands beside the copy of a record's bytes alone.
+//! Records through a chain, and the length of its data. The crate has no such calls, so the library stands beside a copy
+//! of the bytes alone.
 
 use std::cell::RefCell;
 use std::hint::black_box;
 use std::ops::Range;
 use std::rc::Rc;
 
-use super::channel;
 use super::lists::{header_bytes, HEADER_SIZE};
+use super::{channel, copying_again};
 use crate::c;
+use crate::c::data_type::UNSIGNED_LE;
 use crate::dice::Dice;
 use crate::digest;
 use crate::library::list_size;
@@ -16,6 +18,9 @@ use crate::row::{Pass, Plan, Row};
 /// The joined data is the same however many fragments it has, and some records lie over two fragments.
 const DATA: usize = 4 << 20;
 const SIZE: usize = 24;
+
+/// From an item's record to the next item's: a golden section of the data, so that few records too are from all over it.
+const STEP: usize = 108_011;
 
 /// A file, where its chain starts, and the joined data.
 struct Chain {
@@ -30,8 +35,9 @@ pub fn plans() -> Vec<Plan> {
     vec![
         Plan::new("record through 1 fragment", 200_000, 200, |_| row(1, fetched, copied)),
         Plan::new("record through 64 fragments", 20_000, 50, |_| row(64, fetched, copied)),
-        Plan::new("record through 4,096 fragments", 500, 2, |_| row(4_096, fetched, copied)),
+        Plan::new("record through 4,096 fragments", 500, 10, |_| row(4_096, fetched, copied)),
         Plan::new("value in a record through 64 fragments", 20_000, 50, |_| row(64, value_fetched, value_copied)),
+        Plan::new("length of the data of 4,096 fragments", 500, 10, |_| length_row(4_096)),
     ]
 }
 
@@ -49,7 +55,7 @@ fn row(fragments: usize, ours: Fetch, copy: Fetch) -> Row {
 /// Records from all over the data.
 fn over_records(chain: &Chain, items: Range<usize>, buffer: &mut [u8], fetch: Fetch) -> u64 {
     let records = DATA / SIZE;
-    digest::sum(items.map(|item| fetch(chain, (item * 7_919 % records) as u64, buffer)))
+    digest::sum(items.map(|item| fetch(chain, (item * STEP % records) as u64, buffer)))
 }
 
 fn fetched(chain: &Chain, number: u64, buffer: &mut [u8]) -> u64 {
@@ -67,13 +73,26 @@ fn copied(chain: &Chain, number: u64, buffer: &mut [u8]) -> u64 {
 fn value_fetched(chain: &Chain, number: u64, buffer: &mut [u8]) -> u64 {
     let (file, len, size) = (chain.file.as_ptr(), chain.file.len(), SIZE as u64);
     let (out, room) = (buffer.as_mut_ptr(), buffer.len());
-    let field = c::Channel { flags: 2, pos_invalidation_bit: 3, ..channel(0, 4, 32) };
+    let field = c::Channel { flags: 2, pos_invalidation_bit: 3, ..channel(UNSIGNED_LE, 4, 32) };
     let answer = unsafe { c::mf4_record_value(file, len, chain.start, number, size, 0, 23, field, out, room) };
-    answer.value.unsigned_value
+    answer.number
 }
 
 fn value_copied(chain: &Chain, number: u64, buffer: &mut [u8]) -> u64 {
     copied(chain, number, buffer) >> 32
+}
+
+/// The list and the headers of its blocks are read, and so many bytes are copied.
+fn length_row(fragments: usize) -> Row {
+    let copy = copying_again(vec![0; list_size(fragments, 1) + fragments * HEADER_SIZE]);
+    let chain = chain(fragments);
+    let ours: Pass = Box::new(move |items| digest::sum(items.map(|_| data_length(black_box(&chain)))));
+    assert_eq!(ours(0..1), DATA as u64, "the length is not that of the joined data");
+    Row { ours, border: None, inlined: None, copy }
+}
+
+fn data_length(chain: &Chain) -> u64 {
+    unsafe { c::mf4_data_length(chain.file.as_ptr(), chain.file.len(), chain.start) }.length
 }
 
 /// Data blocks of one length, and then the list of them.
@@ -91,7 +110,7 @@ fn chain(fragments: usize) -> Chain {
     let start = file.len() as u64;
     let mut list = vec![0; list_size(fragments, 1)];
     let length = (DATA / fragments) as u64;
-    unsafe { c::mf4_write_list_equal(list.as_mut_ptr(), list.len(), 0, links.as_ptr(), links.len(), length) };
+    unsafe { c::mf4_write_list_equal(0, links.as_ptr(), links.len(), length, list.as_mut_ptr(), list.len()) };
     file.extend(list);
     Chain { file, start, joined }
 }

@@ -3,7 +3,7 @@
 use std::ops::Range;
 use std::rc::Rc;
 
-use super::{copying, over_pieces};
+use super::{copying, copying_again, over_pieces};
 use crate::dice::Dice;
 use crate::pieces::{Numbers, Pieces};
 use crate::row::{Pass, Plan, Row};
@@ -92,12 +92,6 @@ fn lists_written(equal: bool) -> Row {
     writing(numbers, sides, copy)
 }
 
-fn copying_again(bytes: Vec<u8>) -> Pass {
-    let size = bytes.len();
-    let once = copying(bytes, move |_| 0..size);
-    Box::new(move |items| items.map(|item| once(item..item + 1)).sum())
-}
-
 fn numbers(seed: u64) -> Numbers {
     let mut dice = Dice::new(seed);
     let links = (0..LINKS).map(|_| dice.below(1 << 40)).collect();
@@ -111,9 +105,9 @@ fn list_bytes(numbers: &Numbers, equal: bool) -> Vec<u8> {
     let mut out = vec![0; library::list_size(count, if equal { 1 } else { count })];
     let (to, room) = (out.as_mut_ptr(), out.len());
     if equal {
-        unsafe { c::mf4_write_list_equal(to, room, *next, link, count, *length) };
+        unsafe { c::mf4_write_list_equal(*next, link, count, *length, to, room) };
     } else {
-        unsafe { c::mf4_write_list_variable(to, room, *next, link, count, offset, count) };
+        unsafe { c::mf4_write_list_variable(*next, link, count, offset, count, to, room) };
     }
     out
 }

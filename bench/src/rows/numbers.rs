@@ -1,6 +1,7 @@
 //! The double and the value of a field.
 
 use super::{channel, over_pieces};
+use crate::c::data_type::{BYTE_ARRAY, FLOAT_BE, FLOAT_LE, SIGNED_LE, UNSIGNED_BE, UNSIGNED_LE, UTF8};
 use crate::dice::Dice;
 use crate::pieces::Pieces;
 use crate::row::Plan;
@@ -16,19 +17,14 @@ const DATA_BYTES: u32 = 15;
 /// Where the fields stand that are not said to stand elsewhere.
 const AT: usize = 4;
 
-const UNSIGNED_LE: u8 = 0;
-const UNSIGNED_BE: u8 = 1;
-const SIGNED_LE: u8 = 2;
-const FLOAT_LE: u8 = 4;
-const FLOAT_BE: u8 = 5;
-const UTF8: u8 = 7;
-const BYTES: u8 = 10;
+/// A record that no eight bytes fit into.
+const SHORT: usize = 6;
 
 /// Puts a field's value into a record of random bytes.
 type Put = fn(&mut Dice, &mut [u8]);
 
 pub fn plans() -> Vec<Plan> {
-    [unsigned_doubles(), other_doubles(), values()].into_iter().flatten().collect()
+    [unsigned_doubles(), other_doubles(), values(), at_the_end()].into_iter().flatten().collect()
 }
 
 fn unsigned_doubles() -> Vec<Plan> {
@@ -42,7 +38,6 @@ fn unsigned_doubles() -> Vec<Plan> {
         double("u32, big-endian", field(UNSIGNED_BE, 32), random),
         double("u64, big-endian", field(UNSIGNED_BE, 64), random),
         double("12 bits from bit 4", c::Channel { byte_offset: 3, bit_offset: 4, ..field(UNSIGNED_LE, 12) }, random),
-        double("u16, last in the record", c::Channel { byte_offset: 14, ..field(UNSIGNED_LE, 16) }, random),
     ]
 }
 
@@ -64,9 +59,22 @@ fn values() -> Vec<Plan> {
         value("i16", field(SIGNED_LE, 16), random),
         value("u64", field(UNSIGNED_LE, 64), random),
         value("f64", field(FLOAT_LE, 64), double_le),
-        value("8 bytes", field(BYTES, 64), random),
+        value("8 bytes", field(BYTE_ARRAY, 64), random),
         value("text of 8 bytes", field(UTF8, 64), letters),
         valid_value("u32", c::Channel { flags: 2, pos_invalidation_bit: 3, ..field(UNSIGNED_LE, 32) }, random),
+    ]
+}
+
+/// Fields with fewer than eight bytes of the record from their start on.
+fn at_the_end() -> Vec<Plan> {
+    let short = c::Channel { byte_offset: 2, ..field(UNSIGNED_LE, 16) };
+    vec![
+        double("u16, last in the record", last(UNSIGNED_LE), random),
+        double("u16, big-endian, last in the record", last(UNSIGNED_BE), random),
+        plan("double of u16 in a record of 6 bytes", SHORT, short, random, DOUBLES),
+        value("u16, last in the record", last(UNSIGNED_LE), random),
+        value("u16, big-endian, last in the record", last(UNSIGNED_BE), random),
+        plan("value of u16 in a record of 6 bytes", SHORT, short, random, VALUES),
     ]
 }
 
@@ -74,35 +82,44 @@ fn field(data_type: u8, bit_count: u32) -> c::Channel {
     channel(data_type, AT as u32, bit_count)
 }
 
+/// Two bytes that end with the record.
+fn last(data_type: u8) -> c::Channel {
+    channel(data_type, SIZE as u32 - 2, 16)
+}
+
+/// The library, the crate at the border, and the crate inlined.
+type Sides = [fn(Pieces, &c::Channel) -> u64; 3];
+
+const DOUBLES: Sides = [library::doubles, border::doubles, inlined::doubles];
+const VALUES: Sides = [library::values, border::values, inlined::values];
+const VALID_VALUES: Sides = [
+    |records, channel| library::valid_values(records, DATA_BYTES, channel),
+    |records, channel| border::valid_values(records, DATA_BYTES, channel),
+    |records, channel| inlined::valid_values(records, DATA_BYTES, channel),
+];
+
 fn double(name: &str, channel: c::Channel, put: Put) -> Plan {
-    let sides = [library::doubles, border::doubles, inlined::doubles];
-    plan(&format!("double of {name}"), channel, put, sides)
+    plan(&format!("double of {name}"), SIZE, channel, put, DOUBLES)
 }
 
 fn value(name: &str, channel: c::Channel, put: Put) -> Plan {
-    let sides = [library::values, border::values, inlined::values];
-    plan(&format!("value of {name}"), channel, put, sides)
+    plan(&format!("value of {name}"), SIZE, channel, put, VALUES)
 }
 
 fn valid_value(name: &str, channel: c::Channel, put: Put) -> Plan {
-    let sides: [fn(Pieces, &c::Channel) -> u64; 3] = [
-        |records, channel| library::valid_values(records, DATA_BYTES, channel),
-        |records, channel| border::valid_values(records, DATA_BYTES, channel),
-        |records, channel| inlined::valid_values(records, DATA_BYTES, channel),
-    ];
-    plan(&format!("value and validity of {name}"), channel, put, sides)
+    plan(&format!("value and validity of {name}"), SIZE, channel, put, VALID_VALUES)
 }
 
-fn plan(name: &str, channel: c::Channel, put: Put, sides: [fn(Pieces, &c::Channel) -> u64; 3]) -> Plan {
+fn plan(name: &str, size: usize, channel: c::Channel, put: Put, sides: Sides) -> Plan {
     Plan::new(name, ITEMS, COUNTED, move |items| {
-        over_pieces(records(items, put), SIZE, sides.map(|side| move |records: Pieces| side(records, &channel)))
+        over_pieces(records(items, size, put), size, sides.map(|side| move |records: Pieces| side(records, &channel)))
     })
 }
 
-fn records(count: usize, put: Put) -> Vec<u8> {
+fn records(count: usize, size: usize, put: Put) -> Vec<u8> {
     let mut dice = Dice::new(1);
-    let mut bytes = dice.bytes(count * SIZE);
-    bytes.chunks_exact_mut(SIZE).for_each(|record| put(&mut dice, record));
+    let mut bytes = dice.bytes(count * size);
+    bytes.chunks_exact_mut(size).for_each(|record| put(&mut dice, record));
     bytes
 }
 

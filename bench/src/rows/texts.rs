@@ -1,6 +1,7 @@
 //! A text as UTF-8: the library writes it into a lent buffer, the crate into a string of its own.
 
 use super::{channel, over_pieces};
+use crate::c::data_type;
 use crate::dice::Dice;
 use crate::pieces::Pieces;
 use crate::row::{Plan, Row};
@@ -22,12 +23,18 @@ struct Encoding {
     ours: fn(Pieces, &c::Channel) -> u64,
 }
 
-const LATIN1: Encoding =
-    Encoding { type_code: 6, encode: in_latin1, ours: |texts, _| library::texts(c::mf4_text_latin1, texts) };
+const LATIN1: Encoding = Encoding {
+    type_code: data_type::LATIN1,
+    encode: in_latin1,
+    ours: |texts, _| library::texts(c::mf4_text_latin1, texts),
+};
 const UTF8: Encoding =
-    Encoding { type_code: 7, encode: in_utf8, ours: |texts, _| library::texts(c::mf4_text_utf8, texts) };
-const UTF16: Encoding =
-    Encoding { type_code: 8, encode: in_utf16, ours: |texts, _| library::texts(c::mf4_text_utf16_le, texts) };
+    Encoding { type_code: data_type::UTF8, encode: in_utf8, ours: |texts, _| library::texts(c::mf4_text_utf8, texts) };
+const UTF16: Encoding = Encoding {
+    type_code: data_type::UTF16_LE,
+    encode: in_utf16,
+    ours: |texts, _| library::texts(c::mf4_text_utf16_le, texts),
+};
 
 pub fn plans() -> Vec<Plan> {
     vec![
