@@ -16,19 +16,23 @@ idDT = 35 ∷ 35 ∷ 68 ∷ 84 ∷ []
 
 -- ---- the limits
 
--- a file has at most 2^40 bytes, the joined data at most 2^63-1
+-- 7: a file has at most 2^40 bytes
 abbrev pub fileLimit : ℕ
 fileLimit = 1099511627776
 
+-- 14: the joined data has at most 2^63-1
 abbrev pub dataLimit : ℕ
 dataLimit = 9223372036854775807
 
+-- 8: a chain has at most so many lists
 abbrev pub listLimit : ℕ
 listLimit = 256
 
+-- 9: and so many fragments in all
 abbrev pub fragmentLimit : ℕ
 fragmentLimit = 4096
 
+-- 15: a record has at most so many bytes
 abbrev pub recordLimit : ℕ
 recordLimit = 16384
 
