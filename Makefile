@@ -5,7 +5,14 @@
 # The kit that the proofs were last run with; `rt version` prints the kit at hand.
 KIT := rattle-kit-5b logic 064da1ca440f63e7
 
-CC := gcc
+# The library is x86-64 code. On another processor a cross-compiler links it, and the kit's emulator runs what was linked.
+ifneq ($(shell uname -m),x86_64)
+CROSS := x86_64-linux-gnu-
+RUN := $(abspath $(dir $(shell rt doc 2>/dev/null))../on/$(shell uname -m)/toolchain/bin/qemu-x86_64) -L /usr/x86_64-linux-gnu
+endif
+export CROSS RUN
+
+CC := $(CROSS)gcc
 C_FLAGS := -std=c99 -Wall -Wextra -Wconversion -pedantic -O1 -Iinclude
 PREFIX := /usr/local
 # How long `make fuzz` tries inputs, and how many `make compare` and `make check` compare.
@@ -19,12 +26,12 @@ SONAME := libmf4.so.$(basename $(VERSION))
 SHARED := build/libmf4.so.$(VERSION)
 SOURCES := crates.txt $(shell find crates -name '*.rt' -o -name '*.antt')
 
-.PHONY: demo test quick archive shared install clean ctest installed check compare fuzz bench fmt kit
+.PHONY: demo test quick archive shared install clean ctest installed check compare fuzz bench fmt kit tools
 
 # Writes a small pump log and reads it with the library.
 demo: build/make_log build/loader
-	@build/make_log build/pump.mf4
-	@build/loader build/pump.mf4
+	@$(RUN) build/make_log build/pump.mf4
+	@$(RUN) build/loader build/pump.mf4
 
 # The gate: everything is proved from nothing, each wrong program is tried, each program is run; then the C side.
 test: kit
@@ -49,12 +56,12 @@ build/libmf4.a: $(SOURCES)
 # The archive as a shared object: it imports nothing, not even the C library, and exports the calls of mf4.h alone.
 shared: $(SHARED)
 
-$(SHARED): build/libmf4.a
+$(SHARED): build/libmf4.a | tools
 	@echo '{ global: mf4_*; local: *; };' >build/exports
 	@$(CC) -shared -nostdlib -Wl,-z,defs -Wl,-soname,$(SONAME) -Wl,--version-script,build/exports \
 	    -Wl,--whole-archive build/libmf4.a -o $@
 
-build/%: examples/%.c examples/pump.h include/mf4.h build/libmf4.a
+build/%: examples/%.c examples/pump.h include/mf4.h build/libmf4.a | tools
 	@$(CC) $(C_FLAGS) -o $@ $< build/libmf4.a
 
 # Below $(DESTDIR)$(PREFIX): header, archive, shared object, pkg-config file and licences.
@@ -74,7 +81,7 @@ clean:
 	@find tests -name __pycache__ -prune -exec rm -r {} +
 
 # The header, and every call at its limits, between unreadable pages and under the address and undefined-behaviour checkers.
-ctest: archive
+ctest: archive | tools
 	@CC=$(CC) tests/c/run build/libmf4.a build/c
 
 # The library installed into a folder of its own, and the README's first use compiled and run against it.
@@ -82,7 +89,7 @@ installed: build/make_log build/libmf4.a $(SHARED)
 	@tests/installed
 
 # An independent program, written from the rules alone, gives the same answers.
-check: archive
+check: archive | tools
 	@python3 tests/independent/test_reference.py
 	@python3 tests/independent/stored.py crates/replay/data/vectors.txt crates/replay/data/sample.txt
 	@$(CC) $(C_FLAGS) -o build/driver tests/independent/driver.c build/libmf4.a
@@ -102,6 +109,12 @@ bench: archive
 
 fmt:
 	@rt fmt
+
+# What links and looks at x86-64 code on another processor
+tools:
+ifdef CROSS
+	@tests/install "to link x86-64 code on this processor" gcc-x86-64-linux-gnu g++-x86-64-linux-gnu
+endif
 
 kit:
 	@command -v rt >/dev/null || { echo "the Rattle kit is needed: there is no rt on the path" >&2; exit 2; }

@@ -14,6 +14,7 @@ fail() {
 # need_crate "WHY" [PACKAGE..]: everything that a build takes, and those packages; why is said before any is installed. No
 # network is used beyond Debian's own, whose packages have the sources of the crates that mf4-rs stands on.
 need_crate() {
+    [ "$(uname -m)" = x86_64 ] || fail "the library is x86-64 code: mf4-rs is run beside it on such a processor alone"
     command -v cargo >/dev/null || fail "cargo and rustc are needed"
     [ -f "$MF4_RS/src/parsing/decoder.rs" ] || fail "MF4_RS must name the folder of mf4-rs 3.8.0, not $MF4_RS"
     [ -f "$MF4_LIB" ] || fail "there is no archive $MF4_LIB"

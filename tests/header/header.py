@@ -1,5 +1,6 @@
 """The structs and prototypes of mf4.h, and what a C compiler makes of the structs."""
 
+import os
 import re
 import subprocess
 from pathlib import Path
@@ -42,5 +43,6 @@ class Header:
         code = program.with_suffix(".c")
         code.write_text(self.measuring_program(), encoding="utf-8")
         subprocess.run([compiler, "-std=c99", "-Wall", "-Wextra", f"-I{include}", "-o", program, code], check=True)
-        printed = subprocess.run([program], check=True, capture_output=True, text=True).stdout
+        emulator = os.environ.get("RUN", "").split()
+        printed = subprocess.run([*emulator, program], check=True, capture_output=True, text=True).stdout
         return dict(line.split("=") for line in printed.splitlines())

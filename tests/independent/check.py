@@ -11,6 +11,7 @@ Exit status: 0 if every result agrees and the boundary cases led to every reply,
 import argparse
 import collections
 import itertools
+import os
 import subprocess
 import sys
 import time
@@ -152,7 +153,7 @@ def main():
     if not given.driver and not given.self:
         print("a driver is needed: --driver PROGRAM or --self", file=sys.stderr)
         return 2
-    driver = [sys.executable, __file__, "--serve"] if given.self else [given.driver]
+    driver = [sys.executable, __file__, "--serve"] if given.self else [*os.environ.get("RUN", "").split(), given.driver]
     try:
         if given.replay:
             return replay(driver, sys.stdin.readline() if given.replay == "-" else given.replay)
