@@ -1,71 +1,87 @@
--- Fields that eight bytes of the record hold.
+-- Fields that a word holds.
 use mathlib.Core.Path.{_≡_, refl, sym, ap, ap₂, subst, _∙_}
 use mathlib.Core.Bool.{Bool, true, false, not, _&&_, _||_, true≢false}
 use mathlib.Core.List.{List}
 use Prim.Native.Nat.{ℕ, _+_, _-_, _*_, _/_, _%_, _^_, _≤_, _<_}
 use native.Mathlib.Omega.{arith}
-use lib.ListN.{length}
+use lib.ListN.{length, take, drop}
 use lib.Dec.{ltb, eqb}
 use borrow.Author.Tests.{le-ltb, lt-ltb, eq-eqb, ne-eqb}
 use Rattle.definitions.specs.Reply.{Reply, answer, if_then_else_}
-use Rattle.definitions.specs.Bytes.{Order, span, bytesFor, numberOf, fieldAt}
+use Rattle.definitions.specs.Bytes.{Order, leOf, le, span, bits, bytesFor, numberOf, fieldAt}
 use Rattle.definitions.specs.Ieee754.{nanPattern}
 use Rattle.definitions.specs.DataType.{DataType, unsignedInteger, signedInteger, float, complex, string, byteArray, mimeSample, mimeStream, canOpenDate, canOpenTime, unknown, Kind, integer, floating, whole, undecoded, kindOf}
 use Rattle.definitions.specs.Channel.{Channel, Value, variableLength, startOf, bitSpan, spanIn, spanOf, floatBits, decoded, isNumber, isInteger, isFloating, noValue, valueBy, valueOf, doubleIn, recordDouble}
 use Rattle.decoder.specs.Form.{orderMeant, formOf, formKind, placed, numberKind, numberValue, numberDouble}
-use Rattle.decoder.specs.Known.{valueAt, Held, WordTold, Near, NearNumber, NumberTold, InWord, FieldTold, Fitting}
+use Rattle.decoder.specs.Known.{valueAt, Held, WordTold, Near, Sized, NumberTold, InWord, FieldTold, Fitting}
 use Rattle.decoder.specs.declared.form.Number as numbers
 use Rattle.decoder.specs.declared.form.Number.the-variants.{Float}
 use Rattle.decoder.specs.declared.form.Content.{Content}
 use Rattle.decoder.specs.declared.form.Form.{Form}
 use Rattle.decoder.specs.declared.form.Form.the-variants.{Number, Other}
 use Rattle.decoder.specs.declared.near.WordFound.{WordFound}
-use Rattle.decoder.specs.declared.near.WordFound.the-variants.{At, Nowhere}
-use Rattle.decoder.specs.declared.near.NumberFound.{NumberFound}
-use Rattle.decoder.specs.declared.near.NumberFound.the-variants.{At as NumberAt, Nowhere as NoNumber}
+use Rattle.decoder.specs.declared.near.WordFound.the-variants.{Word}
+use Rattle.decoder.specs.declared.near.NumberForm.{NumberForm}
+use Rattle.decoder.specs.declared.near.NumberForm.the-variants.{Number as SizedNumber, Other as NoNumber}
 use Rattle.decoder.specs.declared.field.FieldFound.the-variants.{Field}
 use Rattle.decoder.proofs.Forms.{number-kinds, number-span, is-number, no-number}
 use Rattle.decoder.proofs.Fields.{tested, value-tested, no-bits, no-float-width, found, fitting}
 use Rattle.decoder.proofs.Values.{looked-for, sound-at, valued}
 use Rattle.decoder.proofs.Doubles.{double-found, double-fixed, double-other, double-number}
 use Rattle.words.proofs.Bits.{field-below}
-use Rattle.words.proofs.Ways.{placed as placed-at}
+use Rattle.words.proofs.Numbers.{Bytes}
+use Rattle.words.proofs.Spans.{span-whole}
+use Rattle.words.proofs.Loads.{in-word}
 
 -- ---- the test
 
-module _ (length skipped : ℕ) (c : Channel) where
+-- a word that is the number of k bytes at p holds the field that begins at their bit `from` and ends among them
+pub held-by : (s : List ℕ) (at offset count p k from : ℕ) {word : ℕ} → word ≡ leOf (span s p k) → Bytes s → k ≤ 8 → p + k ≤ length s
+    → 8 * p + from ≡ 8 * at + offset → offset < 8 → 1 ≤ count → from + count ≤ 8 * k → Held s at offset count word from
+held-by s at offset count p k from ew bs few room same low some ends =
+    let n : ℕ = bytesFor offset count in
+    let place : p + from / 8 ≡ at = omega arith in
+    record {
+      bytes = in-word s p k (from / 8) n few bs room ew (omega arith) ∙ ap (λ (q : ℕ). span s q n) place;
+      low = omega arith;
+      ends = omega arith;
+      inside = omega arith;
+    }
+
+module _ (s : List ℕ) (idSize : ℕ) (c : Channel) where
   abbrev Told : WordFound → Type 0
-  Told found = WordTold length (skipped + c .byteOffset) (c .bitOffset) (c .bitCount) found
+  Told found = WordTold s (idSize + c .byteOffset) (c .bitOffset) (c .bitCount) found
 
-  pub near-by : {found : WordFound} {word from : ℕ} → variableLength c ≡ false → Told found → found ≡ At word from → c .bitOffset ≤ 7 → (c .bitCount ≡ 0 → ⊥)
-      → Near length skipped c word from
-  near-by p told e low z = record { fixed = p; low = omega arith; some = above z; held = subst Told e told }
-    where
-      above : (c .bitCount ≡ 0 → ⊥) → 1 ≤ c .bitCount
-      above h = omega arith
+  pub near-by : {found : WordFound} {word from : ℕ} → variableLength c ≡ false → Told found → found ≡ Word word from → c .bitOffset ≤ 7 → 1 ≤ c .bitCount
+      → Near s idSize c word from
+  near-by p told e low some = record { fixed = p; low = omega arith; some = some; held = subst Told e told }
 
-  -- a number with a value, and the word that was found
+-- a count that is not 0
+pub above : {count : ℕ} → (count ≡ 0 → ⊥) → 1 ≤ count
+above h = omega arith
+
+-- a type that is a number's, of a width that has a value
+module _ (type : DataType) (count : ℕ) {form : Form} (ef : form ≡ formOf type) where
   abbrev noWidth : Kind → Bool
-  noWidth k = isFloating k && not (eqb (c .bitCount) 32 || eqb (c .bitCount) 64)
+  noWidth k = isFloating k && not (eqb count 32 || eqb count 64)
 
-  module _ {form : Form} (ef : form ≡ formOf (c .dataType)) where
-    pub number-near : {number : numbers.Number} {big : Bool} {word from : ℕ} {t : Bool} → Near length skipped c word from → form ≡ Number number big
-        → t ≡ noWidth (numberKind number) → t ≡ false → NearNumber length skipped c number big word from
-    number-near near e et f = record { near = near; form = sym ef ∙ e; width = sym et ∙ f }
+  pub sized : {number : numbers.Number} {big t : Bool} → form ≡ Number number big → t ≡ noWidth (numberKind number) → t ≡ false → (count ≡ 0 → ⊥)
+      → Sized (formOf type) number big count
+  sized e et f z = record { form = sym ef ∙ e; some = above z; width = sym et ∙ f }
 
-    -- what has none has no such word
-    pub other-nowhere : {content : Content} → form ≡ Other content → NumberTold length skipped c NoNumber
-    other-nowhere e number big word from h = no-number (sym ef ∙ e) (h .form)
+  -- and what is none
+  pub other-type : {content : Content} → form ≡ Other content → NumberTold (formOf type) count NoNumber
+  other-type e number big h = no-number (sym ef ∙ e) (h .form)
 
-    pub width-nowhere : {n : numbers.Number} {b t : Bool} → form ≡ Number n b → t ≡ noWidth (numberKind n) → t ≡ true → NumberTold length skipped c NoNumber
-    width-nowhere e et f number big word from h = true≢false (sym f ∙ et ∙ ap (λ (f : Form). noWidth (formKind f)) (sym e ∙ ef ∙ h .form) ∙ h .width)
+  pub other-width : {n : numbers.Number} {b t : Bool} → form ≡ Number n b → t ≡ noWidth (numberKind n) → t ≡ true → NumberTold (formOf type) count NoNumber
+  other-width e et f number big h = true≢false (sym f ∙ et ∙ ap (λ (f : Form). noWidth (formKind f)) (sym e ∙ ef ∙ h .form) ∙ h .width)
 
-  pub word-nowhere : {found : WordFound} → Told found → found ≡ Nowhere → NumberTold length skipped c NoNumber
-  word-nowhere told e number big word from h = subst Told e told word from (h .near .held)
+pub without-any : {form : Form} {count : ℕ} → count ≡ 0 → NumberTold form count NoNumber
+without-any z number big h = let some = h .some in omega arith
 
 -- ---- what it gives
 
-module _ (s : List ℕ) (idSize : ℕ) (c : Channel) {word from : ℕ} (near : Near (length s) idSize c word from) where
+module _ (s : List ℕ) (idSize : ℕ) (c : Channel) {word from : ℕ} (near : Near s idSize c word from) where
   abbrev at : ℕ
   at = idSize + c .byteOffset
 
@@ -85,9 +101,7 @@ module _ (s : List ℕ) (idSize : ℕ) (c : Channel) {word from : ℕ} (near : N
     few = number-kinds (λ k. isInteger k && ltb 64 (c .bitCount) ≡ false) (le-ltb 64 (c .bitCount) (omega (arith, near .held .ends))) refl number
 
     inside : ltb (length s) (at + bitSpan c) ≡ false
-    inside =
-        let h : Held (length s) at (c .bitOffset) (c .bitCount) word from = near .held in
-        le-ltb (length s) (at + bitSpan c) (omega (arith, near .low, near .some, h .same, h .ends, h .room))
+    inside = le-ltb (length s) (at + bitSpan c) (omega (arith, near .some, near .held .inside))
 
     module _ (big : Bool) (e : formOf (c .dataType) ≡ Number number big) where
       by-form : valueAt (numberKind number) false s at c ≡ valueOf s idSize c
@@ -110,34 +124,43 @@ module _ (s : List ℕ) (idSize : ℕ) (c : Channel) {word from : ℕ} (near : N
   field big = fieldAt (orderMeant big) s (idSize + c .byteOffset) (c .bitOffset) (c .bitCount)
 
   -- what is read in the word is the field
-  abbrev read : Bool → ℕ
-  read big = fieldAt (orderMeant big) s (word + from / 8) (from % 8) (c .bitCount)
-
-  pub is-field : (big : Bool) {x : ℕ} → x ≡ read big → x ≡ field big
+  pub is-field : (big : Bool) {x : ℕ} → x ≡ fieldAt (orderMeant big) (le 8 word) (from / 8) (from % 8) (c .bitCount) → x ≡ field big
   is-field big e =
-      placed-at (orderMeant big) s word from (idSize + c .byteOffset) (c .bitOffset) (c .bitCount) (omega (arith, near .held .same, near .low)) (omega (arith, near .held .same, near .low)) e
+      let o : Order = orderMeant big in
+      e ∙ ap (λ (offset : ℕ). fieldAt o (le 8 word) (from / 8) offset (c .bitCount)) (near .held .low)
+      ∙ ap (λ (bs : List ℕ). bits (numberOf o bs) (c .bitOffset) (c .bitCount)) (near .held .bytes)
 
 -- ---- its value
 
-module _ (s : List ℕ) (idSize : ℕ) (c : Channel) {number : numbers.Number} {big : Bool} {word from : ℕ} {found : NumberFound}
-    (told : NumberTold (length s) idSize c found) (e : found ≡ NumberAt number big word from) where
-  number-told : NearNumber (length s) idSize c number big word from
-  number-told = subst (NumberTold (length s) idSize c) e told
+-- the number that the type was told to be
+module _ (f : Form) (count : ℕ) {form : NumberForm} {number : numbers.Number} {big : Bool} (told : NumberTold f count form) (e : form ≡ SizedNumber number big) where
+  sized-as : Sized f number big count
+  sized-as = subst (NumberTold f count) e told
+
+  pub some-bits : 1 ≤ count
+  some-bits = sized-as .some
+
+module _ (s : List ℕ) (idSize : ℕ) (c : Channel) {form : NumberForm} {number : numbers.Number} {big : Bool} {found : WordFound} {word from : ℕ}
+    (fixed : variableLength c ≡ false) (numbered : NumberTold (formOf (c .dataType)) (c .bitCount) form) (en : form ≡ SizedNumber number big)
+    (low : c .bitOffset ≤ 7) (told : Told s idSize c found) (ew : found ≡ Word word from) where
+  number-sized : Sized (formOf (c .dataType)) number big (c .bitCount)
+  number-sized = sized-as (formOf (c .dataType)) (c .bitCount) numbered en
+
+  in-sight : Near s idSize c word from
+  in-sight = near-by s idSize c fixed told ew low (number-sized .some)
 
   field-told : FieldTold (numberKind number) (valueOf s idSize c) s c (Field (idSize + c .byteOffset) (bitSpan c))
-  field-told = near-found s idSize c (number-told .near) number big (number-told .form) (number-told .width)
+  field-told = near-found s idSize c in-sight number big (number-sized .form) (number-sized .width)
 
-  pub in-word : InWord number (length s) word from (c .bitCount)
-  in-word =
-      let h = number-told .near in
-      record { some = h .some; ends = h .held .ends; room = h .held .room; width = sound-at field-told refl .width }
+  pub word-number : InWord number from (c .bitCount)
+  word-number = record { some = in-sight .some; ends = in-sight .held .ends; width = sound-at field-told refl .width }
 
-  pub near-valued : {v : Value} → v ≡ numberValue number (c .bitCount) (fieldAt (orderMeant big) s (word + from / 8) (from % 8) (c .bitCount)) → answer v ≡ valueOf s idSize c
+  pub near-valued : {v : Value} → v ≡ numberValue number (c .bitCount) (fieldAt (orderMeant big) (le 8 word) (from / 8) (from % 8) (c .bitCount)) → answer v ≡ valueOf s idSize c
   near-valued ev =
-      valued field-told refl (sym (number-told .form)) (ev ∙ ap (numberValue number (c .bitCount)) (is-field s idSize c (number-told .near) big refl)) refl
+      valued field-told refl (sym (number-sized .form)) (ev ∙ ap (numberValue number (c .bitCount)) (is-field s idSize c in-sight big refl)) refl
 
 -- a field there is of the class that it was found to be
-pub fitting-word : (number : numbers.Number) (o : Order) (s : List ℕ) (p offset : ℕ) {l word from count x : ℕ} → InWord number l word from count
+pub fitting-word : (number : numbers.Number) (o : Order) (s : List ℕ) (p offset : ℕ) {from count x : ℕ} → InWord number from count
     → x ≡ fieldAt o s p offset count → Fitting number count x
 fitting-word number o s p offset {count = count} h e = record {
   some = h .some;
@@ -148,8 +171,8 @@ fitting-word number o s p offset {count = count} h e = record {
 
 -- ---- its double
 
-module _ (s : List ℕ) (idSize : ℕ) (c : Channel) {word from : ℕ} (near : Near (length s) idSize c word from) (big : Bool) {x : ℕ}
-    (ex : x ≡ fieldAt (orderMeant big) s (word + from / 8) (from % 8) (c .bitCount)) where
+module _ (s : List ℕ) (idSize : ℕ) (c : Channel) {word from : ℕ} (near : Near s idSize c word from) (big : Bool) {x : ℕ}
+    (ex : x ≡ fieldAt (orderMeant big) (le 8 word) (from / 8) (from % 8) (c .bitCount)) where
   the-field : x ≡ fieldAt (orderMeant big) s (idSize + c .byteOffset) (c .bitOffset) (c .bitCount)
   the-field = is-field s idSize c near big ex
 
@@ -224,6 +247,13 @@ module _ (s : List ℕ) (idSize : ℕ) (c : Channel) (t d : ℕ) (same : variabl
   double-alike =
       ap (λ (p : Bool). if p then nanPattern else doubleIn (valueOf s idSize (alike c t d))) same
       ∙ ap (λ (r : Reply Value). if variableLength c then nanPattern else doubleIn r) value-alike
+
+-- the general way is handed the record as a part of itself
+pub far-taken : (s : List ℕ) (idSize : ℕ) (c : Channel) {r : ℕ} → variableLength c ≡ false
+    → r ≡ recordDouble (take (length s - 0) (drop 0 s)) idSize (alike c 0 0) → r ≡ recordDouble s idSize c
+far-taken s idSize c fixed er =
+    let whole : length s - 0 ≡ length s = omega arith in
+    er ∙ ap (λ (part : List ℕ). recordDouble part idSize (alike c 0 0)) (ap (λ (n : ℕ). take n s) whole ∙ span-whole s) ∙ double-alike s idSize c 0 0 (sym fixed)
 
 -- so a channel laid down anew has the same value, where it is told whether there is a payload
 pub laid-anew : (s : List ℕ) (idSize : ℕ) (c : Channel) (payload : Bool) {t d : ℕ} {r : Reply Value} → payload ≡ variableLength c

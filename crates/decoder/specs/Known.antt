@@ -2,21 +2,22 @@
 use mathlib.Core.Path.{_≡_}
 use mathlib.Core.Bool.{Bool, true, false, not, _&&_, _||_}
 use mathlib.Core.List.{List}
-use Prim.Native.Nat.{ℕ, _+_, _*_, _^_, _≤_, _<_}
+use Prim.Native.Nat.{ℕ, _+_, _/_, _%_, _^_, _≤_, _<_}
 use lib.ListN.{length}
 use lib.Dec.{eqb}
 use Rattle.definitions.specs.Reply.{Reply, answer}
-use Rattle.definitions.specs.Bytes.{bytesFor}
+use Rattle.definitions.specs.Bytes.{le, span, bytesFor}
 use Rattle.definitions.specs.DataType.{Kind}
 use Rattle.definitions.specs.Channel.{Channel, variableLength, Value, decoded, isNumber, isFloating, spanIn, valueBy, doubleIn}
 use Rattle.refusals.specs.Meaning.{refused}
-use Rattle.decoder.specs.Form.{formOf, numberKind}
+use Rattle.decoder.specs.Form.{numberKind}
 use Rattle.decoder.specs.declared.form.Number.{Number}
+use Rattle.decoder.specs.declared.form.Form.{Form}
 use Rattle.decoder.specs.declared.form.Form.the-variants.{Number as numbered}
 use Rattle.decoder.specs.declared.near.WordFound.{WordFound}
-use Rattle.decoder.specs.declared.near.WordFound.the-variants.{At, Nowhere}
-use Rattle.decoder.specs.declared.near.NumberFound.{NumberFound}
-use Rattle.decoder.specs.declared.near.NumberFound.the-variants.{At as NumberAt, Nowhere as NoNumber}
+use Rattle.decoder.specs.declared.near.WordFound.the-variants.{Word, Nowhere}
+use Rattle.decoder.specs.declared.near.NumberForm.{NumberForm}
+use Rattle.decoder.specs.declared.near.NumberForm.the-variants.{Number as SizedNumber, Other}
 use Rattle.decoder.specs.declared.field.FieldFound.{FieldFound}
 use Rattle.decoder.specs.declared.field.FieldFound.the-variants.{Field, Refused}
 
@@ -34,39 +35,39 @@ pub record FieldBounds (s : List ℕ) (at offset count : ℕ) : Type 0 where
   pub few : count ≤ 64
   pub inside : at + bytesFor offset count ≤ length s
 
--- the eight bytes at `word` hold a field of count bits: bit `from` of them is bit `offset` of those at `at`
-pub record Held (length at offset count word from : ℕ) : Type 0 where
-  pub same : 8 * word + from ≡ 8 * at + offset
+-- the bytes of a word, the lowest first, have those of a field of count bits: bit `from` of them is bit `offset` of s at `at`
+pub record Held (s : List ℕ) (at offset count word from : ℕ) : Type 0 where
+  pub bytes : span (le 8 word) (from / 8) (bytesFor offset count) ≡ span s at (bytesFor offset count)
+  pub low : from % 8 ≡ offset
   pub ends : from + count ≤ 64
-  pub room : word + 8 ≤ length
+  pub inside : at + bytesFor offset count ≤ length s
 
--- they are found, or there are none
-abbrev pub WordTold : ℕ → ℕ → ℕ → ℕ → WordFound → Type 0
-WordTold length at offset count (At word from) = Held length at offset count word from
-WordTold length at offset count Nowhere = (word from : ℕ) → Held length at offset count word from → ⊥
+-- such a word is found for each field of at most eight bytes
+abbrev pub WordTold : List ℕ → ℕ → ℕ → ℕ → WordFound → Type 0
+WordTold s at offset count (Word word from) = Held s at offset count word from
+WordTold s at offset count Nowhere = bytesFor offset count ≤ 8 → at + bytesFor offset count ≤ length s → ⊥
 
--- they hold the field of a fixed channel, whose bits are those of a number
-pub record Near (length idSize : ℕ) (c : Channel) (word from : ℕ) : Type 0 where
+-- it holds the field of a fixed channel, whose bits are those of a number
+pub record Near (s : List ℕ) (idSize : ℕ) (c : Channel) (word from : ℕ) : Type 0 where
   pub fixed : variableLength c ≡ false
   pub low : c .bitOffset < 8
   pub some : 1 ≤ c .bitCount
-  pub held : Held length (idSize + c .byteOffset) (c .bitOffset) (c .bitCount) word from
+  pub held : Held s (idSize + c .byteOffset) (c .bitOffset) (c .bitCount) word from
 
--- and it is a number, which has a value
-pub record NearNumber (length idSize : ℕ) (c : Channel) (number : Number) (big : Bool) (word from : ℕ) : Type 0 where
-  pub near : Near length idSize c word from
-  pub form : formOf (c .dataType) ≡ numbered number big
-  pub width : isFloating (numberKind number) && not (eqb (c .bitCount) 32 || eqb (c .bitCount) 64) ≡ false
+-- a number of count bits, which can have a value
+pub record Sized (f : Form) (number : Number) (big : Bool) (count : ℕ) : Type 0 where
+  pub form : f ≡ numbered number big
+  pub some : 1 ≤ count
+  pub width : isFloating (numberKind number) && not (eqb count 32 || eqb count 64) ≡ false
 
-abbrev pub NumberTold : ℕ → ℕ → Channel → NumberFound → Type 0
-NumberTold length idSize c (NumberAt number big word from) = NearNumber length idSize c number big word from
-NumberTold length idSize c NoNumber = (number : Number) (big : Bool) (word from : ℕ) → NearNumber length idSize c number big word from → ⊥
+abbrev pub NumberTold : Form → ℕ → NumberForm → Type 0
+NumberTold f count (SizedNumber number big) = Sized f number big count
+NumberTold f count Other = (number : Number) (big : Bool) → Sized f number big count → ⊥
 
--- count bits from bit `from` on of the eight bytes at `word`, as a number of that class has them
-pub record InWord (number : Number) (length word from count : ℕ) : Type 0 where
+-- count bits from bit `from` on of a word, as a number of that class has them
+pub record InWord (number : Number) (from count : ℕ) : Type 0 where
   pub some : 1 ≤ count
   pub ends : from + count ≤ 64
-  pub room : word + 8 ≤ length
   pub width : isFloating (numberKind number) ≡ true → (count ≡ 64 → ⊥) → count ≡ 32
 
 -- n bytes at `at` are the channel's field, of kind k

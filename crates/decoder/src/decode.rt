@@ -1,9 +1,8 @@
 // A channel's value in a record.
 ghost use mathlib.Core.Path.{_≡_};
-ghost use Prim.Native.Nat.{_+_, _/_, _%_};
-ghost use lib.ListN.{length};
+ghost use Prim.Native.Nat.{_/_, _%_};
 ghost use Rattle.definitions.specs.Reply.{if_then_else_};
-ghost use Rattle.definitions.specs.Bytes.{fieldAt};
+ghost use Rattle.definitions.specs.Bytes.{le, fieldAt};
 ghost use Rattle.definitions.specs.Channel.{variableLength, valueOf, validValueOf};
 ghost use Rattle.decoder.specs.Meaning.{channelMeant, valueMeant, valueReply, validValueReply, judgedReply};
 ghost use Rattle.decoder.specs.Form.{orderMeant, formKind, formValue, numberValue};
@@ -15,8 +14,10 @@ use crate::field::find_field;
 use crate::form::Form;
 use crate::form::Number;
 use crate::form::form_of;
-use crate::near::NumberFound;
-use crate::near::near_number;
+use crate::near::NumberForm;
+use crate::near::WordFound;
+use crate::near::find_word;
+use crate::near::number_form;
 use crate::number::number_at;
 use crate::number::number_value;
 use crate::validity::check_value_validity;
@@ -91,20 +92,19 @@ fn far_value(record: &[u8], record_id_size: usize, payload: bool, channel: Chann
 
 // The value of a number in a word
 fn near_value(
-    record: &[u8],
     number: Number,
     big_endian: bool,
-    word: usize,
+    word: u64,
     from: u32,
     bit_count: u32,
 ) -> DecodedValue
-    requires { ⌜ InWord number (length (now «record»)) word from «bit_count» ⌝ }
-    ensures { λ r. ⌜ valueMeant r ≡ numberValue number «bit_count» (fieldAt (orderMeant «big_endian») (now («record» .entry)) (word + from / 8) (from % 8) «bit_count») ⌝ }
+    requires { ⌜ InWord number from «bit_count» ⌝ }
+    ensures { λ r. ⌜ valueMeant r ≡ numberValue number «bit_count» (fieldAt (orderMeant «big_endian») (le 8 word) (from / 8) (from % 8) «bit_count») ⌝ }
 {
     let x = if big_endian {
-        near_be(record, word, from, bit_count)
+        near_be(word, from, bit_count)
     } else {
-        near_le(record, word, from, bit_count)
+        near_le(word, from, bit_count)
     };
     number_value(number, bit_count, x)
 }
@@ -115,18 +115,21 @@ pub fn decode_channel_value(record: &[u8], record_id_size: usize, channel: Chann
     if channel.is_variable_length() {
         return far_value(record, record_id_size, true, channel);
     }
-    let found = near_number(record.len(), record_id_size, channel);
-    let NumberFound::At {
-        number,
-        big_endian,
-        word,
-        from,
-    } = found
-    else {
+    let data_type = channel.data_type;
+    let offset = channel.bit_offset;
+    let count = channel.bit_count;
+    let form = number_form(data_type, count);
+    let NumberForm::Number(number, big_endian) = form else {
         return far_value(record, record_id_size, false, channel);
     };
-    let count = channel.bit_count;
-    ValueRead::Value(near_value(record, number, big_endian, word, from, count))
+    if 7 < offset {
+        return far_value(record, record_id_size, false, channel);
+    }
+    let found = find_word(record, record_id_size, channel.byte_offset, offset, count);
+    let WordFound::Word(word, from) = found else {
+        return far_value(record, record_id_size, false, channel);
+    };
+    ValueRead::Value(near_value(number, big_endian, word, from, count))
 }
 
 fn judged(read: ValueRead, is_valid: bool) -> ValidValueRead
@@ -151,18 +154,21 @@ pub fn decode_channel_value_with_validity(
     if channel.is_variable_length() {
         return judged(far_value(record, record_id_size, true, channel), is_valid);
     }
-    let found = near_number(record.len(), record_id_size, channel);
-    let NumberFound::At {
-        number,
-        big_endian,
-        word,
-        from,
-    } = found
-    else {
+    let data_type = channel.data_type;
+    let offset = channel.bit_offset;
+    let count = channel.bit_count;
+    let form = number_form(data_type, count);
+    let NumberForm::Number(number, big_endian) = form else {
         return judged(far_value(record, record_id_size, false, channel), is_valid);
     };
-    let count = channel.bit_count;
-    let value = near_value(record, number, big_endian, word, from, count);
+    if 7 < offset {
+        return judged(far_value(record, record_id_size, false, channel), is_valid);
+    }
+    let found = find_word(record, record_id_size, channel.byte_offset, offset, count);
+    let WordFound::Word(word, from) = found else {
+        return judged(far_value(record, record_id_size, false, channel), is_valid);
+    };
+    let value = near_value(number, big_endian, word, from, count);
     ValidValueRead::Value(DecodedChannelValue { value, is_valid })
 }
 

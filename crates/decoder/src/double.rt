@@ -8,7 +8,6 @@ ghost use Rattle.definitions.specs.Ieee754.{nanPattern};
 ghost use Rattle.definitions.specs.Channel.{floatBits, recordDouble};
 ghost use Rattle.blocks.specs.Meaning.{typeMeant};
 ghost use Rattle.decoder.specs.Meaning.{channelMeant};
-ghost use lib.ListN.{length};
 ghost use Rattle.decoder.specs.Form.{numberDouble, placed};
 ghost use Rattle.decoder.specs.Known.{Near, Fitting};
 use crate::channel::Channel;
@@ -100,26 +99,20 @@ fn near_float(bit_count: u32, x: u64) -> u64
     NAN
 }
 
-// The double of a field that eight bytes hold, where it is a number's
-fn near_double(
-    record: &[u8],
-    record_id_size: usize,
-    channel: Channel,
-    word: usize,
-    from: u32,
-) -> u64
-    requires { ⌜ Near (length (now «record»)) «record_id_size» (channelMeant channel) word from ⌝ }
+// The double of a field that a word holds, where it is a number's
+fn near_double(record: &[u8], record_id_size: usize, channel: Channel, word: u64, from: u32) -> u64
+    requires { ⌜ Near (now «record») «record_id_size» (channelMeant channel) word from ⌝ }
     ensures { λ r. ⌜ r ≡ recordDouble (now («record» .entry)) «record_id_size» (channelMeant channel) ⌝ }
 {
     let count = channel.bit_count;
     let data_type = channel.data_type;
     match data_type {
-        DataType::UnsignedIntegerLE => unsigned_double(count, near_le(record, word, from, count)),
-        DataType::UnsignedIntegerBE => unsigned_double(count, near_be(record, word, from, count)),
-        DataType::SignedIntegerLE => signed_double(count, near_le(record, word, from, count)),
-        DataType::SignedIntegerBE => signed_double(count, near_be(record, word, from, count)),
-        DataType::FloatLE => near_float(count, near_le(record, word, from, count)),
-        DataType::FloatBE => near_float(count, near_be(record, word, from, count)),
+        DataType::UnsignedIntegerLE => unsigned_double(count, near_le(word, from, count)),
+        DataType::UnsignedIntegerBE => unsigned_double(count, near_be(word, from, count)),
+        DataType::SignedIntegerLE => signed_double(count, near_le(word, from, count)),
+        DataType::SignedIntegerBE => signed_double(count, near_be(word, from, count)),
+        DataType::FloatLE => near_float(count, near_le(word, from, count)),
+        DataType::FloatBE => near_float(count, near_be(word, from, count)),
         _ => NAN,
     }
 }
@@ -136,7 +129,7 @@ pub fn decode_f64_from_record(record: &[u8], record_id_size: usize, channel: Cha
     // There is no value then. A function that is called twice is not inlined, and keeps its registers off the short way.
     if 7 < offset {
         return far_double(
-            record,
+            &record[0..],
             record_id_size,
             data_type,
             offset,
@@ -147,16 +140,10 @@ pub fn decode_f64_from_record(record: &[u8], record_id_size: usize, channel: Cha
     if count == 0 {
         return NAN;
     }
-    let found = find_word(
-        record.len(),
-        record_id_size,
-        channel.byte_offset,
-        offset,
-        count,
-    );
-    let WordFound::At(word, from) = found else {
+    let found = find_word(record, record_id_size, channel.byte_offset, offset, count);
+    let WordFound::Word(word, from) = found else {
         return far_double(
-            record,
+            &record[0..],
             record_id_size,
             data_type,
             offset,

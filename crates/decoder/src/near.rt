@@ -1,33 +1,36 @@
-// Fields that eight bytes of the record hold. Nearly all are so, and one load reads them.
+// Fields that a word holds: eight bytes of the record, or all of a shorter one. Nearly all are so, and one load reads them.
 ghost use mathlib.Core.Path.{_≡_};
-ghost use mathlib.Core.Bool.{false};
 ghost use Prim.Native.Nat.{_+_, _≤_, _<_};
-ghost use Rattle.definitions.specs.Channel.{variableLength};
-ghost use Rattle.decoder.specs.Meaning.{channelMeant};
+ghost use Rattle.blocks.specs.Meaning.{typeMeant};
+ghost use Rattle.decoder.specs.Form.{formOf};
 ghost use Rattle.decoder.specs.Known.{WordTold, NumberTold};
-use crate::channel::Channel;
 use crate::field::is_no_float_width;
 use crate::form::Form;
 use crate::form::Number;
 use crate::form::form_of;
+use blocks::DataType;
+use words::few_le_bytes;
+use words::read_u64_le;
 
-// The eight bytes from a place on, and the bit of them at which the field begins
+// A word whose bytes, the lowest first, hold a field, and the bit of them at which it begins
 pub(crate) enum WordFound {
-    At(usize, u32),
+    Word(u64, u32),
     Nowhere,
 }
 
-// From the field's first byte on, else the last eight of the record. By subtraction, since the sum may be past every number that fits.
+// The eight bytes from the field's first on, else the last eight of the record, else all that it has; a field of nine is in
+// none. By subtraction, since the sum may be past every number that fits.
 pub(crate) fn find_word(
-    length: usize,
+    record: &[u8],
     skipped: usize,
     byte_offset: u32,
     bit_offset: u8,
     bit_count: u32,
 ) -> WordFound
     requires { ⌜ («bit_offset» < 8) × (1 ≤ «bit_count») ⌝ }
-    ensures { λ r. ⌜ WordTold length (skipped + «byte_offset») «bit_offset» «bit_count» r ⌝ }
+    ensures { λ r. ⌜ WordTold (now («record» .entry)) (skipped + «byte_offset») «bit_offset» «bit_count» r ⌝ }
 {
+    let length = record.len();
     if length < skipped {
         return WordFound::Nowhere;
     }
@@ -37,7 +40,7 @@ pub(crate) fn find_word(
         if 64 < bit_offset as u64 + bit_count as u64 {
             return WordFound::Nowhere;
         }
-        return WordFound::At(skipped + start, bit_offset as u32);
+        return WordFound::Word(read_u64_le(record, skipped + start), bit_offset as u32);
     }
     let over = start + 8 - left;
     if 7 < over {
@@ -47,56 +50,33 @@ pub(crate) fn find_word(
     if 64 < from as u64 + bit_count as u64 {
         return WordFound::Nowhere;
     }
-    if skipped + start < over {
-        return WordFound::Nowhere;
+    if length < 8 {
+        return WordFound::Word(
+            few_le_bytes(record, 0, length),
+            from + 8 * length as u32 - 64,
+        );
     }
-    WordFound::At(skipped + start - over, from)
+    WordFound::Word(read_u64_le(record, length - 8), from)
 }
 
-// A number with a value, and the word that holds it
-pub(crate) enum NumberFound {
-    At {
-        number: Number,
-        big_endian: bool,
-        word: usize,
-        from: u32,
-    },
-    Nowhere,
+// A number of a width that has a value, and whether it is big-endian
+pub(crate) enum NumberForm {
+    Number(Number, bool),
+    Other,
 }
 
-// What is found nowhere may still have a value: a field of nine bytes, or in a record of fewer than eight, or no number.
-pub(crate) fn near_number(length: usize, record_id_size: usize, channel: Channel) -> NumberFound
-    requires { ⌜ variableLength (channelMeant channel) ≡ false ⌝ }
-    ensures { λ r. ⌜ NumberTold length «record_id_size» (channelMeant channel) r ⌝ }
+pub(crate) fn number_form(data_type: DataType, bit_count: u32) -> NumberForm
+    ensures { λ r. ⌜ NumberTold (formOf (typeMeant «data_type»)) «bit_count» r ⌝ }
 {
-    let data_type = channel.data_type;
     let form = form_of(data_type);
     let Form::Number(number, big_endian) = form else {
-        return NumberFound::Nowhere;
+        return NumberForm::Other;
     };
-    if 7 < channel.bit_offset {
-        return NumberFound::Nowhere;
+    if is_no_float_width(form, bit_count) {
+        return NumberForm::Other;
     }
-    if channel.bit_count == 0 {
-        return NumberFound::Nowhere;
+    if bit_count == 0 {
+        return NumberForm::Other;
     }
-    let found = find_word(
-        length,
-        record_id_size,
-        channel.byte_offset,
-        channel.bit_offset,
-        channel.bit_count,
-    );
-    let WordFound::At(word, from) = found else {
-        return NumberFound::Nowhere;
-    };
-    if is_no_float_width(form, channel.bit_count) {
-        return NumberFound::Nowhere;
-    }
-    NumberFound::At {
-        number,
-        big_endian,
-        word,
-        from,
-    }
+    NumberForm::Number(number, big_endian)
 }

@@ -64,17 +64,20 @@ le-split (suc n) m x =
     (le-split n m (x / 256)
     ∙ ap (λ (y : ℕ). le n (x / 256) ++ le m y) (shr-shr x 8 (8 * n) ∙ ap (λ (k : ℕ). x / 2 ^ k) {x = 8 + 8 * n} {y = 8 * suc n} (omega arith)))
 
--- n bytes in the other order, from the word of which they are the lower ones
-pub in-other-order : (s : List ℕ) (p n : ℕ) {w swapped r : ℕ} → n ≤ 8 → Bytes s → p + n ≤ length s → w ≡ leOf (span s p n)
-    → swapped ≡ numberOf big (le 8 w) → r ≡ swapped / 2 ^ (64 - 8 * n) → r ≡ numberOf big (span s p n)
-in-other-order s p n {w} few bs inside ew es er =
-    let ys : List ℕ = le (8 - n) (w / 2 ^ (8 * n)) in
-    let bytes : le n w ≡ span s p n =
-    ap (le n) ew ∙ ap (λ (k : ℕ). le k (leOf (span s p n))) (sym (length-span s p n inside)) ∙ back-le (span s p n) (bytes-span s p n bs) in
-    let whole : le 8 w ≡ span s p n ++ ys =
-    ap (λ (k : ℕ). le k w) {x = 8} {y = n + (8 - n)} (omega arith) ∙ le-split n (8 - n) w ∙ ap (λ (xs : List ℕ). xs ++ ys) bytes in
-    let rest : length ys ≡ 8 - n = length-le (8 - n) (w / 2 ^ (8 * n)) in
-    let e : 64 - 8 * n ≡ 8 * length ys = omega arith in
-    er ∙ ap (λ (x : ℕ). x / 2 ^ (64 - 8 * n)) (es ∙ ap (numberOf big) whole ∙ append big (span s p n) ys)
-    ∙ ap (λ (k : ℕ). (numberOf big (span s p n) * 2 ^ (8 * length ys) + numberOf big ys) / 2 ^ k) e
-    ∙ high (numberOf big (span s p n)) (8 * length ys) (below big ys (bytes-le (8 - n) (w / 2 ^ (8 * n))))
+-- n bytes are the lower ones of a word that is their number
+module _ (s : List ℕ) (p n : ℕ) {w : ℕ} (few : n ≤ 8) (bs : Bytes s) (inside : p + n ≤ length s) (ew : w ≡ leOf (span s p n)) where
+  pub lower-bytes : le 8 w ≡ span s p n ++ le (8 - n) (w / 2 ^ (8 * n))
+  lower-bytes =
+      let bytes : le n w ≡ span s p n =
+      ap (le n) ew ∙ ap (λ (k : ℕ). le k (leOf (span s p n))) (sym (length-span s p n inside)) ∙ back-le (span s p n) (bytes-span s p n bs) in
+      ap (λ (k : ℕ). le k w) {x = 8} {y = n + (8 - n)} (omega arith) ∙ le-split n (8 - n) w ∙ ap (λ (xs : List ℕ). xs ++ le (8 - n) (w / 2 ^ (8 * n))) bytes
+
+  -- and the upper ones when it is swapped
+  pub in-other-order : {swapped r : ℕ} → swapped ≡ numberOf big (le 8 w) → r ≡ swapped / 2 ^ (64 - 8 * n) → r ≡ numberOf big (span s p n)
+  in-other-order es er =
+      let ys : List ℕ = le (8 - n) (w / 2 ^ (8 * n)) in
+      let rest : length ys ≡ 8 - n = length-le (8 - n) (w / 2 ^ (8 * n)) in
+      let e : 64 - 8 * n ≡ 8 * length ys = omega arith in
+      er ∙ ap (λ (x : ℕ). x / 2 ^ (64 - 8 * n)) (es ∙ ap (numberOf big) lower-bytes ∙ append big (span s p n) ys)
+      ∙ ap (λ (k : ℕ). (numberOf big (span s p n) * 2 ^ (8 * length ys) + numberOf big ys) / 2 ^ k) e
+      ∙ high (numberOf big (span s p n)) (8 * length ys) (below big ys (bytes-le (8 - n) (w / 2 ^ (8 * n))))

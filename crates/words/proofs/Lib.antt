@@ -2,6 +2,7 @@
 pub mod Numbers
 pub mod Spans
 pub mod ByteOrder
+pub mod Loads
 pub mod Bits
 pub mod Locality
 pub mod Stores

@@ -1,5 +1,5 @@
 -- Spans of a list of bytes, and the numbers that they stand for.
-use mathlib.Core.Path.{_≡_, sym, ap, _∙_}
+use mathlib.Core.Path.{_≡_, refl, sym, ap, _∙_}
 use mathlib.Core.List.{List, [], _∷_, _++_, append-assoc}
 use Prim.Native.Nat.{ℕ, zero, suc, _+_, _*_, _^_, _≤_, _<_}
 use native.Mathlib.Omega.{arith}
@@ -28,6 +28,10 @@ getD-span s p n i h = rw (getD-take, getD-drop)
 
 pub span-one : (s : List ℕ) (p : ℕ) → p < length s → span s p 1 ≡ getD s p 0 ∷ []
 span-one s p h = rw (drop-cons s p 0)
+
+pub span-whole : (s : List ℕ) → span s 0 (length s) ≡ s
+span-whole [] = refl
+span-whole (x ∷ s) = ap (λ (xs : List ℕ). x ∷ xs) (span-whole s)
 
 -- bytes between others
 pub span-middle : (front bs rest : List ℕ) → span (front ++ bs ++ rest) (length front) (length bs) ≡ bs

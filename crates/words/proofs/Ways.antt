@@ -5,9 +5,9 @@ use Prim.Native.Nat.{ℕ, _+_, _-_, _*_, _/_, _%_, _^_, _≤_, _<_}
 use native.Mathlib.Omega.{arith}
 use lib.ListN.{length, getD}
 use lib.Pow.{high, shr-shr}
-use Rattle.definitions.specs.Bytes.{Order, little, big, numberOf, span, bits, bytesFor, fieldAt}
-use Rattle.words.proofs.Numbers.{Bytes, lower, upper}
-use Rattle.words.proofs.Spans.{split, more, span-below}
+use Rattle.definitions.specs.Bytes.{Order, little, big, numberOf, le, span, bits, bytesFor, fieldAt}
+use Rattle.words.proofs.Numbers.{Bytes, lower, upper, length-le, bytes-le}
+use Rattle.words.proofs.Spans.{split, more, span-below, span-whole}
 use Rattle.words.proofs.Bits.{above}
 
 -- of two spans that stand side by side, the lower one's bits stand below
@@ -37,18 +37,22 @@ inner little s p a n b offset count bs room ends =
 inner big s p a n b offset count bs room ends =
     of-lower big s p a (n + b) (8 * b + offset) count (omega arith) (omega arith) ∙ of-upper big s (p + a) n b offset count (omega arith) bs
 
-module _ (o : Order) (s : List ℕ) (p count : ℕ) {r word : ℕ} where
-  -- by the word at p, for the field at one of its bits
-  pub near : (from : ℕ) → r ≡ bits word (8 * lower o (from / 8) (8 - from / 8 - bytesFor (from % 8) count) + from % 8) count → word ≡ numberOf o (span s p 8)
-      → Bytes s → from + count ≤ 64 → p + 8 ≤ length s → r ≡ fieldAt o s (p + from / 8) (from % 8) count
-  near from er ew bs to room =
-      let a : ℕ = from / 8 in
-      let n : ℕ = bytesFor (from % 8) count in
-      let b : ℕ = 8 - a - n in
-      let e : 8 ≡ a + (n + b) = omega arith in
-      er ∙ ap (λ (x : ℕ). bits x (8 * lower o a b + from % 8) count) (ew ∙ ap (λ (m : ℕ). numberOf o (span s p m)) e)
-      ∙ inner o s p a n b (from % 8) count bs (omega arith) (omega arith)
+-- by a word's bytes, for the field at one of its bits
+pub near : (o : Order) (word from count : ℕ) {r number : ℕ}
+    → r ≡ bits number (8 * lower o (from / 8) (8 - from / 8 - bytesFor (from % 8) count) + from % 8) count → number ≡ numberOf o (le 8 word)
+    → from + count ≤ 64 → r ≡ fieldAt o (le 8 word) (from / 8) (from % 8) count
+near o word from count er en to =
+    let bs : List ℕ = le 8 word in
+    let a : ℕ = from / 8 in
+    let n : ℕ = bytesFor (from % 8) count in
+    let b : ℕ = 8 - a - n in
+    let whole : length bs ≡ a + (n + b) = length-le 8 word ∙ omega arith in
+    er ∙ ap (λ (x : ℕ). bits x (8 * lower o a b + from % 8) count) (en ∙ ap (numberOf o) (sym (span-whole bs) ∙ ap (span bs 0) whole))
+    ∙ inner o bs 0 a n b (from % 8) count (bytes-le 8 word) (omega arith) (omega arith)
+    ∙ ap (λ (p : ℕ). fieldAt o bs p (from % 8) count) {x = 0 + a} {y = a} (omega arith)
 
+module _ (o : Order) (s : List ℕ) (p count : ℕ) {r word : ℕ} where
+  -- by a word and the byte above it
   pub far : (offset : ℕ) {byte : ℕ} → r ≡ bits (byte * 2 ^ 64 + word) offset count → byte ≡ getD s (upper o p (p + 8)) 0
       → word ≡ numberOf o (span s (lower o p (p + 1)) 8) → bytesFor offset count ≡ 9 → p + 9 ≤ length s → r ≡ fieldAt o s p offset count
   far offset er eb ew en room =
@@ -61,8 +65,3 @@ low-le from = omega arith
 
 pub low-be : (from count : ℕ) → from + count ≤ 64 → (64 - from - count) / 8 * 8 + from % 8 ≡ 8 * (8 - from / 8 - bytesFor (from % 8) count) + from % 8
 low-be from count h = omega arith
-
--- the same field, by the place of its first byte and its offset there
-pub placed : (o : Order) (s : List ℕ) (p from at offset count : ℕ) {r : ℕ} → p + from / 8 ≡ at → from % 8 ≡ offset
-    → r ≡ fieldAt o s (p + from / 8) (from % 8) count → r ≡ fieldAt o s at offset count
-placed o s p from at offset count ep eo e = e ∙ ap₂ (λ (x y : ℕ). fieldAt o s x y count) ep eo

@@ -2,11 +2,12 @@
 ghost use mathlib.Core.Path.{_≡_};
 ghost use Prim.Native.Nat.{_+_, _*_, _/_, _%_, _^_, _≤_, _<_};
 ghost use lib.ListN.{length};
-ghost use Rattle.definitions.specs.Bytes.{little, big, bits, bytesFor, fieldAt};
+ghost use Rattle.definitions.specs.Bytes.{little, big, le, bits, bytesFor, fieldAt};
 use crate::read::be_bytes;
 use crate::read::few_le_bytes;
 use crate::read::read_u64_be;
 use crate::read::read_u64_le;
+use crate::read::swapped;
 
 // The bits of a word from offset on, count of them
 pub fn cut(word: u64, offset: u32, count: u32) -> u64
@@ -28,21 +29,21 @@ fn cut_nine(byte: u8, word: u64, offset: u32, count: u32) -> u64
     )
 }
 
-// The count bits from bit `from` on of the eight bytes at `at`, the first the lowest: a field in any of those bytes
-pub fn near_le(s: &[u8], at: usize, from: u32, count: u32) -> u64
-    requires { ⌜ (1 ≤ count) × (from + count ≤ 64) × (at + 8 ≤ length (now s)) ⌝ }
-    ensures { λ r. ⌜ r ≡ fieldAt little (now (s .entry)) (at + from / 8) (from % 8) count ⌝ }
+// The count bits from bit `from` on of a word's eight bytes, the lowest byte the first: a field in any of those bytes
+pub fn near_le(word: u64, from: u32, count: u32) -> u64
+    requires { ⌜ (1 ≤ count) × (from + count ≤ 64) ⌝ }
+    ensures { λ r. ⌜ r ≡ fieldAt little (le 8 word) (from / 8) (from % 8) count ⌝ }
 {
-    cut(read_u64_le(s, at), from, count)
+    cut(word, from, count)
 }
 
-// The same with the first the highest: the bytes after the field are the low ones of the word
-pub fn near_be(s: &[u8], at: usize, from: u32, count: u32) -> u64
-    requires { ⌜ (1 ≤ count) × (from + count ≤ 64) × (at + 8 ≤ length (now s)) ⌝ }
-    ensures { λ r. ⌜ r ≡ fieldAt big (now (s .entry)) (at + from / 8) (from % 8) count ⌝ }
+// The same with the first byte the highest: the bytes after the field are the low ones of the swapped word
+pub fn near_be(word: u64, from: u32, count: u32) -> u64
+    requires { ⌜ (1 ≤ count) × (from + count ≤ 64) ⌝ }
+    ensures { λ r. ⌜ r ≡ fieldAt big (le 8 word) (from / 8) (from % 8) count ⌝ }
 {
     let after = (64 - from - count) / 8 * 8;
-    cut(read_u64_be(s, at), after + from % 8, count)
+    cut(swapped(word), after + from % 8, count)
 }
 
 // A field in nine bytes, the first the lowest
@@ -70,9 +71,6 @@ pub fn field_le(s: &[u8], at: usize, offset: u32, count: u32) -> u64
     if 8 < n {
         return far_le(s, at, offset, count);
     }
-    if 8 <= s.len() - at {
-        return near_le(s, at, offset, count);
-    }
     cut(few_le_bytes(s, at, n), offset, count)
 }
 
@@ -84,9 +82,6 @@ pub fn field_be(s: &[u8], at: usize, offset: u32, count: u32) -> u64
     let n = ((offset + count + 7) / 8) as usize;
     if 8 < n {
         return far_be(s, at, offset, count);
-    }
-    if 8 <= s.len() - at {
-        return near_be(s, at, offset, count);
     }
     cut(be_bytes(s, at, n), offset, count)
 }

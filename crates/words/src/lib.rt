@@ -11,6 +11,7 @@ pub use field::field_le;
 pub use field::near_be;
 pub use field::near_le;
 pub use id::id_at;
+pub use read::few_le_bytes;
 pub use read::le_bytes;
 pub use read::read_u32_le;
 pub use read::read_u64_be;

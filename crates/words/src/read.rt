@@ -26,25 +26,31 @@ pub fn le_bytes(s: &[u8], at: usize, n: usize) -> u64
     w
 }
 
-// The same where n is known only when it runs: one, two or four bytes are one load and need no loop.
-pub fn few_le_bytes(s: &[u8], at: usize, n: usize) -> u64
-    requires { ⌜ (n ≤ 8) × (at + n ≤ length (now s)) ⌝ }
+// n bytes as two loads of `size` bytes, of which the second ends with them: what both have is shifted out of it
+fn overlapping(s: &[u8], at: usize, n: usize, size: usize) -> u64
+    requires { ⌜ (size ≤ 4) × (size ≤ n) × (n ≤ 2 * size) × (at + n ≤ length (now s)) ⌝ }
     ensures { λ r. ⌜ r ≡ numberOf little (span (now (s .entry)) at n) ⌝ }
 {
-    if n == 1 {
-        return le_bytes(s, at, 1);
+    let second = le_bytes(s, at + (n - size), size) >> (8 * (2 * size - n));
+    second << (8 * size) | le_bytes(s, at, size)
+}
+
+// The same as le_bytes where n is known only when it runs, with no loop then
+pub fn few_le_bytes(s: &[u8], at: usize, n: usize) -> u64
+    requires { ⌜ (1 ≤ n) × (n ≤ 8) × (at + n ≤ length (now s)) ⌝ }
+    ensures { λ r. ⌜ r ≡ numberOf little (span (now (s .entry)) at n) ⌝ }
+{
+    if 4 <= n {
+        return overlapping(s, at, n, 4);
     }
-    if n == 2 {
-        return le_bytes(s, at, 2);
+    if 2 <= n {
+        return overlapping(s, at, n, 2);
     }
-    if n == 4 {
-        return le_bytes(s, at, 4);
-    }
-    le_bytes(s, at, n)
+    le_bytes(s, at, 1)
 }
 
 // The bytes of a word in the other order. The compiler makes one instruction of it.
-fn swapped(word: u64) -> u64
+pub(crate) fn swapped(word: u64) -> u64
     ensures { λ r. ⌜ r ≡ numberOf big (le 8 word) ⌝ }
 {
     let mut done: u64 = 0;

@@ -1,35 +1,57 @@
 -- A payload, and what no word holds, goes the general way; a word's number has its value.
 use borrow.Author.Needs.{needs}
-use mathlib.Core.Path.{sym, _∙_}
+use mathlib.Core.Path.{_≡_, sym, _∙_}
+use mathlib.Core.Bool.{false}
+use native.Mathlib.Omega.{arith}
+use Rattle.definitions.specs.Channel.{variableLength}
 use Rattle.decoder.specs.Meaning.{channelMeant}
-use Rattle.decoder.proofs.WordFields.{in-word, near-valued}
+use Rattle.decoder.proofs.WordFields.{some-bits, word-number, near-valued}
 use Rattle.decoder.proofs.decode.decode_channel_value.Statement.{statement}
 use Rattle.decoder.proofs.decode.decode_channel_value.Tie as tie
 
 far-value-requires : tie.Need-far-value-requires
 far-value-requires c κs = sym (c .if1 .taken) ∙ c .before .is-variable-length .ensures
 
-near-number-requires : tie.Need-near-number-requires
-near-number-requires c κs = sym (c .before .is-variable-length .ensures) ∙ c .if1 .left
+fixed : (c : tie.Else1) → false ≡ variableLength (channelMeant (c .before .before .before .args .channel))
+fixed c = sym (c .if1 .left) ∙ c .before .is-variable-length .ensures
 
 far-value-requires-2 : tie.Need-far-value-requires-2
-far-value-requires-2 c κs =
-    let one = c .before .before .before in
-    sym (one .if1 .left) ∙ one .before .is-variable-length .ensures
+far-value-requires-2 c κs = fixed (c .before .before .before)
+
+far-value-requires-3 : tie.Need-far-value-requires-3
+far-value-requires-3 c κs = fixed (c .before .before .before .before .before)
+
+find-word-requires : tie.Need-find-word-requires
+find-word-requires c κs =
+    let form = c .before .before in
+    (omega (arith, c .if2 .left), some-bits _ _ (form .before .before .number-form .ensures) (form .form .given .1))
+
+far-value-requires-4 : tie.Need-far-value-requires-4
+far-value-requires-4 c κs = fixed (c .before .before .before .before .before .before .before .before)
 
 near-value-requires : tie.Need-near-value-requires
 near-value-requires c κs =
-    let found = c .before in
-    let near = found .before .before in
-    let a = near .before .before .before .before .args in
-    in-word (a .«record» .now) (a .record-id-size) (channelMeant (a .channel)) (near .near-number .ensures) (found .found .given .1)
+    let word = c .before in
+    let find = word .before .before in
+    let two = find .before in
+    let form = two .before .before in
+    let of = form .before .before in
+    let one = of .before in
+    let a = one .before .before .before .args in
+    word-number (a .«record» .now) (a .record-id-size) (channelMeant (a .channel)) (sym (fixed one)) (of .number-form .ensures) (form .form .given .1)
+    (two .if2 .left) (find .find-word .ensures) (word .found .given .1)
 
-returns-3 : tie.Need-returns-3
-returns-3 c =
-    let found = c .before .before in
-    let near = found .before .before in
-    let a = near .before .before .before .before .args in
-    near-valued (a .«record» .now) (a .record-id-size) (channelMeant (a .channel)) (near .near-number .ensures) (found .found .given .1) (c .near-value .ensures)
+returns-5 : tie.Need-returns-5
+returns-5 c =
+    let word = c .before .before in
+    let find = word .before .before in
+    let two = find .before in
+    let form = two .before .before in
+    let of = form .before .before in
+    let one = of .before in
+    let a = one .before .before .before .args in
+    near-valued (a .«record» .now) (a .record-id-size) (channelMeant (a .channel)) (sym (fixed one)) (of .number-form .ensures) (form .form .given .1)
+    (two .if2 .left) (find .find-word .ensures) (word .found .given .1) (c .near-value .ensures)
 
 pub decode-channel-value-spec : {M : Type 1} → statement M
 decode-channel-value-spec =
@@ -38,10 +60,17 @@ decode-channel-value-spec =
     (λ c κs. search needs)
     far-value-requires
     (λ c. search needs)
-    near-number-requires
+    (λ c κs. search needs)
     (λ c. search needs)
     (λ c. search needs)
     far-value-requires-2
     (λ c. search needs)
+    far-value-requires-3
+    (λ c. search needs)
+    find-word-requires
+    (λ c. search needs)
+    (λ c. search needs)
+    far-value-requires-4
+    (λ c. search needs)
     near-value-requires
-    returns-3)
+    returns-5)

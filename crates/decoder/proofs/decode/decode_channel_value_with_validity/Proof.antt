@@ -1,9 +1,12 @@
 -- The ways to the value, each with the validity.
 use borrow.Author.Needs.{needs}
-use mathlib.Core.Path.{sym, _∙_}
+use mathlib.Core.Path.{_≡_, sym, _∙_}
+use mathlib.Core.Bool.{false}
+use native.Mathlib.Omega.{arith}
+use Rattle.definitions.specs.Channel.{variableLength}
 use Rattle.decoder.specs.Meaning.{channelMeant}
 use Rattle.decoder.proofs.Values.{judged-as, valid-value}
-use Rattle.decoder.proofs.WordFields.{in-word, near-valued}
+use Rattle.decoder.proofs.WordFields.{some-bits, word-number, near-valued}
 use Rattle.decoder.proofs.decode.decode_channel_value_with_validity.Statement.{statement}
 use Rattle.decoder.proofs.decode.decode_channel_value_with_validity.Tie as tie
 
@@ -13,34 +16,63 @@ far-value-requires c κs = sym (c .if1 .taken) ∙ c .before .is-variable-length
 returns : tie.Need-returns
 returns c = judged-as _ _ _ _ (c .before .before .before .before .check-value-validity .ensures) (c .judged .ensures) (c .before .far-value .ensures)
 
-near-number-requires : tie.Need-near-number-requires
-near-number-requires c κs = sym (c .before .is-variable-length .ensures) ∙ c .if1 .left
+fixed : (c : tie.Else1) → false ≡ variableLength (channelMeant (c .before .before .before .before .args .channel))
+fixed c = sym (c .if1 .left) ∙ c .before .is-variable-length .ensures
 
 far-value-requires-2 : tie.Need-far-value-requires-2
-far-value-requires-2 c κs =
-    let one = c .before .before .before in
-    sym (one .if1 .left) ∙ one .before .is-variable-length .ensures
+far-value-requires-2 c κs = fixed (c .before .before .before)
 
 returns-2 : tie.Need-returns-2
 returns-2 c =
     let one = c .before .before .before .before .before in
     judged-as _ _ _ _ (one .before .before .check-value-validity .ensures) (c .judged2 .ensures) (c .before .far-value2 .ensures)
 
-near-value-requires : tie.Need-near-value-requires
-near-value-requires c κs =
-    let found = c .before in
-    let near = found .before .before in
-    let a = near .before .before .before .before .before .args in
-    in-word (a .«record» .now) (a .record-id-size) (channelMeant (a .channel)) (near .near-number .ensures) (found .found .given .1)
+far-value-requires-3 : tie.Need-far-value-requires-3
+far-value-requires-3 c κs = fixed (c .before .before .before .before .before)
 
 returns-3 : tie.Need-returns-3
 returns-3 c =
-    let found = c .before .before in
-    let near = found .before .before in
-    let check = near .before .before .before in
+    let one = c .before .before .before .before .before .before .before in
+    judged-as _ _ _ _ (one .before .before .check-value-validity .ensures) (c .judged3 .ensures) (c .before .far-value3 .ensures)
+
+find-word-requires : tie.Need-find-word-requires
+find-word-requires c κs =
+    let form = c .before .before in
+    (omega (arith, c .if2 .left), some-bits _ _ (form .before .before .number-form .ensures) (form .form .given .1))
+
+far-value-requires-4 : tie.Need-far-value-requires-4
+far-value-requires-4 c κs = fixed (c .before .before .before .before .before .before .before .before)
+
+returns-4 : tie.Need-returns-4
+returns-4 c =
+    let one = c .before .before .before .before .before .before .before .before .before .before in
+    judged-as _ _ _ _ (one .before .before .check-value-validity .ensures) (c .judged4 .ensures) (c .before .far-value4 .ensures)
+
+near-value-requires : tie.Need-near-value-requires
+near-value-requires c κs =
+    let word = c .before in
+    let find = word .before .before in
+    let two = find .before in
+    let form = two .before .before in
+    let of = form .before .before in
+    let one = of .before in
+    let a = one .before .before .before .before .args in
+    word-number (a .«record» .now) (a .record-id-size) (channelMeant (a .channel)) (sym (fixed one)) (of .number-form .ensures) (form .form .given .1)
+    (two .if2 .left) (find .find-word .ensures) (word .found .given .1)
+
+returns-5 : tie.Need-returns-5
+returns-5 c =
+    let word = c .before .before in
+    let find = word .before .before in
+    let two = find .before in
+    let form = two .before .before in
+    let of = form .before .before in
+    let one = of .before in
+    let check = one .before .before in
     let a = check .before .before .args in
     valid-value _ _ _ _ (check .check-value-validity .ensures)
-    (near-valued (a .«record» .now) (a .record-id-size) (channelMeant (a .channel)) (near .near-number .ensures) (found .found .given .1) (c .near-value .ensures))
+    (near-valued (a .«record» .now) (a .record-id-size) (channelMeant (a .channel)) (sym (fixed one)) (of .number-form .ensures) (form .form .given .1)
+    (two .if2 .left) (find .find-word .ensures) (word .found .given .1) (c .near-value .ensures))
 
 pub decode-channel-value-with-validity-spec : {M : Type 1} → statement M
 decode-channel-value-with-validity-spec =
@@ -51,11 +83,20 @@ decode-channel-value-with-validity-spec =
     far-value-requires
     (λ c κs. search needs)
     returns
-    near-number-requires
+    (λ c κs. search needs)
     (λ c. search needs)
     (λ c. search needs)
     far-value-requires-2
     (λ c κs. search needs)
     returns-2
+    far-value-requires-3
+    (λ c κs. search needs)
+    returns-3
+    find-word-requires
+    (λ c. search needs)
+    (λ c. search needs)
+    far-value-requires-4
+    (λ c κs. search needs)
+    returns-4
     near-value-requires
-    returns-3)
+    returns-5)

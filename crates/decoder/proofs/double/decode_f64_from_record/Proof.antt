@@ -5,7 +5,7 @@ use mathlib.Core.Bool.{false}
 use Rattle.definitions.specs.Channel.{variableLength}
 use Rattle.decoder.specs.Meaning.{channelMeant}
 use Rattle.decoder.proofs.Doubles.{double-payload}
-use Rattle.decoder.proofs.WordFields.{near-by, without-bits, double-alike}
+use Rattle.decoder.proofs.WordFields.{above, near-by, without-bits, far-taken}
 use Rattle.decoder.proofs.double.decode_f64_from_record.Statement.{statement}
 use Rattle.decoder.proofs.double.decode_f64_from_record.Tie as tie
 
@@ -16,13 +16,18 @@ returns : tie.Need-returns
 returns c = double-payload _ _ _ (sym (c .before .is-variable-length .ensures) ∙ c .if1 .taken)
 
 returns-2 : tie.Need-returns-2
-returns-2 c = c .far-double .ensures ∙ double-alike _ _ _ _ _ (sym (fixed (c .before .before)))
+returns-2 c =
+    let two = c .before .before in
+    let one = two .before in
+    far-taken _ _ (channelMeant (one .before .before .before .args .channel)) (fixed one) (c .far-double .ensures)
 
 returns-3 : tie.Need-returns-3
 returns-3 c = without-bits _ _ _ (fixed (c .before .before)) (c .if3 .taken)
 
 returns-4 : tie.Need-returns-4
-returns-4 c = c .far-double2 .ensures ∙ double-alike _ _ _ _ _ (sym (fixed (c .before .before .before .before .before .before)))
+returns-4 c =
+    let one = c .before .before .before .before .before .before .before in
+    far-taken _ _ (channelMeant (one .before .before .before .args .channel)) (fixed one) (c .far-double2 .ensures)
 
 near-double-requires : tie.Need-near-double-requires
 near-double-requires c κs =
@@ -31,7 +36,7 @@ near-double-requires c κs =
     let three = find .before in
     let two = three .before in
     let one = two .before in
-    near-by _ _ (channelMeant (one .before .before .before .args .channel)) (fixed one) (find .find-word .ensures) (f .found .given .1) (two .if2 .left) (three .if3 .left)
+    near-by _ _ (channelMeant (one .before .before .before .args .channel)) (fixed one) (find .find-word .ensures) (f .found .given .1) (two .if2 .left) (above (three .if3 .left))
 
 pub decode-f64-from-record-spec : {M : Type 1} → statement M
 decode-f64-from-record-spec =
@@ -39,10 +44,16 @@ decode-f64-from-record-spec =
     (tie.spec
     (λ c κs. search needs)
     returns
+    (λ c. search needs)
+    (λ c. search needs)
+    (λ c. search needs)
     (λ c κs. search needs)
     returns-2
     returns-3
     (λ c κs. search needs)
+    (λ c. search needs)
+    (λ c. search needs)
+    (λ c. search needs)
     (λ c. search needs)
     (λ c. search needs)
     (λ c κs. search needs)

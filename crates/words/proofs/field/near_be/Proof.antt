@@ -1,4 +1,4 @@
--- The bytes after the field stand below it in the word, and those before it above.
+-- The bytes after the field stand below it in the swapped word, and those before it above.
 use borrow.Author.Needs.{needs}
 use mathlib.Core.Path.{ap, _∙_}
 use Prim.Native.Nat.{ℕ}
@@ -9,12 +9,12 @@ use Rattle.words.proofs.field.near_be.Tie as tie
 
 returns : tie.Need-returns
 returns c =
-    let k = c .before .before in
-    let b = k .before in
-    let a = b .args in
-    near big (a .s .now) (a .at) (a .count) (a .from)
-    (c .cut .ensures ∙ ap (λ (n : ℕ). bits (c .before .read-u64-be .result) n (a .count)) (low-be (a .from) (a .count) (b .pre .1)))
-    (c .before .read-u64-be .ensures) (λ i. k .shared-slice-known .given i .fits) (b .pre .1) (b .pre .2)
+    let swap = c .before in
+    let start = swap .before in
+    let a = start .args in
+    near big (a .word) (a .from) (a .count)
+    (c .cut .ensures ∙ ap (λ (n : ℕ). bits (swap .swapped .result) n (a .count)) (low-be (a .from) (a .count) (start .pre .1)))
+    (swap .swapped .ensures) (start .pre .1)
 
 pub near-be-spec : {M : Type 1} → statement M
 near-be-spec =
