@@ -3,8 +3,8 @@ use denote.Ref.{now}
 use Rattle.definitions.specs.Channel.{Channel}
 use Rattle.definitions.specs.Chain.{valueFetched}
 use Rattle.decoder.specs.Meaning.{validValueReply}
-use Rattle.mf4.specs.Values.{validValueC}
-use Rattle.mf4.proofs.Handed.{handed-back}
+use Rattle.replies.specs.Values.{validValueC}
+use Rattle.replies.proofs.Handed.{handed-back}
 use borrow.Author.Needs.{needs}
 use Rattle.mf4.proofs.fetches.mf4_record_value.Statement.{statement}
 use Rattle.mf4.proofs.fetches.mf4_record_value.Tie as tie
