@@ -1,9 +1,8 @@
-use mathlib.Core.Path.{ap, _∙_}
 use denote.Ref.{now}
 use Rattle.definitions.specs.Header.{headerWritten}
 use Rattle.blocks.specs.Meaning.{writtenReply}
 use Rattle.replies.specs.Replies.{writtenC}
-use Rattle.replies.proofs.Handed.{handed-back}
+use Rattle.replies.proofs.Handed.{handed-back-given}
 use borrow.Author.Needs.{needs}
 use Rattle.mf4.proofs.header.mf4_write_header.Statement.{statement}
 use Rattle.mf4.proofs.header.mf4_write_header.Tie as tie
@@ -12,8 +11,10 @@ returns : tie.Need-returns
 returns c =
     let call = c .before .before .before in
     let given = call .before .before in
-    handed-back writtenC writtenReply (call .to-bytes .result) (c .written-reply .ensures)
-    (call .to-bytes .ensures ∙ ap (headerWritten (now (given .before .before .args .out))) (given .header-of .ensures))
+    handed-back-given writtenC writtenReply (headerWritten (now (given .before .before .args .out))) (call .to-bytes .result)
+    (c .written-reply .ensures)
+    (call .to-bytes .ensures)
+    (given .header-of .ensures)
 
 pub mf4-write-header-spec : {M : Type 1} → statement M
 mf4-write-header-spec =

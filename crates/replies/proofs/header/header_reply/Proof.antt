@@ -1,5 +1,3 @@
-use mathlib.Core.Path.{ap}
-use Rattle.replies.specs.declared.header.Mf4BlockHeader.{Mf4BlockHeader}
 use Rattle.blocks.specs.Meaning.{headerReply}
 use Rattle.replies.specs.Replies.{headerC}
 use Rattle.replies.proofs.Handed.{handed}
@@ -20,7 +18,7 @@ returns c =
 
 returns-2 : tie.Need-returns-2
 returns-2 c =
-    handed headerC headerReply (ap (λ (h : Mf4BlockHeader). record { reply = 0; told = 0; header = h }) (c .header-told .ensures)) (c .before .before .read .given .1)
+    handed headerC headerReply (λ i. record { reply = 0; told = 0; header = c .header-told .ensures i }) (c .before .before .read .given .1)
 
 pub header-reply-spec : {M : Type 1} → statement M
 header-reply-spec =

@@ -1,5 +1,3 @@
-use mathlib.Core.Path.{ap}
-use Rattle.replies.specs.declared.header.Mf4BlockHeader.{Mf4BlockHeader}
 use Rattle.blocks.specs.Meaning.{listReply}
 use Rattle.replies.specs.Replies.{listC}
 use Rattle.replies.proofs.Handed.{handed}
@@ -31,12 +29,11 @@ returns-2 c =
     let list = c .before .before .read .given in
     let d = list .0 .0 in
     handed listC listReply
-    (ap
-    (λ (h : Mf4BlockHeader).
+    (λ i.
     record {
       reply = 0;
       told = 0;
-      header = h;
+      header = c .header-told .ensures i;
       next = d .next;
       «links_at» = d .«links_at»;
       links = d .links;
@@ -46,7 +43,6 @@ returns-2 c =
       «rest_at» = d .«rest_at»;
       rest = d .rest;
     })
-    (c .header-told .ensures))
     (list .1)
 
 pub list-reply-spec : {M : Type 1} → statement M
