@@ -14,7 +14,9 @@ import theorems
 from header import Header
 from source import Source, Unreadable
 
-SOURCE, INCLUDE, HEADER, THEOREMS = "crates/mf4/src", "include", "include/mf4.h", "crates/mf4/proofs/Border.antt"
+SOURCE = ["crates/replies/src", "crates/mf4/src"]
+THEOREMS = ["crates/replies/proofs/Fields.antt", "crates/mf4/proofs/Border.antt"]
+INCLUDE, HEADER = "include", "include/mf4.h"
 
 
 def one_by_one(what, in_source, where, there):
@@ -47,7 +49,7 @@ def differences(compiler, build):
     yield from one_by_one("struct", declarations(source.structs), HEADER, declarations(header.structs))
     yield from one_by_one("the layout of", expected_layout(source), HEADER, header.measured(compiler, INCLUDE, build))
     yield from one_by_one("call", source.calls, HEADER, header.calls)
-    yield from one_by_one("theorem", theorems.expected(source), THEOREMS, theorems.stated(THEOREMS))
+    yield from one_by_one("theorem", theorems.expected(source), " and ".join(THEOREMS), theorems.stated(THEOREMS))
     print(f"header: {len(header.structs)} structs and {len(header.calls)} calls compared with the source and the theorems")
 
 

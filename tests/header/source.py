@@ -45,9 +45,9 @@ def named(text):
 class Source:
     """structs: for each its fields as (name, type). calls: for each its prototype; arguments: their names in the source."""
 
-    def __init__(self, folder):
+    def __init__(self, folders):
         self.structs, self.calls, self.arguments = {}, {}, {}
-        for path in sorted(Path(folder).glob("**/*.rt")):
+        for path in [path for folder in folders for path in sorted(Path(folder).glob("**/*.rt"))]:
             text = re.sub(r"//[^\n]*", "", path.read_text(encoding="utf-8"))
             structs, calls = STRUCT.findall(text), CALL.findall(text)
             if len(MARKED.findall(text)) != len(structs) + len(calls):

@@ -36,10 +36,11 @@ def expected(source):
     return fields | arguments
 
 
-def stated(path):
-    """The same of the theorem file. A theorem in a form that is not known here is told as it stands."""
+def stated(paths):
+    """The same of the theorem files. A theorem in a form that is not known here is told as it stands."""
     theorems = {}
-    for name, statement in THEOREM.findall(Path(path).read_text(encoding="utf-8")):
+    text = "\n".join(Path(path).read_text(encoding="utf-8") for path in paths)
+    for name, statement in THEOREM.findall(text):
         statement = " ".join(statement.split())
         found = (FIELDS if name.endswith("-fields") else ARGUMENTS).fullmatch(statement)
         theorems[name] = re.sub(r"s \.«?(\w+)»?", r"\1", f"{found[1]} {found[2]}") if found else statement

@@ -1,5 +1,5 @@
--- The border with C by place, and not by name alone: the fields of each struct in their order, and what each call makes of
--- its arguments in theirs. include/mf4.h has the same orders.
+-- The border with C by place, and not by name alone: what each call makes of its arguments in their order. include/mf4.h has
+-- the same orders; those of the structs' fields are in `replies`.
 use mathlib.Core.Path.{_≡_, refl}
 use mathlib.Core.List.{List}
 use contract.Lifetimes.{Lfts}
@@ -12,28 +12,18 @@ use Rattle.definitions.specs.DataList.{listOf, listWritten, equal, variable}
 use Rattle.definitions.specs.Channel.{valueOf, validOf, validValueOf, recordDouble}
 use Rattle.definitions.specs.Chain.{dataLength, fetched, valueFetched}
 use Rattle.mf4.specs.Clauses.{Slice, Allows}
-use Rattle.mf4.specs.Replies.{flagC, writtenC, headerC, headerGiven, listC, textC, returned, returnedBy}
-use Rattle.mf4.specs.Values.{channelGiven, valueC, validValueC, lengthC, fetchedC}
-use Rattle.mf4.specs.declared.written.Mf4Written.{Mf4Written}
-use Rattle.mf4.specs.declared.header.Mf4BlockHeader.{Mf4BlockHeader}
-use Rattle.mf4.specs.declared.header.Mf4Header.{Mf4Header}
-use Rattle.mf4.specs.declared.list.Mf4List.{Mf4List}
-use Rattle.mf4.specs.declared.texts.Mf4Text.{Mf4Text}
-use Rattle.mf4.specs.declared.channel.Mf4Channel.{Mf4Channel}
-use Rattle.mf4.specs.declared.values.Mf4Value.{Mf4Value}
-use Rattle.mf4.specs.declared.valid_values.Mf4ValidValue.{Mf4ValidValue}
-use Rattle.mf4.specs.declared.fetches.Mf4Length.{Mf4Length}
-use Rattle.mf4.specs.declared.fetches.Mf4Fetched.{Mf4Fetched}
-use Rattle.mf4.proofs.written.Mf4Written as mf4-written
-use Rattle.mf4.proofs.header.Mf4BlockHeader as mf4-block-header
-use Rattle.mf4.proofs.header.Mf4Header as mf4-header
-use Rattle.mf4.proofs.list.Mf4List as mf4-list
-use Rattle.mf4.proofs.texts.Mf4Text as mf4-text
-use Rattle.mf4.proofs.channel.Mf4Channel as mf4-channel
-use Rattle.mf4.proofs.values.Mf4Value as mf4-value
-use Rattle.mf4.proofs.valid_values.Mf4ValidValue as mf4-valid-value
-use Rattle.mf4.proofs.fetches.Mf4Length as mf4-length
-use Rattle.mf4.proofs.fetches.Mf4Fetched as mf4-fetched
+use Rattle.replies.specs.Replies.{flagC, writtenC, headerC, headerGiven, listC, textC, returned, returnedBy}
+use Rattle.replies.specs.Values.{channelGiven, valueC, validValueC, lengthC, fetchedC}
+use Rattle.replies.specs.declared.written.Mf4Written.{Mf4Written}
+use Rattle.replies.specs.declared.header.Mf4BlockHeader.{Mf4BlockHeader}
+use Rattle.replies.specs.declared.header.Mf4Header.{Mf4Header}
+use Rattle.replies.specs.declared.list.Mf4List.{Mf4List}
+use Rattle.replies.specs.declared.texts.Mf4Text.{Mf4Text}
+use Rattle.replies.specs.declared.channel.Mf4Channel.{Mf4Channel}
+use Rattle.replies.specs.declared.values.Mf4Value.{Mf4Value}
+use Rattle.replies.specs.declared.valid_values.Mf4ValidValue.{Mf4ValidValue}
+use Rattle.replies.specs.declared.fetches.Mf4Length.{Mf4Length}
+use Rattle.replies.specs.declared.fetches.Mf4Fetched.{Mf4Fetched}
 use Rattle.mf4.proofs.mf4_read_header.Kinds as mf4-read-header-kinds
 use Rattle.mf4.proofs.mf4_read_header.Reads as mf4-read-header
 use Rattle.mf4.proofs.mf4_write_header.Kinds as mf4-write-header-kinds
@@ -70,36 +60,6 @@ use Rattle.mf4.proofs.mf4_read_record.Kinds as mf4-read-record-kinds
 use Rattle.mf4.proofs.mf4_read_record.Reads as mf4-read-record
 use Rattle.mf4.proofs.mf4_record_value.Kinds as mf4-record-value-kinds
 use Rattle.mf4.proofs.mf4_record_value.Reads as mf4-record-value
-
-pub mf4-written-fields : (s : Mf4Written) → mf4-written.struct .as-values s ≡ (s .reply, (s .told, (s .count, tt)))
-mf4-written-fields s = refl
-
-pub mf4-block-header-fields : (s : Mf4BlockHeader) → mf4-block-header.struct .as-values s ≡ (s .id, (s .reserved0, (s .«block_len», (s .«links_nr», tt))))
-mf4-block-header-fields s = refl
-
-pub mf4-header-fields : (s : Mf4Header) → mf4-header.struct .as-values s ≡ (s .reply, (s .told, (s .header, tt)))
-mf4-header-fields s = refl
-
-pub mf4-list-fields : (s : Mf4List) → mf4-list.struct .as-values s ≡ (s .reply, (s .told, (s .header, (s .next, (s .«links_at», (s .links, (s .flags, (s .reserved1, (s .«data_block_nr», (s .«rest_at», (s .rest, tt)))))))))))
-mf4-list-fields s = refl
-
-pub mf4-text-fields : (s : Mf4Text) → mf4-text.struct .as-values s ≡ (s .reply, (s .told, (s .count, (s .damaged, tt))))
-mf4-text-fields s = refl
-
-pub mf4-channel-fields : (s : Mf4Channel) → mf4-channel.struct .as-values s ≡ (s .«data_type», (s .«channel_type», (s .«bit_offset», (s .«byte_offset», (s .«bit_count», (s .flags, (s .«pos_invalidation_bit», (s .«data», tt))))))))
-mf4-channel-fields s = refl
-
-pub mf4-value-fields : (s : Mf4Value) → mf4-value.struct .as-values s ≡ (s .reply, (s .kind, (s .told, (s .number, (s .at, (s .length, tt))))))
-mf4-value-fields s = refl
-
-pub mf4-valid-value-fields : (s : Mf4ValidValue) → mf4-valid-value.struct .as-values s ≡ (s .reply, (s .kind, (s .told, (s .number, (s .at, (s .length, (s .«is_valid», tt)))))))
-mf4-valid-value-fields s = refl
-
-pub mf4-length-fields : (s : Mf4Length) → mf4-length.struct .as-values s ≡ (s .reply, (s .told, (s .length, tt)))
-mf4-length-fields s = refl
-
-pub mf4-fetched-fields : (s : Mf4Fetched) → mf4-fetched.struct .as-values s ≡ (s .reply, (s .told, tt))
-mf4-fetched-fields s = refl
 
 pub mf4-read-header-arguments : (κs : Lfts 1) (bytes : Slice) (y : Mf4Header)
     → Allows 1 mf4-read-header-kinds.ps mf4-read-header-kinds.r mf4-read-header.Learnt κs (bytes, tt) y (tt, tt)

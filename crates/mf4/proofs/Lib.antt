@@ -1,3 +1,1 @@
-pub mod Handed
 pub mod Border
-pub mod ToldToC

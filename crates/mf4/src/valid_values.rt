@@ -1,60 +1,12 @@
 // A channel's value with its validity.
 ghost use mathlib.Core.Path.{_≡_};
 ghost use Rattle.definitions.specs.Channel.{validValueOf};
-ghost use Rattle.decoder.specs.Meaning.{validValueReply};
-ghost use Rattle.refusals.specs.Meaning.{refused};
-ghost use Rattle.mf4.specs.Values.{channelGiven, validValueC};
-use crate::channel::Mf4Channel;
-use crate::channel::channel_of;
-use crate::texts::flag;
-use crate::values::decoded;
-use decoder::ValidValueRead;
+ghost use Rattle.replies.specs.Values.{channelGiven, validValueC};
 use decoder::decode_channel_value_with_validity;
-use refusals::Refusal;
-
-#[repr(C)]
-pub struct Mf4ValidValue {
-    pub reply: u32,
-    pub kind: u32,
-    pub told: u64,
-    pub number: u64,
-    pub at: u64,
-    pub length: u64,
-    pub is_valid: u8,
-}
-
-fn valid_value_refused(why: Refusal) -> Mf4ValidValue
-    ensures { λ r. ⌜ r ≡ validValueC (refused why) ⌝ }
-{
-    Mf4ValidValue {
-        reply: why.number(),
-        kind: 0,
-        told: why.told(),
-        number: 0,
-        at: 0,
-        length: 0,
-        is_valid: 0,
-    }
-}
-
-pub fn valid_value_reply(read: ValidValueRead) -> Mf4ValidValue
-    ensures { λ r. ⌜ r ≡ validValueC (validValueReply read) ⌝ }
-{
-    let ValidValueRead::Value(judged) = read else {
-        return valid_value_refused(read.refusal());
-    };
-    let value = judged.value;
-    let told = decoded(value);
-    Mf4ValidValue {
-        reply: 0,
-        kind: told.kind,
-        told: 0,
-        number: told.number,
-        at: told.at,
-        length: told.length,
-        is_valid: flag(judged.is_valid),
-    }
-}
+use replies::Mf4Channel;
+use replies::Mf4ValidValue;
+use replies::channel_of;
+use replies::valid_value_reply;
 
 #[no_mangle]
 pub extern "C" fn mf4_decode_valid_value(

@@ -1,12 +1,12 @@
 // Whether a channel's value is valid.
 ghost use mathlib.Core.Path.{_≡_};
 ghost use Rattle.definitions.specs.Channel.{validOf};
-ghost use Rattle.mf4.specs.Replies.{flagC};
-ghost use Rattle.mf4.specs.Values.{channelGiven};
-use crate::channel::Mf4Channel;
-use crate::channel::channel_of;
-use crate::texts::flag;
+ghost use Rattle.replies.specs.Replies.{flagC};
+ghost use Rattle.replies.specs.Values.{channelGiven};
 use decoder::check_value_validity;
+use replies::Mf4Channel;
+use replies::channel_of;
+use replies::flag;
 
 #[no_mangle]
 pub extern "C" fn mf4_check_validity(

@@ -13,14 +13,14 @@ use Rattle.definitions.specs.Unicode.{Encoding}
 use Rattle.definitions.specs.DataList.{equal, variable}
 use Rattle.definitions.specs.Channel.{ValidValue}
 use Rattle.definitions.specs.Chain.{joined, valueFetched}
-use Rattle.mf4.specs.Replies.{Returned, returned, returnedBy, headerGiven, writtenC, textC}
-use Rattle.mf4.specs.Values.{channelGiven, validValueC, fetchedC}
-use Rattle.mf4.specs.declared.header.Mf4BlockHeader.{Mf4BlockHeader}
-use Rattle.mf4.specs.declared.written.Mf4Written.{Mf4Written}
-use Rattle.mf4.specs.declared.texts.Mf4Text.{Mf4Text}
-use Rattle.mf4.specs.declared.channel.Mf4Channel.{Mf4Channel}
-use Rattle.mf4.specs.declared.valid_values.Mf4ValidValue.{Mf4ValidValue}
-use Rattle.mf4.specs.declared.fetches.Mf4Fetched.{Mf4Fetched}
+use Rattle.replies.specs.Replies.{Returned, returned, returnedBy, headerGiven, writtenC, textC}
+use Rattle.replies.specs.Values.{channelGiven, validValueC, fetchedC}
+use Rattle.replies.specs.declared.header.Mf4BlockHeader.{Mf4BlockHeader}
+use Rattle.replies.specs.declared.written.Mf4Written.{Mf4Written}
+use Rattle.replies.specs.declared.texts.Mf4Text.{Mf4Text}
+use Rattle.replies.specs.declared.channel.Mf4Channel.{Mf4Channel}
+use Rattle.replies.specs.declared.valid_values.Mf4ValidValue.{Mf4ValidValue}
+use Rattle.replies.specs.declared.fetches.Mf4Fetched.{Mf4Fetched}
 use Rattle.mf4.specs.Clauses.{Slice}
 use Rattle.theorems.specs.Exactly.{Fetchable}
 use Rattle.theorems.specs.ClausesToC.{WritesHeaderC, WritesEqualC, WritesVariableC, WritesTextC, ReadsRecordC, ReadsRecordValueC}

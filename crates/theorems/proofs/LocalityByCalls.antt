@@ -23,11 +23,11 @@ use Rattle.decoder.specs.declared.value.ValidValueRead.{ValidValueRead}
 use Rattle.mf4.specs.Clauses.{Slice}
 use Rattle.theorems.specs.Clauses.{ReadsValue, ReadsValidValue, ChecksValidity, ReadsDouble}
 use Rattle.theorems.specs.ClausesToC.{ReadsValueC, ReadsValidValueC, ChecksValidityC, ReadsDoubleC}
-use Rattle.mf4.specs.Replies.{flagC}
-use Rattle.mf4.specs.Values.{channelGiven, valueC, validValueC}
-use Rattle.mf4.specs.declared.channel.Mf4Channel.{Mf4Channel}
-use Rattle.mf4.specs.declared.values.Mf4Value.{Mf4Value}
-use Rattle.mf4.specs.declared.valid_values.Mf4ValidValue.{Mf4ValidValue}
+use Rattle.replies.specs.Replies.{flagC}
+use Rattle.replies.specs.Values.{channelGiven, valueC, validValueC}
+use Rattle.replies.specs.declared.channel.Mf4Channel.{Mf4Channel}
+use Rattle.replies.specs.declared.values.Mf4Value.{Mf4Value}
+use Rattle.replies.specs.declared.valid_values.Mf4ValidValue.{Mf4ValidValue}
 
 -- records of one length, that hold a fixed field's bits alike, or its bytes where it is no number
 pub record Alike (s t : List ℕ) (idSize : ℕ) (c : Channel) : Type 0 where

@@ -9,14 +9,14 @@ use Rattle.definitions.specs.Reply.{Outcome, answer}
 use Rattle.definitions.specs.Header.{headerWritten}
 use Rattle.definitions.specs.DataList.{DataList, Lengths, equal, variable, flagsFor, restFor, listWritten}
 use Rattle.words.proofs.Numbers.{Bytes}
-use Rattle.mf4.specs.Replies.{Returned, returned, returnedBy, writtenC, headerGiven, headerC, listC}
-use Rattle.mf4.specs.declared.header.Mf4BlockHeader.{Mf4BlockHeader}
-use Rattle.mf4.specs.declared.header.Mf4Header.{Mf4Header}
-use Rattle.mf4.specs.declared.list.Mf4List.{Mf4List}
-use Rattle.mf4.specs.declared.written.Mf4Written.{Mf4Written}
+use Rattle.replies.specs.Replies.{Returned, returned, returnedBy, writtenC, headerGiven, headerC, listC}
+use Rattle.replies.specs.declared.header.Mf4BlockHeader.{Mf4BlockHeader}
+use Rattle.replies.specs.declared.header.Mf4Header.{Mf4Header}
+use Rattle.replies.specs.declared.list.Mf4List.{Mf4List}
+use Rattle.replies.specs.declared.written.Mf4Written.{Mf4Written}
 use Rattle.mf4.specs.Clauses.{Slice}
 use Rattle.theorems.specs.ClausesToC.{ReadsHeaderC, WritesHeaderC, ReadsListC, WritesEqualC, WritesVariableC}
-use Rattle.mf4.proofs.ToldToC.{writtenAgain, headerAgain, listAgain}
+use Rattle.replies.proofs.ToldToC.{writtenAgain, headerAgain, listAgain}
 use Rattle.theorems.proofs.ToldToC.{mf4-read-header-told, mf4-write-header-told, mf4-read-list-told, mf4-write-list-equal-told, mf4-write-list-variable-told}
 use Rattle.theorems.proofs.Rewritten.{Words}
 use Rattle.theorems.proofs.HeaderRoundTrip.{Fits}

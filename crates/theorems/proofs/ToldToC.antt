@@ -20,19 +20,19 @@ use Rattle.definitions.specs.Channel.{Channel, Value, ValidValue, signed, decod
 use Rattle.definitions.specs.DataList.{listOf, listWritten, equal, variable}
 use Rattle.definitions.specs.Chain.{dataLength, fetched, valueFetched}
 use Rattle.mf4.specs.Clauses.{Slice}
-use Rattle.mf4.specs.Replies.{Returned, returned, returnedBy, writtenC, headerGiven, textC}
-use Rattle.mf4.specs.Values.{channelGiven, validValueC, fetchedC}
-use Rattle.mf4.specs.declared.written.Mf4Written.{Mf4Written}
-use Rattle.mf4.specs.declared.header.Mf4BlockHeader.{Mf4BlockHeader}
-use Rattle.mf4.specs.declared.header.Mf4Header.{Mf4Header}
-use Rattle.mf4.specs.declared.list.Mf4List.{Mf4List}
-use Rattle.mf4.specs.declared.texts.Mf4Text.{Mf4Text}
-use Rattle.mf4.specs.declared.channel.Mf4Channel.{Mf4Channel}
-use Rattle.mf4.specs.declared.values.Mf4Value.{Mf4Value}
-use Rattle.mf4.specs.declared.valid_values.Mf4ValidValue.{Mf4ValidValue}
-use Rattle.mf4.specs.declared.fetches.Mf4Length.{Mf4Length}
-use Rattle.mf4.specs.declared.fetches.Mf4Fetched.{Mf4Fetched}
-use Rattle.mf4.proofs.ToldToC.{Tellable, Any, Reversible, headerAgain, header-told, writtenAgain, written-told, listAgain, list-told, textAgain, text-told, valueReplyAgain, value-told, validValueAgain, valid-value-told, lengthAgain, length-told, fetchedAgain, fetched-told}
+use Rattle.replies.specs.Replies.{Returned, returned, returnedBy, writtenC, headerGiven, textC}
+use Rattle.replies.specs.Values.{channelGiven, validValueC, fetchedC}
+use Rattle.replies.specs.declared.written.Mf4Written.{Mf4Written}
+use Rattle.replies.specs.declared.header.Mf4BlockHeader.{Mf4BlockHeader}
+use Rattle.replies.specs.declared.header.Mf4Header.{Mf4Header}
+use Rattle.replies.specs.declared.list.Mf4List.{Mf4List}
+use Rattle.replies.specs.declared.texts.Mf4Text.{Mf4Text}
+use Rattle.replies.specs.declared.channel.Mf4Channel.{Mf4Channel}
+use Rattle.replies.specs.declared.values.Mf4Value.{Mf4Value}
+use Rattle.replies.specs.declared.valid_values.Mf4ValidValue.{Mf4ValidValue}
+use Rattle.replies.specs.declared.fetches.Mf4Length.{Mf4Length}
+use Rattle.replies.specs.declared.fetches.Mf4Fetched.{Mf4Fetched}
+use Rattle.replies.proofs.ToldToC.{Tellable, Any, Reversible, headerAgain, header-told, writtenAgain, written-told, listAgain, list-told, textAgain, text-told, valueReplyAgain, value-told, validValueAgain, valid-value-told, lengthAgain, length-told, fetchedAgain, fetched-told}
 use Rattle.theorems.specs.ClausesToC.{ReadsHeaderC, WritesHeaderC, ReadsListC, WritesEqualC, WritesVariableC, WritesTextC, ReadsValueC, ReadsValidValueC, ReadsLengthC, ReadsRecordC, ReadsRecordValueC}
 use Rattle.theorems.proofs.TextClausesToC.{text-clause}
 use Rattle.theorems.proofs.RefusalNumbers.{Numbered, FromTwo, header-numbered, list-numbered, header-written-numbered, list-written-numbered, text-written-numbered, length-numbered, fetched-numbered}

@@ -18,12 +18,12 @@ use Rattle.decoder.specs.declared.channel.Channel.{Channel}
 use Rattle.decoder.specs.declared.value.ValidValueRead.{ValidValueRead}
 use Rattle.decoder.proofs.Back.{valid-value-one}
 use Rattle.records.specs.Meaning.{valueFetchedBy}
-use Rattle.mf4.specs.Replies.{Returned, returned, returnedBy}
-use Rattle.mf4.specs.Values.{channelGiven, validValueC, lengthC, fetchedC}
-use Rattle.mf4.specs.declared.fetches.Mf4Length.{Mf4Length}
-use Rattle.mf4.specs.declared.fetches.Mf4Fetched.{Mf4Fetched}
-use Rattle.mf4.specs.declared.channel.Mf4Channel.{Mf4Channel}
-use Rattle.mf4.specs.declared.valid_values.Mf4ValidValue.{Mf4ValidValue}
+use Rattle.replies.specs.Replies.{Returned, returned, returnedBy}
+use Rattle.replies.specs.Values.{channelGiven, validValueC, lengthC, fetchedC}
+use Rattle.replies.specs.declared.fetches.Mf4Length.{Mf4Length}
+use Rattle.replies.specs.declared.fetches.Mf4Fetched.{Mf4Fetched}
+use Rattle.replies.specs.declared.channel.Mf4Channel.{Mf4Channel}
+use Rattle.replies.specs.declared.valid_values.Mf4ValidValue.{Mf4ValidValue}
 use Rattle.mf4.specs.Clauses.{Slice}
 use Rattle.theorems.specs.Clauses.{ReadsLength, ReadsRecord, ReadsRecordValue}
 use Rattle.theorems.specs.ClausesToC.{ReadsLengthC, ReadsRecordC, ReadsRecordValueC}

@@ -6,16 +6,16 @@ use contract.Lifetimes.{Lfts}
 use Rattle.definitions.specs.Bytes.{little, big}
 use Rattle.definitions.specs.Unicode.{Encoding, latin1, utf8, utf16}
 use Rattle.mf4.specs.Clauses.{Slice, Allows}
-use Rattle.mf4.specs.declared.header.Mf4BlockHeader.{Mf4BlockHeader}
-use Rattle.mf4.specs.declared.header.Mf4Header.{Mf4Header}
-use Rattle.mf4.specs.declared.list.Mf4List.{Mf4List}
-use Rattle.mf4.specs.declared.written.Mf4Written.{Mf4Written}
-use Rattle.mf4.specs.declared.texts.Mf4Text.{Mf4Text}
-use Rattle.mf4.specs.declared.channel.Mf4Channel.{Mf4Channel}
-use Rattle.mf4.specs.declared.values.Mf4Value.{Mf4Value}
-use Rattle.mf4.specs.declared.valid_values.Mf4ValidValue.{Mf4ValidValue}
-use Rattle.mf4.specs.declared.fetches.Mf4Length.{Mf4Length}
-use Rattle.mf4.specs.declared.fetches.Mf4Fetched.{Mf4Fetched}
+use Rattle.replies.specs.declared.header.Mf4BlockHeader.{Mf4BlockHeader}
+use Rattle.replies.specs.declared.header.Mf4Header.{Mf4Header}
+use Rattle.replies.specs.declared.list.Mf4List.{Mf4List}
+use Rattle.replies.specs.declared.written.Mf4Written.{Mf4Written}
+use Rattle.replies.specs.declared.texts.Mf4Text.{Mf4Text}
+use Rattle.replies.specs.declared.channel.Mf4Channel.{Mf4Channel}
+use Rattle.replies.specs.declared.values.Mf4Value.{Mf4Value}
+use Rattle.replies.specs.declared.valid_values.Mf4ValidValue.{Mf4ValidValue}
+use Rattle.replies.specs.declared.fetches.Mf4Length.{Mf4Length}
+use Rattle.replies.specs.declared.fetches.Mf4Fetched.{Mf4Fetched}
 use Rattle.mf4.proofs.mf4_read_header.Kinds as read-header-kinds
 use Rattle.mf4.proofs.mf4_read_header.Reads as read-header
 use Rattle.mf4.proofs.mf4_write_header.Kinds as write-header-kinds

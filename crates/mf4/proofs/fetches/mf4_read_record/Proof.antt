@@ -1,6 +1,6 @@
 use Rattle.chain.specs.Meaning.{recordReply}
-use Rattle.mf4.specs.Values.{fetchedC}
-use Rattle.mf4.proofs.Handed.{handed-back}
+use Rattle.replies.specs.Values.{fetchedC}
+use Rattle.replies.proofs.Handed.{handed-back}
 use borrow.Author.Needs.{needs}
 use Rattle.mf4.proofs.fetches.mf4_read_record.Statement.{statement}
 use Rattle.mf4.proofs.fetches.mf4_read_record.Tie as tie

@@ -1,7 +1,7 @@
 use mathlib.Core.Path.{ap, _∙_}
 use denote.Ref.{now}
 use Rattle.definitions.specs.Channel.{Channel, validValueOf}
-use Rattle.mf4.specs.Values.{validValueC}
+use Rattle.replies.specs.Values.{validValueC}
 use borrow.Author.Needs.{needs}
 use Rattle.mf4.proofs.valid_values.mf4_decode_valid_value.Statement.{statement}
 use Rattle.mf4.proofs.valid_values.mf4_decode_valid_value.Tie as tie

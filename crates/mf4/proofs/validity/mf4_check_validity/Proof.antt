@@ -1,7 +1,7 @@
 use mathlib.Core.Path.{ap, _∙_}
 use denote.Ref.{now}
 use Rattle.definitions.specs.Channel.{Channel, validOf}
-use Rattle.mf4.specs.Replies.{flagC}
+use Rattle.replies.specs.Replies.{flagC}
 use borrow.Author.Needs.{needs}
 use Rattle.mf4.proofs.validity.mf4_check_validity.Statement.{statement}
 use Rattle.mf4.proofs.validity.mf4_check_validity.Tie as tie

@@ -1,7 +1,7 @@
 use mathlib.Core.Path.{ap, _∙_}
 use denote.Ref.{now}
 use Rattle.definitions.specs.Channel.{Channel, valueOf}
-use Rattle.mf4.specs.Values.{valueC}
+use Rattle.replies.specs.Values.{valueC}
 use borrow.Author.Needs.{needs}
 use Rattle.mf4.proofs.values.mf4_decode_value.Statement.{statement}
 use Rattle.mf4.proofs.values.mf4_decode_value.Tie as tie

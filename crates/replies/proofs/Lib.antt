@@ -1,0 +1,3 @@
+pub mod Handed
+pub mod Fields
+pub mod ToldToC

@@ -1,0 +1,168 @@
+-- What C is told is all that the definition gives: from each struct the definition's reply comes back.
+use mathlib.Core.Path.{_≡_, refl, sym, ap, ap₂, _∙_}
+use mathlib.Core.Bool.{Bool, true, false}
+use mathlib.Core.List.{List, [], _∷_}
+use Prim.Native.Nat.{ℕ, suc, _-_, _^_, _≤_, _<_}
+use native.Mathlib.Omega.{arith}
+use lib.IntN.{ℤ, pos, negsuc}
+use lib.ListN.{getD}
+use lib.Dec.{ltb, eqb}
+use lib.Ieee.{binary64, ofBits}
+use borrow.Author.Tests.{lt-ltb, le-ltb, ne-eqb}
+use Rattle.definitions.specs.Reply.{Reply, answer, refusal, if_then_else_}
+use Rattle.definitions.specs.Bytes.{twosComplement}
+use Rattle.definitions.specs.Unicode.{TextWritten}
+use Rattle.definitions.specs.Header.{Header}
+use Rattle.definitions.specs.DataList.{DataList}
+use Rattle.definitions.specs.Channel.{Value, ValidValue, unsigned, signed, double, text, bytes, sample, stream, unknownValue, doubleValue}
+use Rattle.replies.specs.Replies.{flagC, writtenC, headerC, headerGiven, listC, textC}
+use Rattle.replies.specs.Values.{wordOf, decodedC, valueC, validValueC, lengthC, fetchedC}
+use Rattle.replies.specs.declared.written.Mf4Written.{Mf4Written}
+use Rattle.replies.specs.declared.header.Mf4Header.{Mf4Header}
+use Rattle.replies.specs.declared.list.Mf4List.{Mf4List}
+use Rattle.replies.specs.declared.texts.Mf4Text.{Mf4Text}
+use Rattle.replies.specs.declared.values.Mf4Value.{Mf4Value}
+use Rattle.replies.specs.declared.valid_values.Mf4ValidValue.{Mf4ValidValue}
+use Rattle.replies.specs.declared.fetches.Mf4Length.{Mf4Length}
+use Rattle.replies.specs.declared.fetches.Mf4Fetched.{Mf4Fetched}
+
+-- a refusal has a number above 0, and what is answered meets P
+abbrev pub Tellable : {A : Type 0} → (A → Type 0) → Reply A → Type 0
+Tellable P (answer a) = P a
+Tellable P (refusal n t) = 0 < n
+
+-- every answer can be told
+abbrev pub Any : {A : Type 0} → A → Type 0
+Any a = Unit {0}
+
+-- a reply of 0 is an answer
+abbrev again : {A : Type 0} → ℕ → ℕ → A → Reply A
+again reply told a = if eqb reply 0 then answer a else refusal reply told
+
+again-refused : {A : Type 0} (a : A) (n t : ℕ) → 0 < n → again n t a ≡ refusal n t
+again-refused a n t h =
+    let no : n ≡ 0 → ⊥ = λ e. omega arith in
+    rw (ne-eqb _ _ no)
+
+-- the kinds of reply share this: an answer comes back, and a refusal by its number
+told-by : {A C : Type 0} (P : A → Type 0) (toC : Reply A → C) (back : C → Reply A) → ((a : A) → P a → back (toC (answer a)) ≡ answer a)
+    → ((n t : ℕ) → 0 < n → back (toC (refusal n t)) ≡ refusal n t) → (r : Reply A) → Tellable P r → back (toC r) ≡ r
+told-by P toC back answered refused (answer a) h = answered a h
+told-by P toC back answered refused (refusal n t) h = refused n t h
+
+-- ---- bytes written, and data
+
+abbrev pub writtenAgain : Mf4Written → Reply ℕ
+writtenAgain s = again (s .reply) (s .told) (s .count)
+
+pub written-told : (r : Reply ℕ) → Tellable Any r → writtenAgain (writtenC r) ≡ r
+written-told = told-by Any writtenC writtenAgain (λ a h. refl) (again-refused _)
+
+abbrev pub lengthAgain : Mf4Length → Reply ℕ
+lengthAgain s = again (s .reply) (s .told) (s .length)
+
+pub length-told : (r : Reply ℕ) → Tellable Any r → lengthAgain (lengthC r) ≡ r
+length-told = told-by Any lengthC lengthAgain (λ a h. refl) (again-refused _)
+
+abbrev pub fetchedAgain : Mf4Fetched → Reply (Unit {0})
+fetchedAgain s = again (s .reply) (s .told) tt
+
+pub fetched-told : (r : Reply (Unit {0})) → Tellable Any r → fetchedAgain (fetchedC r) ≡ r
+fetched-told = told-by Any fetchedC fetchedAgain (λ a h. refl) (again-refused _)
+
+-- ---- blocks
+
+abbrev pub headerAgain : Mf4Header → Reply Header
+headerAgain s = again (s .reply) (s .told) (headerGiven (s .header))
+
+pub header-told : (r : Reply Header) → Tellable Any r → headerAgain (headerC r) ≡ r
+header-told = told-by Any headerC headerAgain (λ a h. refl) (again-refused _)
+
+abbrev pub listAgain : Mf4List → Reply DataList
+listAgain s =
+    again (s .reply) (s .told)
+    (record {
+      header = headerGiven (s .header);
+      next = s .next;
+      linksAt = s .«links_at»;
+      links = s .links;
+      flags = s .flags;
+      reserved = s .reserved1;
+      count = s .«data_block_nr»;
+      restAt = s .«rest_at»;
+      rest = s .rest;
+    })
+
+pub list-told : (r : Reply DataList) → Tellable Any r → listAgain (listC r) ≡ r
+list-told = told-by Any listC listAgain (λ a h. refl) (again-refused _)
+
+-- ---- flags and texts
+
+flag-back : (b : Bool) → eqb (flagC b) 1 ≡ b
+flag-back true = refl
+flag-back false = refl
+
+abbrev pub textAgain : Mf4Text → Reply TextWritten
+textAgain s = again (s .reply) (s .told) (record { count = s .count; damaged = eqb (s .damaged) 1 })
+
+pub text-told : (r : Reply TextWritten) → Tellable Any r → textAgain (textC r) ≡ r
+text-told =
+    told-by Any textC textAgain (λ a h. ap (λ (b : Bool). answer (record { count = a .count; damaged = b })) (flag-back (a .damaged))) (again-refused _)
+
+-- ---- values
+
+-- a signed integer has 64 bits, and a double is that of its pattern
+abbrev pub Reversible : Value → Type 0
+Reversible (unsigned n) = Unit {0}
+Reversible (signed (pos n)) = n < 2 ^ 63
+Reversible (signed (negsuc n)) = n < 2 ^ 63
+Reversible (double x pattern) = x ≡ ofBits binary64 pattern
+Reversible (text at n) = Unit {0}
+Reversible (bytes at n) = Unit {0}
+Reversible (sample at n) = Unit {0}
+Reversible (stream at n) = Unit {0}
+Reversible unknownValue = Unit {0}
+
+-- the value of a struct's fields, by its kind
+abbrev pub valueAgain : ℕ → ℕ → ℕ → ℕ → Value
+valueAgain kind number at n =
+    getD (unknownValue ∷ unsigned number ∷ signed (twosComplement 64 number) ∷ doubleValue number ∷ text at n
+    ∷ bytes at n ∷ sample at n ∷ stream at n ∷ []) kind unknownValue
+
+word-back-pos : (n : ℕ) → n < 2 ^ 63 → twosComplement 64 (wordOf (pos n)) ≡ pos n
+word-back-pos n h = rw (lt-ltb n (2 ^ 63) h)
+
+word-back-neg : (k : ℕ) → k < 2 ^ 63 → twosComplement 64 (wordOf (negsuc k)) ≡ negsuc k
+word-back-neg k h =
+    let high : 2 ^ 63 ≤ 18446744073709551615 - k = omega arith in
+    let same : 2 ^ 64 - suc (18446744073709551615 - k) ≡ k = omega arith in
+    rw (le-ltb (18446744073709551615 - k) (2 ^ 63) high, same)
+
+pub value-back : (v : Value) → Reversible v
+    → valueAgain (decodedC v .kind) (decodedC v .number) (decodedC v .at) (decodedC v .length) ≡ v
+value-back (unsigned n) h = refl
+value-back (signed (pos n)) h = ap signed (word-back-pos n h)
+value-back (signed (negsuc n)) h = ap signed (word-back-neg n h)
+value-back (double x pattern) h = ap (λ y. double y pattern) (sym h)
+value-back (text at n) h = refl
+value-back (bytes at n) h = refl
+value-back (sample at n) h = refl
+value-back (stream at n) h = refl
+value-back unknownValue h = refl
+
+abbrev pub valueReplyAgain : Mf4Value → Reply Value
+valueReplyAgain s = again (s .reply) (s .told) (valueAgain (s .kind) (s .number) (s .at) (s .length))
+
+pub value-told : (r : Reply Value) → Tellable Reversible r → valueReplyAgain (valueC r) ≡ r
+value-told = told-by Reversible valueC valueReplyAgain (λ v h. ap answer (value-back v h)) (again-refused _)
+
+abbrev pub validValueAgain : Mf4ValidValue → Reply ValidValue
+validValueAgain s =
+    again (s .reply) (s .told)
+    (record { value = valueAgain (s .kind) (s .number) (s .at) (s .length); valid = eqb (s .«is_valid») 1 })
+
+pub valid-value-told : (r : Reply ValidValue) → Tellable (λ v. Reversible (v .value)) r → validValueAgain (validValueC r) ≡ r
+valid-value-told =
+    told-by (λ v. Reversible (v .value)) validValueC validValueAgain
+    (λ v h. ap₂ (λ (x : Value) (b : Bool). answer (record { value = x; valid = b })) (value-back (v .value) h) (flag-back (v .valid)))
+    (again-refused _)

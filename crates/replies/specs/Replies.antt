@@ -1,0 +1,88 @@
+-- A reply as C sees it: 0 and the answer's fields, or the refusal's number, what it tells, and zeros.
+use Prim.Native.Nat.{ℕ}
+use mathlib.Core.Bool.{Bool, true, false}
+use mathlib.Core.List.{List}
+use Rattle.definitions.specs.Reply.{Reply, Outcome, answer, refusal}
+use Rattle.definitions.specs.Unicode.{TextWritten}
+use Rattle.definitions.specs.Header.{Header}
+use Rattle.definitions.specs.DataList.{DataList}
+use Rattle.replies.specs.declared.written.Mf4Written.{Mf4Written}
+use Rattle.replies.specs.declared.header.Mf4BlockHeader.{Mf4BlockHeader}
+use Rattle.replies.specs.declared.header.Mf4Header.{Mf4Header}
+use Rattle.replies.specs.declared.list.Mf4List.{Mf4List}
+use Rattle.replies.specs.declared.texts.Mf4Text.{Mf4Text}
+
+-- what a call returns, and the buffer that was lent to it as it leaves it
+pub record Returned (R : Type 0) : Type 0 where
+  pub result : R
+  pub buffer : List ℕ
+
+abbrev pub returned : {R : Type 0} → R → List ℕ → Returned R
+returned r out = record { result = r; buffer = out }
+
+-- an outcome of the definitions, its reply as C sees it
+abbrev pub returnedBy : {A R : Type 0} → (Reply A → R) → Outcome A → Returned R
+returnedBy toC o = returned (toC (o .reply)) (o .buffer)
+
+-- a test, as a number
+abbrev pub flagC : Bool → ℕ
+flagC true = 1
+flagC false = 0
+
+-- ---- written
+
+abbrev pub writtenC : Reply ℕ → Mf4Written
+writtenC (answer n) = record { reply = 0; told = 0; count = n }
+writtenC (refusal n t) = record { reply = n; told = t; count = 0 }
+
+-- ---- headers
+
+abbrev pub headerFields : Header → Mf4BlockHeader
+headerFields h = record { id = h .id; reserved0 = h .reserved; «block_len» = h .blockLength; «links_nr» = h .linkCount }
+
+abbrev pub noHeader : Mf4BlockHeader
+noHeader = record { id = 0; reserved0 = 0; «block_len» = 0; «links_nr» = 0 }
+
+-- the header that C gives
+abbrev pub headerGiven : Mf4BlockHeader → Header
+headerGiven h = record { id = h .id; reserved = h .reserved0; blockLength = h .«block_len»; linkCount = h .«links_nr» }
+
+abbrev pub headerC : Reply Header → Mf4Header
+headerC (answer h) = record { reply = 0; told = 0; header = headerFields h }
+headerC (refusal n t) = record { reply = n; told = t; header = noHeader }
+
+-- ---- data lists
+
+abbrev pub listC : Reply DataList → Mf4List
+listC (answer d) = record {
+  reply = 0;
+  told = 0;
+  header = headerFields (d .header);
+  next = d .next;
+  «links_at» = d .linksAt;
+  links = d .links;
+  flags = d .flags;
+  reserved1 = d .reserved;
+  «data_block_nr» = d .count;
+  «rest_at» = d .restAt;
+  rest = d .rest;
+}
+listC (refusal n t) = record {
+  reply = n;
+  told = t;
+  header = noHeader;
+  next = 0;
+  «links_at» = 0;
+  links = 0;
+  flags = 0;
+  reserved1 = 0;
+  «data_block_nr» = 0;
+  «rest_at» = 0;
+  rest = 0;
+}
+
+-- ---- texts
+
+abbrev pub textC : Reply TextWritten → Mf4Text
+textC (answer t) = record { reply = 0; told = 0; count = t .count; damaged = flagC (t .damaged) }
+textC (refusal n t) = record { reply = n; told = t; count = 0; damaged = 0 }

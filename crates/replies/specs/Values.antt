@@ -1,0 +1,76 @@
+-- Values and records as C sees them.
+use Prim.Native.Nat.{ℕ, _-_}
+use lib.IntN.{ℤ, pos, negsuc}
+use Rattle.definitions.specs.Reply.{Reply, answer, refusal}
+use Rattle.definitions.specs.DataType.{typeOf}
+use Rattle.definitions.specs.Channel.{Channel, Value, ValidValue, unsigned, signed, double, text, bytes, sample, stream, unknownValue}
+use Rattle.replies.specs.Replies.{flagC}
+use Rattle.replies.specs.declared.channel.Mf4Channel.{Mf4Channel}
+use Rattle.replies.specs.declared.values.Shown.{Shown}
+use Rattle.replies.specs.declared.values.Mf4Value.{Mf4Value}
+use Rattle.replies.specs.declared.valid_values.Mf4ValidValue.{Mf4ValidValue}
+use Rattle.replies.specs.declared.fetches.Mf4Length.{Mf4Length}
+use Rattle.replies.specs.declared.fetches.Mf4Fetched.{Mf4Fetched}
+
+-- the description that C gives, the type by its code
+abbrev pub channelGiven : Mf4Channel → Channel
+channelGiven c = record {
+  dataType = typeOf (c .«data_type»);
+  channelType = c .«channel_type»;
+  bitOffset = c .«bit_offset»;
+  byteOffset = c .«byte_offset»;
+  bitCount = c .«bit_count»;
+  flags = c .flags;
+  invalidationBit = c .«pos_invalidation_bit»;
+  dataLink = c .data;
+}
+
+-- an integer as a word of 64 bits, in two's complement
+abbrev pub wordOf : ℤ → ℕ
+wordOf (pos n) = n
+wordOf (negsuc k) = 18446744073709551615 - k
+
+-- a number in one word, and bytes by their place and length
+abbrev pub numberC : ℕ → ℕ → Shown
+numberC kind word = record { kind = kind; number = word; at = 0; length = 0 }
+
+abbrev pub placeC : ℕ → ℕ → ℕ → Shown
+placeC kind at n = record { kind = kind; number = 0; at = at; length = n }
+
+-- the kinds from 1 on
+abbrev pub decodedC : Value → Shown
+decodedC (unsigned n) = numberC 1 n
+decodedC (signed z) = numberC 2 (wordOf z)
+decodedC (double x pattern) = numberC 3 pattern
+decodedC (text at n) = placeC 4 at n
+decodedC (bytes at n) = placeC 5 at n
+decodedC (sample at n) = placeC 6 at n
+decodedC (stream at n) = placeC 7 at n
+decodedC unknownValue = placeC 8 0 0
+
+-- what was decoded, in a reply of 0
+abbrev pub answerC : Shown → Mf4Value
+answerC d = record { reply = 0; kind = d .kind; told = 0; number = d .number; at = d .at; length = d .length }
+
+-- a refusal has kind 0
+abbrev pub valueC : Reply Value → Mf4Value
+valueC (answer v) = answerC (decodedC v)
+valueC (refusal n t) = record { reply = n; kind = 0; told = t; number = 0; at = 0; length = 0 }
+
+abbrev pub validAnswerC : Shown → ℕ → Mf4ValidValue
+validAnswerC d valid =
+    record { reply = 0; kind = d .kind; told = 0; number = d .number; at = d .at; length = d .length; «is_valid» = valid }
+
+abbrev pub validValueC : Reply ValidValue → Mf4ValidValue
+validValueC (answer v) = validAnswerC (decodedC (v .value)) (flagC (v .valid))
+validValueC (refusal n t) = record { reply = n; kind = 0; told = t; number = 0; at = 0; length = 0; «is_valid» = 0 }
+
+-- ---- records
+
+abbrev pub lengthC : Reply ℕ → Mf4Length
+lengthC (answer n) = record { reply = 0; told = 0; length = n }
+lengthC (refusal n t) = record { reply = n; told = t; length = 0 }
+
+abbrev pub fetchedC : Reply (Unit {0}) → Mf4Fetched
+fetchedC (answer u) = record { reply = 0; told = 0 }
+fetchedC (refusal n t) = record { reply = n; told = t }

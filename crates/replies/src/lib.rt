@@ -1,0 +1,31 @@
+// What C is told and what it gives: each answer of the library as a struct, and each struct as what the library takes.
+mod channel;
+mod fetches;
+mod header;
+mod list;
+mod texts;
+mod valid_values;
+mod values;
+mod written;
+
+pub use channel::Mf4Channel;
+pub use channel::channel_of;
+pub use fetches::Mf4Fetched;
+pub use fetches::Mf4Length;
+pub use fetches::fetched_reply;
+pub use fetches::length_reply;
+pub use header::Mf4BlockHeader;
+pub use header::Mf4Header;
+pub use header::header_of;
+pub use header::header_reply;
+pub use list::Mf4List;
+pub use list::list_reply;
+pub use texts::Mf4Text;
+pub use texts::flag;
+pub use texts::text_reply;
+pub use valid_values::Mf4ValidValue;
+pub use valid_values::valid_value_reply;
+pub use values::Mf4Value;
+pub use values::value_reply;
+pub use written::Mf4Written;
+pub use written::written_reply;

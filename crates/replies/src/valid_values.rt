@@ -1,0 +1,46 @@
+// Values with their validity.
+ghost use mathlib.Core.Path.{_≡_};
+ghost use Rattle.decoder.specs.Meaning.{validValueReply};
+ghost use Rattle.replies.specs.Values.{validValueC};
+use crate::texts::flag;
+use crate::values::decoded;
+use decoder::ValidValueRead;
+
+#[repr(C)]
+pub struct Mf4ValidValue {
+    pub reply: u32,
+    pub kind: u32,
+    pub told: u64,
+    pub number: u64,
+    pub at: u64,
+    pub length: u64,
+    pub is_valid: u8,
+}
+
+pub fn valid_value_reply(read: ValidValueRead) -> Mf4ValidValue
+    ensures { λ r. ⌜ r ≡ validValueC (validValueReply read) ⌝ }
+{
+    let ValidValueRead::Value(judged) = read else {
+        let why = read.refusal();
+        return Mf4ValidValue {
+            reply: why.number(),
+            kind: 0,
+            told: why.told(),
+            number: 0,
+            at: 0,
+            length: 0,
+            is_valid: 0,
+        };
+    };
+    let value = judged.value;
+    let told = decoded(value);
+    Mf4ValidValue {
+        reply: 0,
+        kind: told.kind,
+        told: 0,
+        number: told.number,
+        at: told.at,
+        length: told.length,
+        is_valid: flag(judged.is_valid),
+    }
+}
