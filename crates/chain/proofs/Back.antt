@@ -1,20 +1,17 @@
 -- The meanings are one-to-one: from its meaning each answer comes back.
 use mathlib.Core.Path.{_≡_, refl, ap}
-use mathlib.Core.List.{List}
 use Prim.Native.Nat.{ℕ}
-use Rattle.definitions.specs.Reply.{Reply, Outcome, answer, refusal}
+use Rattle.definitions.specs.Reply.{Reply, answer, refusal}
 use Rattle.definitions.specs.Chain.{Block}
 use Rattle.definitions.proofs.Replies.{one-by}
 use Rattle.refusals.proofs.Back.{refusalOf, back}
-use Rattle.chain.specs.Meaning.{blockReply, chainReply, recordReply, fetchedBy}
+use Rattle.chain.specs.Meaning.{blockReply, chainReply}
 use Rattle.chain.specs.Walk.{Onward, aList, theEnd, nextReply}
 use Rattle.chain.specs.declared.block.DataBlock.{DataBlock}
 use Rattle.chain.specs.declared.block.BlockRead.{BlockRead}
 use Rattle.chain.specs.declared.block.BlockRead.the-variants.{Block as ABlock, Refused as NoBlock}
 use Rattle.chain.specs.declared.acceptance.ChainRead.{ChainRead}
 use Rattle.chain.specs.declared.acceptance.ChainRead.the-variants.{Whole, Refused as NoChain}
-use Rattle.chain.specs.declared.record.RecordRead.{RecordRead}
-use Rattle.chain.specs.declared.record.RecordRead.the-variants.{Record, Refused as NoRecord}
 use Rattle.chain.specs.declared.next.NextRead.{NextRead}
 use Rattle.chain.specs.declared.next.NextRead.the-variants.{List as AList, End, Refused as NoList}
 
@@ -61,21 +58,3 @@ chain-back (NoChain r) = ap NoChain (back r)
 
 pub chain-one : (a b : ChainRead) → chainReply a ≡ chainReply b → a ≡ b
 chain-one = one-by chainReply chainAgain chain-back
-
--- ---- a record
-
-abbrev pub recordAgain : Reply (Unit {0}) → RecordRead
-recordAgain (answer u) = Record
-recordAgain (refusal n t) = NoRecord (refusalOf n t)
-
-pub record-back : (r : RecordRead) → recordAgain (recordReply r) ≡ r
-record-back Record = refl
-record-back (NoRecord r) = ap NoRecord (back r)
-
-pub record-one : (a b : RecordRead) → recordReply a ≡ recordReply b → a ≡ b
-record-one = one-by recordReply recordAgain record-back
-
--- a reply with the buffer that it leaves
-pub fetched-one : (a b : RecordRead) (x y : List ℕ) → fetchedBy a x ≡ fetchedBy b y → (a ≡ b) × (x ≡ y)
-fetched-one a b x y e =
-    (record-one a b (ap (λ (o : Outcome (Unit {0})). o .reply) e), ap (λ (o : Outcome (Unit {0})). o .buffer) e)

@@ -1,5 +1,5 @@
--- The laws of a chain. What later readers cite: rest-fragment, rest-next and next-tells of Steps, chain-stands and
--- joined-length of Chains, what a loop keeps in Walks, and the windows of Laying.
+-- The laws of a chain. What readers cite: rest-fragment, rest-next and next-tells of Steps, chain-stands and joined-length of
+-- Chains, and what a loop keeps in Walks.
 pub mod Answers
 pub mod Addresses
 pub mod Blocks
@@ -8,7 +8,4 @@ pub mod Fragments
 pub mod Steps
 pub mod Chains
 pub mod Walks
-pub mod Laying
-pub mod Begun
-pub mod Records
 pub mod Back

@@ -1,4 +1,3 @@
 pub mod Meaning
 pub mod Walk
 pub mod Located
-pub mod Window

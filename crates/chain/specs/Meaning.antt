@@ -1,7 +1,6 @@
 -- What each struct and each case of an answer means in the definitions.
 use Prim.Native.Nat.{ℕ}
-use mathlib.Core.List.{List}
-use Rattle.definitions.specs.Reply.{Reply, Outcome, answer}
+use Rattle.definitions.specs.Reply.{Reply, answer}
 use Rattle.definitions.specs.Chain.{Block}
 use Rattle.refusals.specs.Meaning.{refused}
 use Rattle.chain.specs.declared.block.DataBlock.{DataBlock}
@@ -11,8 +10,6 @@ use Rattle.chain.specs.declared.acceptance.ChainRead.{ChainRead}
 use Rattle.chain.specs.declared.acceptance.ChainRead.the-variants.{Whole, Refused as NoChain}
 use Rattle.chain.specs.declared.acceptance.Located.{Located}
 use Rattle.chain.specs.declared.acceptance.Located.the-variants.{Whole as AtPlace, Refused as NoPlace}
-use Rattle.chain.specs.declared.record.RecordRead.{RecordRead}
-use Rattle.chain.specs.declared.record.RecordRead.the-variants.{Record, Refused as NoRecord}
 
 -- ---- a data block
 
@@ -33,13 +30,3 @@ chainReply (NoChain r) = refused r
 abbrev pub locatedReply : Located → Reply ℕ
 locatedReply (AtPlace q p) = answer (q .0)
 locatedReply (NoPlace r) = refused r
-
--- ---- a record
-
-abbrev pub recordReply : RecordRead → Reply (Unit {0})
-recordReply Record = answer tt
-recordReply (NoRecord r) = refused r
-
--- the reply and the buffer that a call leaves
-abbrev pub fetchedBy : RecordRead → List ℕ → Outcome (Unit {0})
-fetchedBy r out = record { reply = recordReply r; buffer = out }

@@ -20,7 +20,7 @@ pub enum ChainRead {
     Refused(Refusal),
 }
 
-pub(crate) enum Located {
+pub enum Located {
     // the length of the joined data, and a place on the way that is not behind the wanted position
     Whole(DataPosition, Place),
     Refused(Refusal),
@@ -64,7 +64,7 @@ pub(crate) fn locate(file: &[u8], start: FileAddress, id: &[u8; 4], wanted: Data
 }
 
 // The same in a chain of data blocks, of a file that is not too long
-pub(crate) fn locate_data(file: &[u8], start: FileAddress, wanted: DataPosition) -> Located
+pub fn locate_data(file: &[u8], start: FileAddress, wanted: DataPosition) -> Located
     ensures { λ r. ⌜ Locates idDT (now (file .entry)) (start .0) (wanted .0) (dataLength (now (file .entry)) (start .0)) r ⌝ }
 {
     if FILE_LIMIT < file.len() {
@@ -100,7 +100,7 @@ impl Located {
     }
 
     // Why the chain was refused. Only a refusal is asked, so the second arm is never taken.
-    pub(crate) fn refusal(self) -> Refusal
+    pub fn refusal(self) -> Refusal
         requires { ⌜ ((why : Refusal) × (self ≡ Located.Refused why)) ⌝ }
         ensures { λ r. ⌜ self ≡ Located.Refused r ⌝ }
     {

@@ -4,13 +4,10 @@
 pub(crate) const FILE_LIMIT: usize = 1099511627776;
 
 // the bytes of joined data
-pub(crate) const DATA_LIMIT: u64 = 9223372036854775807;
+pub const DATA_LIMIT: u64 = 9223372036854775807;
 
 // the lists of a chain
 pub(crate) const LIST_LIMIT: u64 = 256;
 
 // the fragments of a chain
 pub(crate) const FRAGMENT_LIMIT: u64 = 4096;
-
-// the bytes of a record
-pub(crate) const RECORD_LIMIT: u64 = 16384;

@@ -87,7 +87,7 @@ impl DataPosition {
     }
 
     // whether so many bytes from another position on all stand before this one
-    pub(crate) fn is_behind(self, from: DataPosition, size: u64) -> bool
+    pub fn is_behind(self, from: DataPosition, size: u64) -> bool
         ensures { λ r. ⌜ r ≡ leb (from .0 + size) (self .0) ⌝ }
     {
         if self.0 < from.0 {

@@ -5,7 +5,7 @@ ghost use Rattle.replies.specs.Replies.{returned, returnedBy};
 ghost use Rattle.replies.specs.Values.{channelGiven, validValueC, lengthC, fetchedC};
 use chain::FileAddress;
 use chain::data_length;
-use chain::read_record;
+use records::read_record;
 use records::read_value;
 use replies::Mf4Channel;
 use replies::Mf4Fetched;

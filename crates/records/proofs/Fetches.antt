@@ -12,9 +12,9 @@ use Rattle.definitions.specs.Channel.{Channel, ValidValue, validValueOf}
 use Rattle.definitions.specs.Chain.{recordLimit, badSize, fetched, fieldOf, valueFetched}
 use Rattle.refusals.specs.Meaning.{refused}
 use Rattle.refusals.specs.declared.Refusal.{Refusal}
-use Rattle.chain.specs.Meaning.{fetchedBy}
-use Rattle.chain.specs.declared.record.RecordRead.{RecordRead}
-use Rattle.chain.specs.declared.record.RecordRead.the-variants.{Record, Refused}
+use Rattle.records.specs.Meaning.{fetchedBy}
+use Rattle.records.specs.declared.record.RecordRead.{RecordRead}
+use Rattle.records.specs.declared.record.RecordRead.the-variants.{Record, Refused}
 
 last-of : (p q : Bool) → p || q ≡ false → q ≡ false
 last-of true q h = let z : _≡_ {A = ℕ} 0 1 = cc in let no : ⊥ = omega arith in absurd no

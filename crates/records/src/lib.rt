@@ -1,32 +1,9 @@
-// A record fetched, and a channel's value in it.
-ghost use mathlib.Core.Path.{_≡_};
-ghost use Rattle.definitions.specs.Chain.{valueFetched};
-ghost use Rattle.decoder.specs.Meaning.{channelMeant};
-ghost use Rattle.records.specs.Meaning.{valueFetchedBy};
-use chain::FileAddress;
-use chain::RecordRead;
-use chain::read_record;
-use decoder::Channel;
-use decoder::ValidValueRead;
-use decoder::any_valid_value;
+// Records of the joined data of a chain, and values in them.
+mod joined;
+mod record;
+mod value;
 
-// The value and the validity are read from the record's bytes alone. A field that is refused leaves the record in the buffer.
-pub fn read_value(
-    file: &[u8],
-    start: FileAddress,
-    number: u64,
-    record_size: u64,
-    record_id_size: usize,
-    data_bytes: u32,
-    channel: Channel,
-    buffer: &mut [u8],
-) -> ValidValueRead
-    ensures { λ r. ⌜ valueFetchedBy r (now (buffer .exit)) ≡ valueFetched (now (file .entry)) (start .0) number «record_size» «record_id_size» «data_bytes» (channelMeant channel) (now (buffer .entry)) ⌝ }
-{
-    let fetched = read_record(file, start, number, record_size, buffer);
-    let RecordRead::Record = fetched else {
-        return ValidValueRead::Refused(fetched.refusal());
-    };
-    let size = record_size as usize;
-    any_valid_value(&buffer[..size], record_id_size, data_bytes, channel)
-}
+pub use joined::window;
+pub use record::RecordRead;
+pub use record::read_record;
+pub use value::read_value;

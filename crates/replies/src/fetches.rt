@@ -1,9 +1,10 @@
 // Lengths and records of chains.
 ghost use mathlib.Core.Path.{_≡_};
-ghost use Rattle.chain.specs.Meaning.{chainReply, recordReply};
+ghost use Rattle.chain.specs.Meaning.{chainReply};
+ghost use Rattle.records.specs.Meaning.{recordReply};
 ghost use Rattle.replies.specs.Values.{lengthC, fetchedC};
 use chain::ChainRead;
-use chain::RecordRead;
+use records::RecordRead;
 
 #[repr(C)]
 pub struct Mf4Length {

@@ -28,10 +28,11 @@ use Rattle.decoder.specs.Meaning.{channelMeant, valueReply, validValueReply}
 use Rattle.decoder.specs.declared.channel.Channel.{Channel}
 use Rattle.decoder.specs.declared.value.ValueRead.{ValueRead}
 use Rattle.decoder.specs.declared.value.ValidValueRead.{ValidValueRead}
-use Rattle.chain.specs.Meaning.{chainReply, recordReply}
+use Rattle.chain.specs.Meaning.{chainReply}
+use Rattle.records.specs.Meaning.{recordReply}
 use Rattle.chain.specs.declared.place.FileAddress.{FileAddress}
 use Rattle.chain.specs.declared.acceptance.ChainRead.{ChainRead}
-use Rattle.chain.specs.declared.record.RecordRead.{RecordRead}
+use Rattle.records.specs.declared.record.RecordRead.{RecordRead}
 
 -- a reply that is the definition's
 exactly : {A P : Type 0} {r q : Reply A} → r ≡ q → Exactly P q → Exactly P r

@@ -18,7 +18,7 @@ use Rattle.blocks.specs.Meaning.{headerMeant, writtenReply}
 use Rattle.blocks.specs.declared.header.BlockHeader.{BlockHeader}
 use Rattle.text.specs.Meaning.{encodingOf, textReply}
 use Rattle.text.specs.declared.encoding.Encoding.{Encoding}
-use Rattle.chain.specs.Meaning.{recordReply}
+use Rattle.records.specs.Meaning.{recordReply}
 use Rattle.chain.specs.declared.place.FileAddress.{FileAddress}
 use Rattle.decoder.specs.Meaning.{channelMeant, validValueReply}
 use Rattle.decoder.specs.declared.channel.Channel.{Channel}

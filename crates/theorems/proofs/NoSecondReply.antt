@@ -13,11 +13,12 @@ use Rattle.theorems.specs.Sole.{Settled}
 use Rattle.blocks.specs.Meaning.{writtenReply}
 use Rattle.text.specs.Meaning.{textReply}
 use Rattle.decoder.specs.Meaning.{validValueReply}
-use Rattle.chain.specs.Meaning.{recordReply}
+use Rattle.records.specs.Meaning.{recordReply}
 use Rattle.blocks.proofs.Back.{written-one, header-one, type-one, list-one}
 use Rattle.text.proofs.Back.{text-one}
 use Rattle.decoder.proofs.Back.{value-one, valid-value-one}
-use Rattle.chain.proofs.Back.{chain-one, record-one}
+use Rattle.chain.proofs.Back.{chain-one}
+use Rattle.records.proofs.Back.{record-one}
 use Rattle.refusals.proofs.Refusal.number.Kinds as refusal-number-kinds
 use Rattle.refusals.proofs.Refusal.number.Reads as refusal-number
 use Rattle.refusals.proofs.Refusal.told.Kinds as refusal-told-kinds
@@ -68,8 +69,8 @@ use Rattle.chain.proofs.data_length.Kinds as chain-length-kinds
 use Rattle.chain.proofs.data_length.Reads as chain-length
 use Rattle.chain.proofs.place.Place.start.Kinds as chain-start-kinds
 use Rattle.chain.proofs.place.Place.start.Reads as chain-start
-use Rattle.chain.proofs.read_record.Kinds as record-read-kinds
-use Rattle.chain.proofs.read_record.Reads as record-read
+use Rattle.records.proofs.read_record.Kinds as record-read-kinds
+use Rattle.records.proofs.read_record.Reads as record-read
 use Rattle.records.proofs.read_value.Kinds as record-value-kinds
 use Rattle.records.proofs.read_value.Reads as record-value
 

@@ -8,11 +8,12 @@ use contract.Lifetimes.{Lfts}
 use lib.ListN.{length}
 use Rattle.definitions.specs.Reply.{Outcome, answer}
 use Rattle.definitions.specs.Channel.{ValidValue}
-use Rattle.chain.specs.Meaning.{chainReply, fetchedBy}
+use Rattle.chain.specs.Meaning.{chainReply}
+use Rattle.records.specs.Meaning.{fetchedBy}
 use Rattle.chain.specs.declared.place.FileAddress.{FileAddress}
 use Rattle.chain.specs.declared.acceptance.ChainRead.{ChainRead}
-use Rattle.chain.specs.declared.record.RecordRead.{RecordRead}
-use Rattle.chain.proofs.Back.{record-one}
+use Rattle.records.specs.declared.record.RecordRead.{RecordRead}
+use Rattle.records.proofs.Back.{record-one}
 use Rattle.decoder.specs.Meaning.{channelMeant}
 use Rattle.decoder.specs.declared.channel.Channel.{Channel}
 use Rattle.decoder.specs.declared.value.ValidValueRead.{ValidValueRead}

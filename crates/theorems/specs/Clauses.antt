@@ -16,7 +16,7 @@ use Rattle.decoder.specs.declared.value.ValueRead.{ValueRead}
 use Rattle.decoder.specs.declared.value.ValidValueRead.{ValidValueRead}
 use Rattle.chain.specs.declared.place.FileAddress.{FileAddress}
 use Rattle.chain.specs.declared.acceptance.ChainRead.{ChainRead}
-use Rattle.chain.specs.declared.record.RecordRead.{RecordRead}
+use Rattle.records.specs.declared.record.RecordRead.{RecordRead}
 use Rattle.blocks.proofs.header.BlockHeader.from_bytes.Kinds as header-read-kinds
 use Rattle.blocks.proofs.header.BlockHeader.from_bytes.Reads as header-read
 use Rattle.blocks.proofs.header.BlockHeader.to_bytes.Kinds as header-write-kinds
@@ -41,8 +41,8 @@ use Rattle.chain.proofs.accept.Kinds as chain-accept-kinds
 use Rattle.chain.proofs.accept.Reads as chain-accept
 use Rattle.chain.proofs.data_length.Kinds as chain-length-kinds
 use Rattle.chain.proofs.data_length.Reads as chain-length
-use Rattle.chain.proofs.read_record.Kinds as record-read-kinds
-use Rattle.chain.proofs.read_record.Reads as record-read
+use Rattle.records.proofs.read_record.Kinds as record-read-kinds
+use Rattle.records.proofs.read_record.Reads as record-read
 use Rattle.records.proofs.read_value.Kinds as record-value-kinds
 use Rattle.records.proofs.read_value.Reads as record-value
 

@@ -1,4 +1,4 @@
-use Rattle.chain.specs.Meaning.{recordReply}
+use Rattle.records.specs.Meaning.{recordReply}
 use Rattle.replies.specs.Values.{fetchedC}
 use Rattle.replies.proofs.Handed.{handed-back}
 use borrow.Author.Needs.{needs}

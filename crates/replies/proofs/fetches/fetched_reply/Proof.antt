@@ -1,5 +1,5 @@
 use mathlib.Core.Path.{refl}
-use Rattle.chain.specs.Meaning.{recordReply}
+use Rattle.records.specs.Meaning.{recordReply}
 use Rattle.replies.specs.Values.{fetchedC}
 use Rattle.replies.proofs.Handed.{handed, by-numbers}
 use borrow.Author.Needs.{needs}

@@ -12,9 +12,9 @@ use lib.ListN.{length, take, drop, length-append, length-take, length-drop, take
 use lib.Seq.{take-all, take-nil, drop-drop, paste, take-append-seam, take-append-le, drop-append-le, take-append-add, drop-append-add}
 use Rattle.definitions.specs.Bytes.{span}
 use Rattle.definitions.specs.Chain.{Block, dataOf, joined, total}
-use Rattle.chain.specs.Window.{overwritten, laid}
+use Rattle.records.specs.Window.{overwritten, laid}
 use Rattle.chain.specs.Walk.{Inside}
 use Rattle.chain.proofs.Chains.{joined-length, joined-more}
 
 split-by : (a b : ℕ) (t : Bool) → leb a b ≡ t → (a ≤ b) ⊎ (b < a)
 split-by a b true e = inl (leb-true a b e)

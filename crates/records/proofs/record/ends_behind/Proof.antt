@@ -1,7 +1,7 @@
 use borrow.Author.Needs.{needs}
-use Rattle.chain.proofs.Records.{ends-is}
-use Rattle.chain.proofs.record.ends_behind.Statement.{statement}
-use Rattle.chain.proofs.record.ends_behind.Tie as tie
+use Rattle.records.proofs.Records.{ends-is}
+use Rattle.records.proofs.record.ends_behind.Statement.{statement}
+use Rattle.records.proofs.record.ends_behind.Tie as tie
 
 returns : tie.Need-returns
 returns c = ends-is _ _ _ (c .pre)

@@ -5,8 +5,8 @@ use lib.ListN.{length, length-take}
 use denote.Ref.{now}
 use borrow.Author.Needs.{needs}
 use Rattle.records.proofs.Fetches.{fits, not-fetched, fetched-then}
-use Rattle.records.proofs.read_value.Statement.{statement}
-use Rattle.records.proofs.read_value.Tie as tie
+use Rattle.records.proofs.value.read_value.Statement.{statement}
+use Rattle.records.proofs.value.read_value.Tie as tie
 
 returns : tie.Need-returns
 returns c =

@@ -10,12 +10,12 @@ use lib.Dec.{eqb}
 use Rattle.definitions.specs.Reply.{answer, if_then_else_, andThen}
 use Rattle.definitions.specs.DataList.{DataList}
 use Rattle.definitions.specs.Chain.{Block, listLimit, joined, fragmentOf, fragments, listAt, lists, chainOf}
 use Rattle.chain.specs.Walk.{ended, fragmentsLeft, listsBehind, chainFrom}
 use Rattle.chain.specs.declared.place.Place.{Place}
-use Rattle.chain.specs.Window.{laid}
+use Rattle.records.specs.Window.{laid}
 use Rattle.definitions.proofs.Replies.{not-answered}
 use Rattle.chain.proofs.Answers.{followed, answered}
-use Rattle.chain.proofs.Laying.{laid-whole}
+use Rattle.records.proofs.Laying.{laid-whole}
 
 -- `all` begins with `before`
 abbrev Begins : List Block → List Block → Type 0

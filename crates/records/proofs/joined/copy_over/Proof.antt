@@ -7,9 +7,9 @@ use native.Mathlib.Numerals.{add-one}
 use lib.ListN.{length, set, getD, length-set}
 use lib.Seq.{paste, paste-zero, paste-suc}
 use borrow.Author.Needs.{needs}
-use Rattle.chain.proofs.Laying.{overwritten-paste}
-use Rattle.chain.proofs.joined.copy_over.Statement.{statement}
-use Rattle.chain.proofs.joined.copy_over.Tie as tie
+use Rattle.records.proofs.Laying.{overwritten-paste}
+use Rattle.records.proofs.joined.copy_over.Statement.{statement}
+use Rattle.records.proofs.joined.copy_over.Tie as tie
 
 abbrev Inv-loop : tie.InvT-loop
 Inv-loop bytes out₀ at n i₀ out i = (i ≤ n) × (out ≡ paste out₀ at bytes i) × (length out ≡ length out₀)

@@ -3,16 +3,18 @@ ghost use mathlib.Core.Path.{_≡_};
 ghost use Prim.Native.Nat.{_+_, _*_, _≤_, _<_};
 ghost use lib.Dec.{ltb};
 ghost use Rattle.definitions.specs.Chain.{dataLimit, badSize, fetched};
-ghost use Rattle.chain.specs.Meaning.{fetchedBy};
-use crate::acceptance::Located;
-use crate::acceptance::locate_data;
-use crate::block::DataBlock;
+ghost use Rattle.records.specs.Meaning.{fetchedBy};
 use crate::joined::window;
-use crate::limits::DATA_LIMIT;
-use crate::limits::RECORD_LIMIT;
-use crate::place::DataPosition;
-use crate::place::FileAddress;
+use chain::DATA_LIMIT;
+use chain::DataBlock;
+use chain::DataPosition;
+use chain::FileAddress;
+use chain::Located;
+use chain::locate_data;
 use refusals::Refusal;
+
+// the bytes of a record
+const RECORD_LIMIT: u64 = 16384;
 
 pub enum RecordRead {
     // it stands in the front of the buffer

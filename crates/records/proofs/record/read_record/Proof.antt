@@ -7,11 +7,11 @@ use lib.Dec.{ltb}
 use borrow.Author.Needs.{needs}
 use Rattle.definitions.specs.Reply.{answer}
 use Rattle.definitions.specs.Chain.{idDT, badSize, dataLength}
 use Rattle.chain.specs.Meaning.{locatedReply}
 use Rattle.chain.specs.Walk.{Walked}
-use Rattle.chain.proofs.Records.{size-good, data-whole, fetch-bad, fetch-refused, fetch-behind, fetch-first, fetch-record}
-use Rattle.chain.proofs.record.read_record.Statement.{statement}
-use Rattle.chain.proofs.record.read_record.Tie as tie
+use Rattle.records.proofs.Records.{size-good, data-whole, fetch-bad, fetch-refused, fetch-behind, fetch-first, fetch-record}
+use Rattle.records.proofs.record.read_record.Statement.{statement}
+use Rattle.records.proofs.record.read_record.Tie as tie
 
 returns : tie.Need-returns
 returns c = fetch-bad _ _ _ _ _ (sym (c .before .bad-size .ensures) ∙ c .if1 .taken)

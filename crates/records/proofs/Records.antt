@@ -12,10 +12,10 @@ use borrow.Author.Tests.{eq-eqb, ne-eqb, lt-ltb, le-ltb, le-leb, lt-leb, ltb-tru
 use Rattle.definitions.specs.Reply.{answer, refusal, if_then_else_}
 use Rattle.definitions.specs.Bytes.{span}
 use Rattle.definitions.specs.Chain.{Block, fileLimit, dataLimit, recordLimit, idDT, joined, chainOf, totalOf, dataLength, badSize, recordOf, fetched}
-use Rattle.chain.specs.Window.{laid}
+use Rattle.records.specs.Window.{laid}
 use Rattle.chain.proofs.Answers.{passed, followed, answered, unfollowed}
 use Rattle.chain.proofs.Chains.{joined-length, chain-stands}
-use Rattle.chain.proofs.Laying.{laid-whole}
+use Rattle.records.proofs.Laying.{laid-whole}
 
 -- ---- a record's size
 

@@ -1,9 +1,9 @@
 use mathlib.Core.Path.{sym, _∙_}
 use native.Mathlib.Omega.{arith}
 use borrow.Author.Needs.{needs}
-use Rattle.chain.proofs.Laying.{laid-before, laid-after, laid-part}
-use Rattle.chain.proofs.joined.lay.Statement.{statement}
-use Rattle.chain.proofs.joined.lay.Tie as tie
+use Rattle.records.proofs.Laying.{laid-before, laid-after, laid-part}
+use Rattle.records.proofs.joined.lay.Statement.{statement}
+use Rattle.records.proofs.joined.lay.Tie as tie
 
 returns : tie.Need-returns
 returns c = sym (laid-before _ _ _ _ (omega arith))

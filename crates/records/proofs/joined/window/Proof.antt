@@ -10,16 +10,16 @@ use borrow.Author.Tests.{leb-true}
 use Rattle.definitions.specs.Reply.{answer}
 use Rattle.definitions.specs.Chain.{Block, joined}
 use Rattle.definitions.proofs.Replies.{not-answered}
 use Rattle.chain.specs.Meaning.{blockMeant, blockReply}
 use Rattle.chain.specs.Walk.{At, Walked, fragmentAt, nextReply}
-use Rattle.chain.specs.Window.{laid}
+use Rattle.records.specs.Window.{laid}
 use Rattle.chain.proofs.Answers.{answered}
 use Rattle.chain.proofs.Chains.{joined-length}
-use Rattle.chain.proofs.Begun.{lay-full}
+use Rattle.records.proofs.Begun.{lay-full}
 use Rattle.chain.proofs.Walks.{turnsLeft, few-before, refused-here, taken-here, at-behind, refused-next, at-end, at-list}
-use Rattle.chain.proofs.Laying.{lay-start, lay-turn}
-use Rattle.chain.proofs.joined.window.Statement.{statement}
-use Rattle.chain.proofs.joined.window.Tie as tie
+use Rattle.records.proofs.Laying.{lay-start, lay-turn}
+use Rattle.records.proofs.joined.window.Statement.{statement}
+use Rattle.records.proofs.joined.window.Tie as tie
 
 abbrev Inv-loop : tie.InvT-loop
 Inv-loop file id from out₀ place₀ out place =

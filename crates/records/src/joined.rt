@@ -3,15 +3,15 @@ ghost use mathlib.Core.Path.{_≡_};
 ghost use Prim.Native.Nat.{_-_, _≤_, min};
 ghost use lib.ListN.{length};
 ghost use Rattle.definitions.specs.Chain.{joined};
 ghost use Rattle.chain.specs.Walk.{Walked};
-ghost use Rattle.chain.specs.Window.{overwritten, laid};
-use crate::block::BlockRead;
-use crate::block::data_of;
-use crate::fragment::fragment_at;
-use crate::next::NextRead;
-use crate::next::next_list;
-use crate::place::DataPosition;
-use crate::place::Place;
+ghost use Rattle.records.specs.Window.{overwritten, laid};
+use chain::BlockRead;
+use chain::DataPosition;
+use chain::NextRead;
+use chain::Place;
+use chain::data_of;
+use chain::fragment_at;
+use chain::next_list;
 
 // a less b, and 0 where that is less
 fn less(a: u64, b: u64) -> u64

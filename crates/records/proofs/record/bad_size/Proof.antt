@@ -1,6 +1,6 @@
-use Rattle.chain.proofs.Records.{size-none, size-large, size-by-room}
-use Rattle.chain.proofs.record.bad_size.Statement.{statement}
-use Rattle.chain.proofs.record.bad_size.Tie as tie
+use Rattle.records.proofs.Records.{size-none, size-large, size-by-room}
+use Rattle.records.proofs.record.bad_size.Statement.{statement}
+use Rattle.records.proofs.record.bad_size.Tie as tie
 
 returns : tie.Need-returns
 returns c = let a = c .before .args in size-none (a .size) (a .room) (c .if1 .taken)

@@ -1,9 +1,9 @@
 use mathlib.Core.Path.{refl}
 use native.Mathlib.Omega.{arith}
 use borrow.Author.Needs.{needs}
-use Rattle.chain.proofs.Records.{first-past, first-fits}
-use Rattle.chain.proofs.record.first_byte.Statement.{statement}
-use Rattle.chain.proofs.record.first_byte.Tie as tie
+use Rattle.records.proofs.Records.{first-past, first-fits}
+use Rattle.records.proofs.record.first_byte.Statement.{statement}
+use Rattle.records.proofs.record.first_byte.Tie as tie
 
 returns : tie.Need-returns
 returns c = let a = c .before .args in first-past (a .number) (a .size) (c .before .pre) _ (c .if1 .taken)
