@@ -69,6 +69,8 @@ use Rattle.chain.proofs.data_length.Kinds as chain-length-kinds
 use Rattle.chain.proofs.data_length.Reads as chain-length
 use Rattle.chain.proofs.place.Place.start.Kinds as chain-start-kinds
 use Rattle.chain.proofs.place.Place.start.Reads as chain-start
+use Rattle.chain.proofs.place.DataPosition.is_behind.Kinds as position-behind-kinds
+use Rattle.chain.proofs.place.DataPosition.is_behind.Reads as position-behind
 use Rattle.records.proofs.read_record.Kinds as record-read-kinds
 use Rattle.records.proofs.read_record.Reads as record-read
 use Rattle.records.proofs.read_value.Kinds as record-value-kinds
@@ -161,6 +163,9 @@ chain-length-settled = settled (λ κs a y z b c p q. (chain-one y z (p ∙ sym 
 
 pub chain-start-settled : Settled 0 chain-start-kinds.ps chain-start-kinds.r chain-start.Asked chain-start.ensures chain-start.Learnt
 chain-start-settled = settled (λ κs a y z b c p q. (p ∙ sym q, refl))
+
+pub position-behind-settled : Settled 0 position-behind-kinds.ps position-behind-kinds.r position-behind.Asked position-behind.ensures position-behind.Learnt
+position-behind-settled = settled (λ κs a y z b c p q. (p ∙ sym q, refl))
 
 pub record-read-settled : Settled 2 record-read-kinds.ps record-read-kinds.r record-read.Asked record-read.ensures record-read.Learnt
 record-read-settled = settled (λ κs a y z b c p q. one-outcome recordReply record-one (λ out. (tt, (tt, (tt, (tt, (out, tt)))))) (p ∙ sym q))
