@@ -1,15 +1,13 @@
 use mathlib.Core.Path.{ap₂}
 use Rattle.decoder.specs.Meaning.{validValueReply}
 use Rattle.replies.specs.Values.{validAnswerC, validValueC}
-use Rattle.replies.proofs.Handed.{handed, by-numbers}
+use Rattle.replies.proofs.Handed.{handed}
 use borrow.Author.Needs.{needs}
 use Rattle.replies.proofs.valid_values.valid_value_reply.Statement.{statement}
 use Rattle.replies.proofs.valid_values.valid_value_reply.Tie as tie
 
 returns : tie.Need-returns
-returns c =
-    let why = c .before .before .refusal in
-    handed validValueC validValueReply (by-numbers validValueC (why .result) (c .before .number .ensures) (c .told .ensures)) (why .ensures)
+returns c = handed validValueC validValueReply (c .valid-value-refused .ensures) (c .before .refusal .ensures)
 
 returns-2 : tie.Need-returns-2
 returns-2 c =
@@ -21,7 +19,6 @@ valid-value-reply-spec =
     (tie.spec
     (λ c. search needs)
     (λ c. search needs)
-    (λ c κs. search needs)
     (λ c κs. search needs)
     (λ c κs. search needs)
     returns
