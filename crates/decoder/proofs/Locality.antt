@@ -18,7 +18,7 @@ use Rattle.definitions.specs.Bytes.{twosComplement}
 use Rattle.words.proofs.Numbers.{Bytes}
 use Rattle.words.proofs.Locality as words
 use Rattle.words.proofs.Spans.{length-span, getD-span}
-use Rattle.decoder.proofs.Fields.{tested, value-tested}
+use Rattle.fields.proofs.Fields.{tested, value-tested}
 use Rattle.decoder.proofs.Types.{number-types}
 use Rattle.decoder.proofs.Doubles.{double-fixed}
 

@@ -3,8 +3,8 @@ use Prim.Native.Nat.{ℕ}
 use mathlib.Core.List.{List}
 use Rattle.definitions.specs.Reply.{Outcome}
 use Rattle.definitions.specs.Channel.{ValidValue}
-use Rattle.decoder.specs.Meaning.{validValueReply}
-use Rattle.decoder.specs.declared.value.ValidValueRead.{ValidValueRead}
+use Rattle.fields.specs.Meaning.{validValueReply}
+use Rattle.fields.specs.declared.value.ValidValueRead.{ValidValueRead}
 
 abbrev pub valueFetchedBy : ValidValueRead → List ℕ → Outcome ValidValue
 valueFetchedBy r out = record { reply = validValueReply r; buffer = out }

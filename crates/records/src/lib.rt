@@ -1,7 +1,7 @@
 // A record fetched, and a channel's value in it.
 ghost use mathlib.Core.Path.{_≡_};
 ghost use Rattle.definitions.specs.Chain.{valueFetched};
-ghost use Rattle.decoder.specs.Meaning.{channelMeant};
+ghost use Rattle.fields.specs.Meaning.{channelMeant};
 ghost use Rattle.records.specs.Meaning.{valueFetchedBy};
 use chain::FileAddress;
 use chain::RecordRead;

@@ -12,11 +12,11 @@ use Rattle.mf4.specs.Clauses.{Allows}
 use Rattle.theorems.specs.Sole.{Settled}
 use Rattle.blocks.specs.Meaning.{writtenReply}
 use Rattle.text.specs.Meaning.{textReply}
-use Rattle.decoder.specs.Meaning.{validValueReply}
+use Rattle.fields.specs.Meaning.{validValueReply}
 use Rattle.chain.specs.Meaning.{recordReply}
 use Rattle.blocks.proofs.Back.{written-one, header-one, type-one, list-one}
 use Rattle.text.proofs.Back.{text-one}
-use Rattle.decoder.proofs.Back.{value-one, valid-value-one}
+use Rattle.fields.proofs.Back.{value-one, valid-value-one}
 use Rattle.chain.proofs.Back.{chain-one, record-one}
 use Rattle.refusals.proofs.Refusal.number.Kinds as refusal-number-kinds
 use Rattle.refusals.proofs.Refusal.number.Reads as refusal-number
@@ -54,8 +54,8 @@ use Rattle.text.proofs.write_text.Kinds as text-write-kinds
 use Rattle.text.proofs.write_text.Reads as text-write
 use Rattle.decoder.proofs.decode_channel_value.Kinds as value-read-kinds
 use Rattle.decoder.proofs.decode_channel_value.Reads as value-read
-use Rattle.decoder.proofs.check_value_validity.Kinds as validity-kinds
-use Rattle.decoder.proofs.check_value_validity.Reads as validity
+use Rattle.fields.proofs.check_value_validity.Kinds as validity-kinds
+use Rattle.fields.proofs.check_value_validity.Reads as validity
 use Rattle.decoder.proofs.decode_channel_value_with_validity.Kinds as valid-value-read-kinds
 use Rattle.decoder.proofs.decode_channel_value_with_validity.Reads as valid-value-read
 use Rattle.decoder.proofs.any_valid_value.Kinds as any-valid-value-kinds

@@ -1,0 +1,9 @@
+-- The laws over plain variables. OneBit is for the crates above.
+pub mod Back
+pub mod Tests
+pub mod Forms
+pub mod Fields
+pub mod Floats
+pub mod Values
+pub mod Invalidation
+pub mod OneBit
