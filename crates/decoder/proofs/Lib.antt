@@ -3,6 +3,5 @@ pub mod ExactIntegers
 pub mod Doubles
 pub mod WordFields
 pub mod Judged
-pub mod Types
 pub mod Locality
 pub mod Nearest

@@ -1,4 +1,4 @@
--- The laws over plain variables. OneBit is for the crates above.
+-- The laws over plain variables. Locality, OneBit and Types are for the crates above.
 pub mod Back
 pub mod Tests
 pub mod Forms
@@ -6,4 +6,6 @@ pub mod Fields
 pub mod Floats
 pub mod Values
 pub mod Invalidation
+pub mod Types
+pub mod Locality
 pub mod OneBit

@@ -12,7 +12,7 @@ use Rattle.definitions.specs.DataType.{kindOf}
 use Rattle.definitions.specs.Channel.{Channel, Value, variableLength, spanIn, isNumber, valueOf, validValueOf, doubleIn, recordDouble}
 use Rattle.words.proofs.Numbers.{Bytes}
 use Rattle.words.proofs.Locality.{recordBit}
-use Rattle.decoder.proofs.Locality.{orderOf, locality, content-locality}
+use Rattle.fields.proofs.Locality.{orderOf, locality, content-locality}
 use Rattle.fields.proofs.OneBit.{invalidationBitIn, one-bit}
 use Rattle.decoder.proofs.Doubles.{double-fixed}
 use Rattle.fields.proofs.Back.{value-one, valid-value-one}
