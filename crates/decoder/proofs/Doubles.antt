@@ -8,24 +8,26 @@ use lib.IntN.{ℤ}
 use lib.Ieee.{binary64, isNan, ofInt}
 use lib.Ieee.Bits.{ofBits-toBits}
 use lib.Ieee.Fits.{ofInt-fits}
-use borrow.Author.Tests.{eq-eqb, ne-eqb}
 use Rattle.definitions.specs.Reply.{Reply, answer}
-use Rattle.definitions.specs.Ieee754.{nanPattern, widened}
+use Rattle.definitions.specs.Ieee754.{nanPattern}
 use Rattle.definitions.specs.DataType.{Kind, kindOf}
-use Rattle.definitions.specs.Channel.{Channel, Value, variableLength, startOf, spanOf, decoded, numberIn, valueOf, doubleIn, floatBits, recordDouble}
+use Rattle.definitions.specs.Channel.{Channel, Value, variableLength, startOf, spanOf, decoded, numberIn, valueOf, doubleIn, recordDouble}
 use Rattle.doubles.proofs.Nan.{integer-never-nan}
 use Rattle.refusals.specs.declared.Refusal.{Refusal}
-use Rattle.decoder.specs.Form.{orderMeant, formOf, numberKind, numberDouble, formValue}
-use Rattle.decoder.specs.Known.{doubleAt, FieldCase, FieldTold}
-use Rattle.decoder.specs.declared.form.Number as numbers
-use Rattle.decoder.specs.declared.form.Content.{Content}
-use Rattle.decoder.specs.declared.form.Form.{Form}
-use Rattle.decoder.specs.declared.form.Form.the-variants.{Number, Other}
-use Rattle.decoder.specs.declared.field.FieldFound.{FieldFound}
-use Rattle.decoder.specs.declared.field.FieldFound.the-variants.{Field, Refused}
-use Rattle.decoder.proofs.Forms.{value-form, number-double, content-double}
-use Rattle.decoder.proofs.Fields.{either-way}
-use Rattle.decoder.proofs.Values.{refused-as, looked-for}
+use Rattle.fields.specs.Form.{orderMeant, formOf, numberKind, numberValue, contentValue, formValue}
+use Rattle.fields.specs.Known.{FieldCase, FieldTold}
+use Rattle.fields.specs.declared.form.Number as numbers
+use Rattle.fields.specs.declared.form.Number.the-variants.{Unsigned, Signed, Float}
+use Rattle.fields.specs.declared.form.Content.{Content}
+use Rattle.fields.specs.declared.form.Content.the-variants.{Text, ByteArray, MimeSample, MimeStream, Undecoded}
+use Rattle.fields.specs.declared.form.Form.{Form}
+use Rattle.fields.specs.declared.form.Form.the-variants.{Number, Other}
+use Rattle.fields.specs.declared.field.FieldFound.{FieldFound}
+use Rattle.fields.specs.declared.field.FieldFound.the-variants.{Field, Refused}
+use Rattle.fields.proofs.Forms.{value-form}
+use Rattle.fields.proofs.Fields.{either-way}
+use Rattle.fields.proofs.Values.{refused-as, looked-for}
+use Rattle.decoder.specs.Meaning.{numberDouble, doubleAt}
 
 -- an integer's double is a number
 pub no-nan : (z : ℤ) → T (not (isNan (ofInt binary64 z)))
@@ -33,11 +35,18 @@ no-nan z =
     let e : isNan (ofInt binary64 z) ≡ false = ap isNan (sym (ofBits-toBits binary64 (ofInt binary64 z) (ofInt-fits binary64 z))) ∙ integer-never-nan z in
     subst (λ (b : Bool). T (not b)) (sym e) tt
 
-pub wide-float : (count x : ℕ) → count ≡ 64 → x ≡ floatBits count x
-wide-float count x e = rw (eq-eqb count 64 e)
+-- the double of what a form stands for
+pub number-double : (number : numbers.Number) (count x : ℕ) → doubleIn (answer (numberValue number count x)) ≡ numberDouble number count x
+number-double Unsigned count x = refl
+number-double Signed count x = refl
+number-double Float count x = refl
 
-pub narrow-float : (count x : ℕ) {r : ℕ} → (count ≡ 64 → ⊥) → r ≡ widened x → r ≡ floatBits count x
-narrow-float count x other e = rw (ne-eqb count 64 other) e
+pub content-double : (content : Content) (s : List ℕ) (at n : ℕ) → doubleIn (answer (contentValue content s at n)) ≡ nanPattern
+content-double (Text e) s at n = refl
+content-double ByteArray s at n = refl
+content-double MimeSample s at n = refl
+content-double MimeStream s at n = refl
+content-double Undecoded s at n = refl
 
 module _ {k : Kind} {reply : Reply Value} {s : List ℕ} {c : Channel} {found : FieldFound} (h : FieldTold k reply s c found) where
   pub double-refused : {r : Refusal} → found ≡ Refused r → nanPattern ≡ doubleIn reply

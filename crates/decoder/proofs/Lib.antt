@@ -1,14 +1,7 @@
--- The laws over plain variables. Locality, Nearest and OneBit are for the crates above.
-pub mod Back
-pub mod Tests
-pub mod Forms
-pub mod Fields
+-- The laws over plain variables. Locality and Nearest are for the crates above.
 pub mod ExactIntegers
-pub mod Values
 pub mod Doubles
 pub mod WordFields
-pub mod Invalidation
-pub mod Types
+pub mod Judged
 pub mod Locality
 pub mod Nearest
-pub mod OneBit

@@ -18,7 +18,7 @@ use Rattle.definitions.specs.Channel.{Channel, Value, unsigned, signed, double,
 use Rattle.words.proofs.Bits.{field-below}
 use Rattle.doubles.proofs.Whole.{of-positive, of-negative}
 use Rattle.doubles.proofs.Nearest.{nearest}
-use Rattle.decoder.proofs.Types.{integer-types}
+use Rattle.fields.proofs.Types.{integer-types}
 use Rattle.decoder.proofs.Doubles.{double-fixed}
 
 -- the integer of a value, and whether it is below 0

@@ -12,21 +12,23 @@ use Rattle.definitions.specs.Bytes.{Order, leOf, le, span, bits, bytesFor, numb
 use Rattle.definitions.specs.Ieee754.{nanPattern}
 use Rattle.definitions.specs.DataType.{DataType, unsignedInteger, signedInteger, float, complex, string, byteArray, mimeSample, mimeStream, canOpenDate, canOpenTime, unknown, Kind, integer, floating, whole, undecoded, kindOf}
 use Rattle.definitions.specs.Channel.{Channel, Value, variableLength, startOf, bitSpan, spanIn, spanOf, floatBits, decoded, isNumber, isInteger, isFloating, noValue, valueBy, valueOf, doubleIn, recordDouble}
-use Rattle.decoder.specs.Form.{orderMeant, formOf, formKind, placed, numberKind, numberValue, numberDouble}
-use Rattle.decoder.specs.Known.{valueAt, Held, WordTold, Near, Sized, NumberTold, InWord, FieldTold, Fitting}
-use Rattle.decoder.specs.declared.form.Number as numbers
-use Rattle.decoder.specs.declared.form.Number.the-variants.{Float}
-use Rattle.decoder.specs.declared.form.Content.{Content}
-use Rattle.decoder.specs.declared.form.Form.{Form}
-use Rattle.decoder.specs.declared.form.Form.the-variants.{Number, Other}
+use Rattle.fields.specs.Form.{orderMeant, formOf, formKind, numberKind, numberValue}
+use Rattle.fields.specs.Known.{valueAt, FieldTold, Fitting}
+use Rattle.fields.specs.declared.form.Number as numbers
+use Rattle.fields.specs.declared.form.Number.the-variants.{Float}
+use Rattle.fields.specs.declared.form.Content.{Content}
+use Rattle.fields.specs.declared.form.Form.{Form}
+use Rattle.fields.specs.declared.form.Form.the-variants.{Number, Other}
+use Rattle.fields.specs.declared.field.FieldFound.the-variants.{Field}
+use Rattle.decoder.specs.Meaning.{placed, numberDouble}
+use Rattle.decoder.specs.Known.{Held, WordTold, Near, Sized, NumberTold, InWord}
 use Rattle.decoder.specs.declared.near.WordFound.{WordFound}
 use Rattle.decoder.specs.declared.near.WordFound.the-variants.{Word}
 use Rattle.decoder.specs.declared.near.NumberForm.{NumberForm}
 use Rattle.decoder.specs.declared.near.NumberForm.the-variants.{Number as SizedNumber, Other as NoNumber}
-use Rattle.decoder.specs.declared.field.FieldFound.the-variants.{Field}
-use Rattle.decoder.proofs.Forms.{number-kinds, number-span, is-number, no-number}
-use Rattle.decoder.proofs.Fields.{tested, value-tested, no-bits, no-float-width, found, fitting}
-use Rattle.decoder.proofs.Values.{looked-for, sound-at, valued}
+use Rattle.fields.proofs.Forms.{number-kinds, number-span, is-number, no-number}
+use Rattle.fields.proofs.Fields.{tested, value-tested, no-bits, no-float-width, found, fitting}
+use Rattle.fields.proofs.Values.{looked-for, sound-at, valued}
 use Rattle.decoder.proofs.Doubles.{double-found, double-fixed, double-other, double-number}
 use Rattle.words.proofs.Bits.{field-below}
 use Rattle.words.proofs.Numbers.{Bytes}

@@ -1,3 +1,2 @@
 pub mod Meaning
-pub mod Form
 pub mod Known

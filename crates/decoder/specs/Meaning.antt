@@ -1,52 +1,40 @@
--- What the code's own types mean in the definitions.
-use mathlib.Core.Bool.{Bool}
+-- What is made of a field: a double, and a value with its validity.
+use mathlib.Core.Bool.{Bool, false}
+use mathlib.Core.List.{List}
+use Prim.Native.Nat.{ℕ, _+_}
+use lib.IntN.{pos}
 use Rattle.definitions.specs.Reply.{Reply, answer, andThen}
-use Rattle.definitions.specs.Channel as channels
-use Rattle.definitions.specs.Channel.{Value, ValidValue, unsigned, signed, double, text, bytes, sample, stream, unknownValue}
-use Rattle.refusals.specs.Meaning.{refused}
-use Rattle.blocks.specs.Meaning.{typeMeant}
-use Rattle.decoder.specs.declared.channel.Channel.{Channel}
-use Rattle.decoder.specs.declared.value.DecodedValue.{DecodedValue}
-use Rattle.decoder.specs.declared.value.DecodedValue.the-variants.{UnsignedInteger, SignedInteger, Float, String, ByteArray, MimeSample, MimeStream, Unknown}
-use Rattle.decoder.specs.declared.value.ValueRead.{ValueRead}
-use Rattle.decoder.specs.declared.value.ValueRead.the-variants.{Value as Valued, Refused as NotValued}
-use Rattle.decoder.specs.declared.value.DecodedChannelValue.{DecodedChannelValue}
-use Rattle.decoder.specs.declared.value.ValidValueRead.{ValidValueRead}
-use Rattle.decoder.specs.declared.value.ValidValueRead.the-variants.{Value as Judged, Refused as NotJudged}
+use Rattle.definitions.specs.Bytes.{twosComplement}
+use Rattle.definitions.specs.Ieee754.{doubleOf}
+use Rattle.definitions.specs.DataType.{DataType, Kind}
+use Rattle.definitions.specs.Channel.{Channel, Value, ValidValue, floatBits, doubleIn}
+use Rattle.fields.specs.Known.{valueAt}
+use Rattle.fields.specs.declared.form.Number.{Number}
+use Rattle.fields.specs.declared.form.Number.the-variants.{Unsigned, Signed, Float}
 
-abbrev pub channelMeant : Channel → channels.Channel
-channelMeant c = record {
-  dataType = typeMeant (c .«data_type»);
-  channelType = c .«channel_type»;
-  bitOffset = c .«bit_offset»;
-  byteOffset = c .«byte_offset»;
-  bitCount = c .«bit_count»;
-  flags = c .flags;
-  invalidationBit = c .«pos_invalidation_bit»;
-  dataLink = c .data;
-}
+-- the field x of a number as a double
+abbrev pub numberDouble : Number → ℕ → ℕ → ℕ
+numberDouble Unsigned count x = doubleOf (pos x)
+numberDouble Signed count x = doubleOf (twosComplement count x)
+numberDouble Float count x = floatBits count x
 
-abbrev pub valueMeant : DecodedValue → Value
-valueMeant (UnsignedInteger n) = unsigned n
-valueMeant (SignedInteger z) = signed z
-valueMeant (Float x pattern) = double x pattern
-valueMeant (String at n) = text at n
-valueMeant (ByteArray at n) = bytes at n
-valueMeant (MimeSample at n) = sample at n
-valueMeant (MimeStream at n) = stream at n
-valueMeant Unknown = unknownValue
-
-abbrev pub valueReply : ValueRead → Reply Value
-valueReply (Valued v) = answer (valueMeant v)
-valueReply (NotValued r) = refused r
-
-abbrev pub validValueMeant : DecodedChannelValue → ValidValue
-validValueMeant v = record { value = valueMeant (v .value); valid = v .«is_valid» }
-
-abbrev pub validValueReply : ValidValueRead → Reply ValidValue
-validValueReply (Judged v) = answer (validValueMeant v)
-validValueReply (NotJudged r) = refused r
+-- the double of the field of a kind, where the channel is fixed
+abbrev pub doubleAt : Kind → List ℕ → ℕ → Channel → ℕ
+doubleAt k s idSize c = doubleIn (valueAt k false s (idSize + c .byteOffset) c)
 
 -- a value with its validity; a refusal has none
 abbrev pub judgedReply : Bool → Reply Value → Reply ValidValue
 judgedReply valid reply = andThen reply (λ v. answer (record { value = v; valid = valid }))
+
+-- a description with nothing said of validity
+abbrev pub placed : DataType → ℕ → ℕ → ℕ → ℕ → ℕ → Channel
+placed type channelType bitOffset byteOffset bitCount dataLink = record {
+  dataType = type;
+  channelType = channelType;
+  bitOffset = bitOffset;
+  byteOffset = byteOffset;
+  bitCount = bitCount;
+  flags = 0;
+  invalidationBit = 0;
+  dataLink = dataLink;
+}

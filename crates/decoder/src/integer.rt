@@ -4,11 +4,11 @@ ghost use mathlib.Core.Bool.{true, false};
 ghost use lib.Dec.{T};
 ghost use lib.Ieee.{binary64, inFloat};
 ghost use Rattle.definitions.specs.Ieee754.{doubleOf};
-ghost use Rattle.decoder.specs.Form.{numberDouble};
-ghost use Rattle.decoder.specs.Known.{Fitting};
-use crate::form::Number;
+ghost use Rattle.fields.specs.Known.{Fitting};
+ghost use Rattle.decoder.specs.Meaning.{numberDouble};
 use doubles::double_of;
 use doubles::double_of_signed;
+use fields::Number;
 use words::signed_of;
 
 // A double holds every whole number up to 2^53, so the machine's own cast loses nothing.

@@ -2,13 +2,13 @@
 ghost use mathlib.Core.Path.{_≡_};
 ghost use Prim.Native.Nat.{_+_, _≤_, _<_};
 ghost use Rattle.blocks.specs.Meaning.{typeMeant};
-ghost use Rattle.decoder.specs.Form.{formOf};
+ghost use Rattle.fields.specs.Form.{formOf};
 ghost use Rattle.decoder.specs.Known.{WordTold, NumberTold};
-use crate::field::is_no_float_width;
-use crate::form::Form;
-use crate::form::Number;
-use crate::form::form_of;
 use blocks::DataType;
+use fields::Form;
+use fields::Number;
+use fields::form_of;
+use fields::is_no_float_width;
 use words::few_le_bytes;
 use words::read_u64_le;
 

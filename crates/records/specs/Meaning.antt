@@ -4,8 +4,8 @@ use mathlib.Core.List.{List}
 use Rattle.definitions.specs.Reply.{Reply, Outcome, answer}
 use Rattle.definitions.specs.Channel.{ValidValue}
 use Rattle.refusals.specs.Meaning.{refused}
-use Rattle.decoder.specs.Meaning.{validValueReply}
-use Rattle.decoder.specs.declared.value.ValidValueRead.{ValidValueRead}
+use Rattle.fields.specs.Meaning.{validValueReply}
+use Rattle.fields.specs.declared.value.ValidValueRead.{ValidValueRead}
 use Rattle.records.specs.declared.record.RecordRead.{RecordRead}
 use Rattle.records.specs.declared.record.RecordRead.the-variants.{Record, Refused}
 

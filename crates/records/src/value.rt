@@ -1,7 +1,7 @@
 // A channel's value in a record that is fetched.
 ghost use mathlib.Core.Path.{_≡_};
 ghost use Rattle.definitions.specs.Chain.{valueFetched};
-ghost use Rattle.decoder.specs.Meaning.{channelMeant};
+ghost use Rattle.fields.specs.Meaning.{channelMeant};
 ghost use Rattle.records.specs.Meaning.{valueFetchedBy};
 use crate::record::RecordRead;
 use crate::record::read_record;

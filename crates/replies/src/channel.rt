@@ -1,6 +1,6 @@
 // A channel's description, as C gives it.
 ghost use mathlib.Core.Path.{_≡_};
-ghost use Rattle.decoder.specs.Meaning.{channelMeant};
+ghost use Rattle.fields.specs.Meaning.{channelMeant};
 ghost use Rattle.replies.specs.Values.{channelGiven};
 use blocks::DataType;
 use decoder::Channel;

@@ -1,6 +1,6 @@
 // Values with their validity.
 ghost use mathlib.Core.Path.{_≡_};
-ghost use Rattle.decoder.specs.Meaning.{validValueReply};
+ghost use Rattle.fields.specs.Meaning.{validValueReply};
 ghost use Rattle.refusals.specs.Meaning.{refused};
 ghost use Rattle.replies.specs.Values.{validValueC};
 use crate::texts::flag;

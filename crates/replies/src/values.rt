@@ -1,6 +1,6 @@
 // Values of channels.
 ghost use mathlib.Core.Path.{_≡_};
-ghost use Rattle.decoder.specs.Meaning.{valueMeant, valueReply};
+ghost use Rattle.fields.specs.Meaning.{valueMeant, valueReply};
 ghost use Rattle.replies.specs.Values.{wordOf, numberC, placeC, decodedC, valueC};
 use decoder::DecodedValue;
 use decoder::ValueRead;

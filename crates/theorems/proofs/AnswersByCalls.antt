@@ -24,10 +24,10 @@ use Rattle.text.specs.declared.encoding.Encoding.{Encoding}
 use Rattle.text.specs.declared.answer.TextWrite.{TextWrite}
 use Rattle.text.proofs.FirstChar.{Bytes}
 use Rattle.text.proofs.Room.{room, text-room}
-use Rattle.decoder.specs.Meaning.{channelMeant, valueReply, validValueReply}
-use Rattle.decoder.specs.declared.channel.Channel.{Channel}
-use Rattle.decoder.specs.declared.value.ValueRead.{ValueRead}
-use Rattle.decoder.specs.declared.value.ValidValueRead.{ValidValueRead}
+use Rattle.fields.specs.Meaning.{channelMeant, valueReply, validValueReply}
+use Rattle.fields.specs.declared.channel.Channel.{Channel}
+use Rattle.fields.specs.declared.value.ValueRead.{ValueRead}
+use Rattle.fields.specs.declared.value.ValidValueRead.{ValidValueRead}
 use Rattle.chain.specs.Meaning.{chainReply}
 use Rattle.records.specs.Meaning.{recordReply}
 use Rattle.chain.specs.declared.place.FileAddress.{FileAddress}

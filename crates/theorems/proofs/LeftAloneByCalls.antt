@@ -20,9 +20,9 @@ use Rattle.text.specs.Meaning.{encodingOf, textReply}
 use Rattle.text.specs.declared.encoding.Encoding.{Encoding}
 use Rattle.records.specs.Meaning.{recordReply}
 use Rattle.chain.specs.declared.place.FileAddress.{FileAddress}
-use Rattle.decoder.specs.Meaning.{channelMeant, validValueReply}
-use Rattle.decoder.specs.declared.channel.Channel.{Channel}
-use Rattle.decoder.specs.declared.value.ValidValueRead.{ValidValueRead}
+use Rattle.fields.specs.Meaning.{channelMeant, validValueReply}
+use Rattle.fields.specs.declared.channel.Channel.{Channel}
+use Rattle.fields.specs.declared.value.ValidValueRead.{ValidValueRead}
 
 -- a refused call leaves every byte, and one that answers all behind the n bytes that it reports
 pub record Spares (Refuses : Type 0) (n : ℕ) (before after : List ℕ) : Type 0 where

@@ -12,14 +12,14 @@ use Rattle.definitions.specs.DataType.{kindOf}
 use Rattle.definitions.specs.Channel.{Channel, Value, variableLength, spanIn, isNumber, valueOf, validValueOf, doubleIn, recordDouble}
 use Rattle.words.proofs.Numbers.{Bytes}
 use Rattle.words.proofs.Locality.{recordBit}
-use Rattle.decoder.proofs.Locality.{orderOf, locality, content-locality}
-use Rattle.decoder.proofs.OneBit.{invalidationBitIn, one-bit}
+use Rattle.fields.proofs.Locality.{orderOf, locality, content-locality}
+use Rattle.fields.proofs.OneBit.{invalidationBitIn, one-bit}
 use Rattle.decoder.proofs.Doubles.{double-fixed}
-use Rattle.decoder.proofs.Back.{value-one, valid-value-one}
-use Rattle.decoder.specs.Meaning.{channelMeant}
-use Rattle.decoder.specs.declared.channel.Channel.{Channel as Description}
-use Rattle.decoder.specs.declared.value.ValueRead.{ValueRead}
-use Rattle.decoder.specs.declared.value.ValidValueRead.{ValidValueRead}
+use Rattle.fields.proofs.Back.{value-one, valid-value-one}
+use Rattle.fields.specs.Meaning.{channelMeant}
+use Rattle.fields.specs.declared.channel.Channel.{Channel as Description}
+use Rattle.fields.specs.declared.value.ValueRead.{ValueRead}
+use Rattle.fields.specs.declared.value.ValidValueRead.{ValidValueRead}
 use Rattle.mf4.specs.Clauses.{Slice}
 use Rattle.theorems.specs.Clauses.{ReadsValue, ReadsValidValue, ChecksValidity, ReadsDouble}
 use Rattle.theorems.specs.ClausesToC.{ReadsValueC, ReadsValidValueC, ChecksValidityC, ReadsDoubleC}

@@ -12,11 +12,11 @@ use Rattle.mf4.specs.Clauses.{Allows}
 use Rattle.theorems.specs.Sole.{Settled}
 use Rattle.blocks.specs.Meaning.{writtenReply}
 use Rattle.text.specs.Meaning.{textReply}
-use Rattle.decoder.specs.Meaning.{validValueReply}
+use Rattle.fields.specs.Meaning.{validValueReply}
 use Rattle.records.specs.Meaning.{recordReply}
 use Rattle.blocks.proofs.Back.{written-one, header-one, type-one, list-one}
 use Rattle.text.proofs.Back.{text-one}
-use Rattle.decoder.proofs.Back.{value-one, valid-value-one}
+use Rattle.fields.proofs.Back.{value-one, valid-value-one}
 use Rattle.chain.proofs.Back.{chain-one}
 use Rattle.records.proofs.Back.{record-one}
 use Rattle.refusals.proofs.Refusal.number.Kinds as refusal-number-kinds
@@ -53,10 +53,16 @@ use Rattle.text.proofs.text_end.Kinds as text-end-kinds
 use Rattle.text.proofs.text_end.Reads as text-end
 use Rattle.text.proofs.write_text.Kinds as text-write-kinds
 use Rattle.text.proofs.write_text.Reads as text-write
+use Rattle.fields.proofs.channel.Channel.is_variable_length.Kinds as variable-length-kinds
+use Rattle.fields.proofs.channel.Channel.is_variable_length.Reads as variable-length
+use Rattle.fields.proofs.form_of.Kinds as form-of-type-kinds
+use Rattle.fields.proofs.form_of.Reads as form-of-type
+use Rattle.fields.proofs.is_no_float_width.Kinds as no-float-width-kinds
+use Rattle.fields.proofs.is_no_float_width.Reads as no-float-width
+use Rattle.fields.proofs.check_value_validity.Kinds as validity-kinds
+use Rattle.fields.proofs.check_value_validity.Reads as validity
 use Rattle.decoder.proofs.decode_channel_value.Kinds as value-read-kinds
 use Rattle.decoder.proofs.decode_channel_value.Reads as value-read
-use Rattle.decoder.proofs.check_value_validity.Kinds as validity-kinds
-use Rattle.decoder.proofs.check_value_validity.Reads as validity
 use Rattle.decoder.proofs.decode_channel_value_with_validity.Kinds as valid-value-read-kinds
 use Rattle.decoder.proofs.decode_channel_value_with_validity.Reads as valid-value-read
 use Rattle.decoder.proofs.any_valid_value.Kinds as any-valid-value-kinds
@@ -139,6 +145,15 @@ text-end-settled = settled (λ κs a y z b c p q. (p ∙ sym q, refl))
 
 pub text-write-settled : Settled 2 text-write-kinds.ps text-write-kinds.r text-write.Asked text-write.ensures text-write.Learnt
 text-write-settled = settled (λ κs a y z b c p q. one-outcome textReply text-one (λ out. (tt, (tt, (out, tt)))) (p ∙ sym q))
+
+pub variable-length-settled : Settled 0 variable-length-kinds.ps variable-length-kinds.r variable-length.Asked variable-length.ensures variable-length.Learnt
+variable-length-settled = settled (λ κs a y z b c p q. (p ∙ sym q, refl))
+
+pub form-of-type-settled : Settled 0 form-of-type-kinds.ps form-of-type-kinds.r form-of-type.Asked form-of-type.ensures form-of-type.Learnt
+form-of-type-settled = settled (λ κs a y z b c p q. (p ∙ sym q, refl))
+
+pub no-float-width-settled : Settled 0 no-float-width-kinds.ps no-float-width-kinds.r no-float-width.Asked no-float-width.ensures no-float-width.Learnt
+no-float-width-settled = settled (λ κs a y z b c p q. (p ∙ sym q, refl))
 
 pub value-read-settled : Settled 1 value-read-kinds.ps value-read-kinds.r value-read.Asked value-read.ensures value-read.Learnt
 value-read-settled = settled (λ κs a y z b c p q. (value-one y z (p ∙ sym q), refl))

@@ -14,10 +14,10 @@ use Rattle.chain.specs.declared.place.FileAddress.{FileAddress}
 use Rattle.chain.specs.declared.acceptance.ChainRead.{ChainRead}
 use Rattle.records.specs.declared.record.RecordRead.{RecordRead}
 use Rattle.records.proofs.Back.{record-one}
-use Rattle.decoder.specs.Meaning.{channelMeant}
-use Rattle.decoder.specs.declared.channel.Channel.{Channel}
-use Rattle.decoder.specs.declared.value.ValidValueRead.{ValidValueRead}
-use Rattle.decoder.proofs.Back.{valid-value-one}
+use Rattle.fields.specs.Meaning.{channelMeant}
+use Rattle.fields.specs.declared.channel.Channel.{Channel}
+use Rattle.fields.specs.declared.value.ValidValueRead.{ValidValueRead}
+use Rattle.fields.proofs.Back.{valid-value-one}
 use Rattle.records.specs.Meaning.{valueFetchedBy}
 use Rattle.replies.specs.Replies.{Returned, returned, returnedBy}
 use Rattle.replies.specs.Values.{channelGiven, validValueC, lengthC, fetchedC}

@@ -11,9 +11,9 @@ use Rattle.blocks.specs.declared.data_list.ListRead.{ListRead}
 use Rattle.blocks.specs.declared.written.Written.{Written}
 use Rattle.text.specs.declared.encoding.Encoding.{Encoding}
 use Rattle.text.specs.declared.answer.TextWrite.{TextWrite}
-use Rattle.decoder.specs.declared.channel.Channel.{Channel}
-use Rattle.decoder.specs.declared.value.ValueRead.{ValueRead}
-use Rattle.decoder.specs.declared.value.ValidValueRead.{ValidValueRead}
+use Rattle.fields.specs.declared.channel.Channel.{Channel}
+use Rattle.fields.specs.declared.value.ValueRead.{ValueRead}
+use Rattle.fields.specs.declared.value.ValidValueRead.{ValidValueRead}
 use Rattle.chain.specs.declared.place.FileAddress.{FileAddress}
 use Rattle.chain.specs.declared.acceptance.ChainRead.{ChainRead}
 use Rattle.records.specs.declared.record.RecordRead.{RecordRead}
@@ -33,8 +33,8 @@ use Rattle.decoder.proofs.decode_channel_value.Kinds as value-read-kinds
 use Rattle.decoder.proofs.decode_channel_value.Reads as value-read
 use Rattle.decoder.proofs.decode_channel_value_with_validity.Kinds as valid-value-read-kinds
 use Rattle.decoder.proofs.decode_channel_value_with_validity.Reads as valid-value-read
-use Rattle.decoder.proofs.check_value_validity.Kinds as validity-kinds
-use Rattle.decoder.proofs.check_value_validity.Reads as validity
+use Rattle.fields.proofs.check_value_validity.Kinds as validity-kinds
+use Rattle.fields.proofs.check_value_validity.Reads as validity
 use Rattle.decoder.proofs.decode_f64_from_record.Kinds as record-double-kinds
 use Rattle.decoder.proofs.decode_f64_from_record.Reads as record-double
 use Rattle.chain.proofs.accept.Kinds as chain-accept-kinds

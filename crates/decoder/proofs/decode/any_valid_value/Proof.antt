@@ -1,6 +1,6 @@
 -- The general way, with the validity.
 use borrow.Author.Needs.{needs}
-use Rattle.decoder.proofs.Values.{judged-as}
+use Rattle.decoder.proofs.Judged.{judged-as}
 use Rattle.decoder.proofs.decode.any_valid_value.Statement.{statement}
 use Rattle.decoder.proofs.decode.any_valid_value.Tie as tie
 

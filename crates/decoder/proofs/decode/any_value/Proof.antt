@@ -1,6 +1,6 @@
 -- The field that was found gives the value, and a refusal is handed on.
 use borrow.Author.Needs.{needs}
-use Rattle.decoder.proofs.Values.{looked-for, sound-at, handed-on, valued}
+use Rattle.fields.proofs.Values.{looked-for, sound-at, handed-on, valued}
 use Rattle.decoder.proofs.decode.any_value.Statement.{statement}
 use Rattle.decoder.proofs.decode.any_value.Tie as tie
 

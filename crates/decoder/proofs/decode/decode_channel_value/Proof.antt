@@ -4,7 +4,7 @@ use mathlib.Core.Path.{_≡_, sym, _∙_}
 use mathlib.Core.Bool.{false}
 use native.Mathlib.Omega.{arith}
 use Rattle.definitions.specs.Channel.{variableLength}
-use Rattle.decoder.specs.Meaning.{channelMeant}
+use Rattle.fields.specs.Meaning.{channelMeant}
 use Rattle.decoder.proofs.WordFields.{some-bits, word-number, near-valued}
 use Rattle.decoder.proofs.decode.decode_channel_value.Statement.{statement}
 use Rattle.decoder.proofs.decode.decode_channel_value.Tie as tie

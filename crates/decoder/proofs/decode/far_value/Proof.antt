@@ -1,6 +1,6 @@
 -- What is said of validity does not matter to the value.
 use borrow.Author.Needs.{needs}
-use Rattle.decoder.specs.Meaning.{channelMeant}
+use Rattle.fields.specs.Meaning.{channelMeant}
 use Rattle.decoder.proofs.WordFields.{laid-anew}
 use Rattle.decoder.proofs.decode.far_value.Statement.{statement}
 use Rattle.decoder.proofs.decode.far_value.Tie as tie

@@ -1,8 +1,9 @@
 -- A refusal is handed on.
 use borrow.Author.Needs.{needs}
 use mathlib.Core.Path.{sym, ap}
-use Rattle.decoder.specs.Meaning.{valueReply, judgedReply}
-use Rattle.decoder.specs.declared.value.ValueRead.{ValueRead}
+use Rattle.fields.specs.Meaning.{valueReply}
+use Rattle.fields.specs.declared.value.ValueRead.{ValueRead}
+use Rattle.decoder.specs.Meaning.{judgedReply}
 use Rattle.decoder.proofs.decode.judged.Statement.{statement}
 use Rattle.decoder.proofs.decode.judged.Tie as tie
 

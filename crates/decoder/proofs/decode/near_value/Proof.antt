@@ -4,7 +4,7 @@ use mathlib.Core.Path.{_≡_, ap, _∙_}
 use mathlib.Core.Logic.{⊎-elim}
 use Prim.Native.Nat.{_/_, _%_}
 use Rattle.definitions.specs.Bytes.{le, fieldAt}
-use Rattle.decoder.specs.Form.{orderMeant, numberValue}
+use Rattle.fields.specs.Form.{orderMeant, numberValue}
 use Rattle.decoder.proofs.WordFields.{fitting-word}
 use Rattle.decoder.proofs.decode.near_value.Statement.{statement}
 use Rattle.decoder.proofs.decode.near_value.Tie as tie

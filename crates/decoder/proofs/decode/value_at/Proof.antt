@@ -2,10 +2,10 @@
 use borrow.Author.Needs.{needs}
 use mathlib.Core.Path.{ap, _∙_}
 use denote.Ref.{now}
-use Rattle.decoder.specs.Meaning.{channelMeant}
-use Rattle.decoder.specs.Form.{numberKind, numberValue}
-use Rattle.decoder.specs.Known.{Sound}
-use Rattle.decoder.proofs.Fields.{number-sound, readable, fitting}
+use Rattle.fields.specs.Meaning.{channelMeant}
+use Rattle.fields.specs.Form.{numberKind, numberValue}
+use Rattle.fields.specs.Known.{Sound}
+use Rattle.fields.proofs.Fields.{number-sound, readable, fitting}
 use Rattle.decoder.proofs.decode.value_at.Statement.{statement}
 use Rattle.decoder.proofs.decode.value_at.Tie as tie
 

@@ -6,12 +6,12 @@ use Prim.Native.Nat.{_+_}
 use denote.Ref.{now}
 use Rattle.definitions.specs.Channel.{variableLength, valueOf, doubleIn}
 use Rattle.blocks.specs.Meaning.{typeMeant}
-use Rattle.decoder.specs.Meaning.{channelMeant}
-use Rattle.decoder.specs.Form.{formOf, numberKind}
-use Rattle.decoder.specs.Known.{valueAt}
-use Rattle.decoder.specs.declared.form.Form.the-variants.{Number}
-use Rattle.decoder.proofs.Fields.{readable, fitting}
-use Rattle.decoder.proofs.Values.{looked-for, sound-at}
+use Rattle.fields.specs.Meaning.{channelMeant}
+use Rattle.fields.specs.Form.{formOf, numberKind}
+use Rattle.fields.specs.Known.{valueAt}
+use Rattle.fields.specs.declared.form.Form.the-variants.{Number}
+use Rattle.fields.proofs.Fields.{readable, fitting}
+use Rattle.fields.proofs.Values.{looked-for, sound-at}
 use Rattle.decoder.proofs.Doubles.{double-refused, double-found, double-payload, double-fixed, double-other}
 use Rattle.decoder.proofs.double.any_double.Statement.{statement}
 use Rattle.decoder.proofs.double.any_double.Tie as tie

@@ -3,7 +3,7 @@ use borrow.Author.Needs.{needs}
 use mathlib.Core.Path.{_≡_, sym, _∙_}
 use mathlib.Core.Bool.{false}
 use Rattle.definitions.specs.Channel.{variableLength}
-use Rattle.decoder.specs.Meaning.{channelMeant}
+use Rattle.fields.specs.Meaning.{channelMeant}
 use Rattle.decoder.proofs.Doubles.{double-payload}
 use Rattle.decoder.proofs.WordFields.{above, near-by, without-bits, far-taken}
 use Rattle.decoder.proofs.double.decode_f64_from_record.Statement.{statement}

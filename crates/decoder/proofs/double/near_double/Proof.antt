@@ -11,12 +11,12 @@ use Rattle.text.specs.declared.encoding.Encoding.the-variants.{Latin1, Utf8, Ut
 use Rattle.blocks.proofs.data_type.DataType.{the-type}
 use Rattle.blocks.specs.declared.data_type.DataType.{DataType}
 use Rattle.blocks.specs.declared.data_type.DataType.the-variants.{UnsignedIntegerLE, UnsignedIntegerBE, SignedIntegerLE, SignedIntegerBE, FloatLE, FloatBE, StringLatin1, StringUtf8, StringUtf16LE, StringUtf16BE, ByteArray as bytes, MimeSample as sample, MimeStream as stream, CanOpenDate, CanOpenTime, ComplexLE, ComplexBE, Unknown}
-use Rattle.decoder.specs.declared.form.Number.the-variants.{Unsigned, Signed}
-use Rattle.decoder.specs.declared.form.Content.{Content}
-use Rattle.decoder.specs.declared.form.Content.the-variants.{Text, ByteArray, MimeSample, MimeStream, Undecoded}
-use Rattle.decoder.specs.declared.form.Form.the-variants.{Other}
+use Rattle.fields.specs.declared.form.Number.the-variants.{Unsigned, Signed}
+use Rattle.fields.specs.declared.form.Content.{Content}
+use Rattle.fields.specs.declared.form.Content.the-variants.{Text, ByteArray, MimeSample, MimeStream, Undecoded}
+use Rattle.fields.specs.declared.form.Form.the-variants.{Other}
 use Rattle.decoder.proofs.Doubles.{double-other}
-use Rattle.decoder.specs.Form.{formOf}
+use Rattle.fields.specs.Form.{formOf}
 use Rattle.decoder.proofs.WordFields.{field-small, integer-fitting, integer-double, float-double}
 use Rattle.decoder.proofs.double.near_double.Statement.{statement}
 use Rattle.decoder.proofs.double.near_double.Tie as tie

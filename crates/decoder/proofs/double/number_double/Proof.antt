@@ -1,6 +1,6 @@
 -- Each class of numbers by itself.
 use borrow.Author.Needs.{needs}
-use Rattle.decoder.proofs.Fields.{same-number, narrow}
+use Rattle.fields.proofs.Fields.{same-number, narrow}
 use Rattle.decoder.proofs.double.number_double.Statement.{statement}
 use Rattle.decoder.proofs.double.number_double.Tie as tie
 

@@ -1,7 +1,7 @@
 use denote.Ref.{now}
 use Rattle.definitions.specs.Channel.{Channel}
 use Rattle.definitions.specs.Chain.{valueFetched}
-use Rattle.decoder.specs.Meaning.{validValueReply}
+use Rattle.fields.specs.Meaning.{validValueReply}
 use Rattle.replies.specs.Values.{validValueC}
 use Rattle.replies.proofs.Handed.{handed-back-given}
 use borrow.Author.Needs.{needs}

@@ -1,5 +1,5 @@
 use mathlib.Core.Path.{ap₂}
-use Rattle.decoder.specs.Meaning.{validValueReply}
+use Rattle.fields.specs.Meaning.{validValueReply}
 use Rattle.replies.specs.Values.{validAnswerC, validValueC}
 use Rattle.replies.proofs.Handed.{handed}
 use borrow.Author.Needs.{needs}

@@ -1,8 +1,8 @@
 use mathlib.Core.Path.{_≡_, sym, ap, _∙_}
 use mir.Syntax.{w64}
 use mir.ValLaws.{toZ-ofZ}
-use Rattle.decoder.specs.Meaning.{valueMeant}
-use Rattle.decoder.specs.declared.value.DecodedValue.{DecodedValue}
+use Rattle.fields.specs.Meaning.{valueMeant}
+use Rattle.fields.specs.declared.value.DecodedValue.{DecodedValue}
 use Rattle.replies.specs.Values.{wordOf, numberC, decodedC}
 use Rattle.replies.specs.declared.values.Shown.{Shown}
 use borrow.Author.Needs.{needs, sfits-of}

@@ -1,5 +1,5 @@
 use mathlib.Core.Path.{ap}
-use Rattle.decoder.specs.Meaning.{valueReply}
+use Rattle.fields.specs.Meaning.{valueReply}
 use Rattle.replies.specs.Values.{answerC, valueC}
 use Rattle.replies.proofs.Handed.{handed, by-numbers}
 use borrow.Author.Needs.{needs}

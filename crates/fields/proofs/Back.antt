@@ -1,0 +1,55 @@
+-- The meanings are one-to-one: from a reply the code's own answer comes back.
+use mathlib.Core.Path.{_≡_, refl, ap}
+use Rattle.definitions.specs.Reply.{Reply, answer, refusal}
+use Rattle.definitions.specs.Channel.{Value, ValidValue, unsigned, signed, double, text, bytes, sample, stream, unknownValue}
+use Rattle.definitions.proofs.Replies.{one-by}
+use Rattle.refusals.proofs.Back.{refusalOf, back}
+use Rattle.fields.specs.Meaning.{valueMeant, valueReply, validValueReply}
+use Rattle.fields.specs.declared.value.DecodedValue.{DecodedValue}
+use Rattle.fields.specs.declared.value.DecodedValue.the-variants.{UnsignedInteger, SignedInteger, Float, String, ByteArray, MimeSample, MimeStream, Unknown}
+use Rattle.fields.specs.declared.value.ValueRead.{ValueRead}
+use Rattle.fields.specs.declared.value.ValueRead.the-variants.{Value as Valued, Refused as NotValued}
+use Rattle.fields.specs.declared.value.ValidValueRead.{ValidValueRead}
+use Rattle.fields.specs.declared.value.ValidValueRead.the-variants.{Value as Judged, Refused as NotJudged}
+
+abbrev pub valueDecoded : Value → DecodedValue
+valueDecoded (unsigned n) = UnsignedInteger n
+valueDecoded (signed z) = SignedInteger z
+valueDecoded (double x pattern) = Float x pattern
+valueDecoded (text at n) = String at n
+valueDecoded (bytes at n) = ByteArray at n
+valueDecoded (sample at n) = MimeSample at n
+valueDecoded (stream at n) = MimeStream at n
+valueDecoded unknownValue = Unknown
+
+pub value-back : (v : DecodedValue) → valueDecoded (valueMeant v) ≡ v
+value-back (UnsignedInteger n) = refl
+value-back (SignedInteger z) = refl
+value-back (Float x pattern) = refl
+value-back (String at n) = refl
+value-back (ByteArray at n) = refl
+value-back (MimeSample at n) = refl
+value-back (MimeStream at n) = refl
+value-back Unknown = refl
+
+abbrev pub valueRead : Reply Value → ValueRead
+valueRead (answer v) = Valued (valueDecoded v)
+valueRead (refusal n t) = NotValued (refusalOf n t)
+
+value-read-back : (r : ValueRead) → valueRead (valueReply r) ≡ r
+value-read-back (Valued v) = ap Valued (value-back v)
+value-read-back (NotValued r) = ap NotValued (back r)
+
+pub value-one : (a b : ValueRead) → valueReply a ≡ valueReply b → a ≡ b
+value-one = one-by valueReply valueRead value-read-back
+
+abbrev pub validValueRead : Reply ValidValue → ValidValueRead
+validValueRead (answer v) = Judged (record { value = valueDecoded (v .value); «is_valid» = v .valid })
+validValueRead (refusal n t) = NotJudged (refusalOf n t)
+
+valid-value-back : (r : ValidValueRead) → validValueRead (validValueReply r) ≡ r
+valid-value-back (Judged v) = ap (λ (x : DecodedValue). Judged (record { value = x; «is_valid» = v .«is_valid» })) (value-back (v .value))
+valid-value-back (NotJudged r) = ap NotJudged (back r)
+
+pub valid-value-one : (a b : ValidValueRead) → validValueReply a ≡ validValueReply b → a ≡ b
+valid-value-one = one-by validValueReply validValueRead valid-value-back

@@ -1,0 +1,161 @@
+-- The ways to a field, and to each refusal of one.
+use mathlib.Core.Path.{_≡_, refl, sym, ap, _∙_, subst}
+use mathlib.Core.Logic.{inl, inr}
+use mathlib.Core.Bool.{Bool, true, false, not, _&&_, _||_, true≢false}
+use mathlib.Core.List.{List}
+use Prim.Native.Nat.{ℕ, _+_, _^_, _≤_, _<_}
+use native.Mathlib.Omega.{arith}
+use lib.ListN.{length}
+use lib.Dec.{ltb, eqb}
+use borrow.Author.Tests.{ltb-false, eqb-false}
+use Rattle.definitions.specs.Reply.{Reply, answer, if_then_else_}
+use Rattle.definitions.specs.DataType.{Kind, integer, floating, whole, undecoded}
+use Rattle.definitions.specs.Channel.{Channel, Value, decoded, isNumber, isInteger, isFloating, noValue, spanIn, valueBy}
+use Rattle.words.proofs.Bits.{field-below}
+use Rattle.definitions.specs.Bytes.{numberOf, span, bytesFor, fieldAt}
+use Rattle.fields.specs.Form.{orderMeant, numberKind, formKind}
+use Rattle.fields.specs.Known.{valueAt, FieldBounds, Sound, Valued, Fitting}
+use Rattle.fields.specs.declared.form.Number.{Number}
+use Rattle.fields.specs.declared.form.Number.the-variants.{Float}
+use Rattle.fields.specs.declared.form.Form.{Form}
+use Rattle.fields.specs.declared.form.Form.the-variants.{Number as numbered}
+use Rattle.fields.proofs.Forms.{is-number}
+use Rattle.fields.proofs.Tests.{float-width}
+
+-- the tests on a slice of l bytes, and v where they are passed
+abbrev pub tested : Kind → ℕ → ℕ → ℕ → Channel → Value → Reply Value
+tested k at n l c v =
+    if isNumber k && eqb (c .bitCount) 0 then noValue
+    else if isNumber k && ltb 7 (c .bitOffset) then noValue
+    else if isInteger k && ltb 64 (c .bitCount) then noValue
+    else if ltb l (at + n) then noValue
+    else if isFloating k && not (eqb (c .bitCount) 32 || eqb (c .bitCount) 64) then noValue
+    else answer v
+
+pub value-tested : (k : Kind) (at n : ℕ) (s : List ℕ) (c : Channel) → valueBy k at n s c ≡ tested k at n (length s) c (decoded (c .dataType) s at n c)
+unfolding valueBy
+value-tested k at n s c = refl
+
+-- each test in turn refuses
+module _ (k : Kind) (at n : ℕ) (s : List ℕ) (c : Channel) where
+  pub no-bits : isNumber k && eqb (c .bitCount) 0 ≡ true → valueBy k at n s c ≡ noValue
+  unfolding valueBy
+  no-bits a = rw a
+
+  pub past-a-byte : isNumber k && eqb (c .bitCount) 0 ≡ false → isNumber k && ltb 7 (c .bitOffset) ≡ true → valueBy k at n s c ≡ noValue
+  unfolding valueBy
+  past-a-byte a b = rw (a, b)
+
+  pub over-a-word : isNumber k && eqb (c .bitCount) 0 ≡ false → isNumber k && ltb 7 (c .bitOffset) ≡ false
+      → isInteger k && ltb 64 (c .bitCount) ≡ true → valueBy k at n s c ≡ noValue
+  unfolding valueBy
+  over-a-word a b d = rw (a, b, d)
+
+  pub ends-outside : isNumber k && eqb (c .bitCount) 0 ≡ false → isNumber k && ltb 7 (c .bitOffset) ≡ false
+      → isInteger k && ltb 64 (c .bitCount) ≡ false → ltb (length s) (at + n) ≡ true → valueBy k at n s c ≡ noValue
+  unfolding valueBy
+  ends-outside a b d e = rw (a, b, d, e)
+
+  pub no-float-width : isNumber k && eqb (c .bitCount) 0 ≡ false → isNumber k && ltb 7 (c .bitOffset) ≡ false
+      → isInteger k && ltb 64 (c .bitCount) ≡ false → ltb (length s) (at + n) ≡ false
+      → isFloating k && not (eqb (c .bitCount) 32 || eqb (c .bitCount) 64) ≡ true → valueBy k at n s c ≡ noValue
+  unfolding valueBy
+  no-float-width a b d e f = rw (a, b, d, e, f)
+
+  passed : isNumber k && eqb (c .bitCount) 0 ≡ false → isNumber k && ltb 7 (c .bitOffset) ≡ false
+      → isInteger k && ltb 64 (c .bitCount) ≡ false → ltb (length s) (at + n) ≡ false
+      → isFloating k && not (eqb (c .bitCount) 32 || eqb (c .bitCount) 64) ≡ false → valueBy k at n s c ≡ answer (decoded (c .dataType) s at n c)
+  unfolding valueBy
+  passed a b d e f = rw (a, b, d, e, f)
+
+  -- so there is no value, or there is one
+  pub either-way : (P : Reply Value → Type 0) → P noValue → P (answer (decoded (c .dataType) s at n c)) → P (valueBy k at n s c)
+  unfolding valueBy
+  either-way P none some =
+      go (isNumber k && eqb (c .bitCount) 0) (isNumber k && ltb 7 (c .bitOffset)) (isInteger k && ltb 64 (c .bitCount))
+      (ltb (length s) (at + n)) (isFloating k && not (eqb (c .bitCount) 32 || eqb (c .bitCount) 64))
+    where
+      go : (a b d e f : Bool)
+          → P (if a then noValue else if b then noValue else if d then noValue else if e then noValue else if f then noValue else answer (decoded (c .dataType) s at n c))
+      go true b d e f = none
+      go false true d e f = none
+      go false false true e f = none
+      go false false false true f = none
+      go false false false false true = none
+      go false false false false false = some
+
+-- and past them all the field is sound
+sound : (k : Kind) (payload : Bool) (at n : ℕ) (s : List ℕ) (c : Channel) → n ≡ spanIn payload k (length s) c
+    → isNumber k && eqb (c .bitCount) 0 ≡ false → isNumber k && ltb 7 (c .bitOffset) ≡ false
+    → isInteger k && ltb 64 (c .bitCount) ≡ false → ltb (length s) (at + n) ≡ false
+    → isFloating k && not (eqb (c .bitCount) 32 || eqb (c .bitCount) 64) ≡ false → Sound k s at n c
+sound integer payload at n s c en a b d e f =
+    let x : at + n ≤ length s = ltb-false (length s) (at + n) e in
+    let o : c .bitOffset ≤ 7 = ltb-false 7 (c .bitOffset) b in
+    let w : c .bitCount ≤ 64 = ltb-false 64 (c .bitCount) d in
+    let z : c .bitCount ≡ 0 → ⊥ = eqb-false (c .bitCount) 0 a in
+    record {
+      inside = x;
+      number = λ _. record { low = omega arith; some = omega (arith, z); few = w; inside = omega arith };
+      width = λ h. absurd (true≢false (sym h));
+    }
+sound floating payload at n s c en a b d e f =
+    let x : at + n ≤ length s = ltb-false (length s) (at + n) e in
+    let o : c .bitOffset ≤ 7 = ltb-false 7 (c .bitOffset) b in
+    elim (float-width (c .bitCount) f) [
+      | inl w ↦ record {
+        inside = x;
+        number = λ _. record { low = omega arith; some = omega arith; few = omega arith; inside = omega arith };
+        width = λ _ _. w;
+      }
+      | inr w ↦ record {
+        inside = x;
+        number = λ _. record { low = omega arith; some = omega arith; few = omega arith; inside = omega arith };
+        width = λ _ other. absurd (other w);
+      }
+    ]
+sound whole payload at n s c en a b d e f = record {
+  inside = ltb-false (length s) (at + n) e;
+  number = λ h. absurd (true≢false (sym h));
+  width = λ h. absurd (true≢false (sym h));
+}
+sound undecoded payload at n s c en a b d e f = record {
+  inside = ltb-false (length s) (at + n) e;
+  number = λ h. absurd (true≢false (sym h));
+  width = λ h. absurd (true≢false (sym h));
+}
+
+pub found : (k : Kind) (payload : Bool) (at n : ℕ) (s : List ℕ) (c : Channel) → n ≡ spanIn payload k (length s) c
+    → isNumber k && eqb (c .bitCount) 0 ≡ false → isNumber k && ltb 7 (c .bitOffset) ≡ false
+    → isInteger k && ltb 64 (c .bitCount) ≡ false → ltb (length s) (at + n) ≡ false
+    → isFloating k && not (eqb (c .bitCount) 32 || eqb (c .bitCount) 64) ≡ false
+    → Valued k (valueAt k payload s at c) s at n c
+found k payload at n s c en a b d e f = record {
+  value = ap (λ (m : ℕ). valueBy k at m s c) (sym en) ∙ passed k at n s c a b d e f;
+  sound = sound k payload at n s c en a b d e f;
+}
+
+-- the field of a number that was found
+pub number-sound : {form : Form} {number : Number} {order : Bool} {s : List ℕ} {at n : ℕ} {c : Channel} → form ≡ numbered number order
+    → Sound (formKind form) s at n c → Sound (numberKind number) s at n c
+number-sound {s = s} {at = at} {n = n} {c = c} e h = subst (λ (f : Form). Sound (formKind f) s at n c) e h
+
+pub readable : (number : Number) (s : List ℕ) (at n : ℕ) (c : Channel) → Sound (numberKind number) s at n c → FieldBounds s at (c .bitOffset) (c .bitCount)
+readable number s at n c h = h .number (is-number number)
+
+pub fitting : (number : Number) (order : Bool) (s : List ℕ) (at n : ℕ) (c : Channel) {x : ℕ} → Sound (numberKind number) s at n c
+    → x ≡ fieldAt (orderMeant order) s at (c .bitOffset) (c .bitCount) → Fitting number (c .bitCount) x
+fitting number order s at n c h e = record {
+  some = readable number s at n c h .some;
+  few = readable number s at n c h .few;
+  below = rw e (field-below (numberOf (orderMeant order) (span s at (bytesFor (c .bitOffset) (c .bitCount)))) (c .bitOffset) (c .bitCount));
+  width = h .width;
+}
+
+pub same-number : {number m : Number} {count x : ℕ} → number ≡ m → Fitting number count x → Fitting m count x
+same-number {count = count} {x = x} e h = subst (λ (k : Number). Fitting k count x) e h
+
+pub narrow : {number : Number} {count x : ℕ} → Fitting number count x → number ≡ Float → (count ≡ 64 → ⊥) → x < 2 ^ 32
+narrow {number} {count} {x} h e other =
+    let w : count ≡ 32 = h .width (ap (λ (m : Number). isFloating (numberKind m)) e) other in
+    subst (λ (k : ℕ). x < 2 ^ k) w (h .below)

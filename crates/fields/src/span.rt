@@ -1,0 +1,57 @@
+// How many bytes a field takes, and whether they end inside the slice.
+ghost use mathlib.Core.Path.{_≡_};
+ghost use Prim.Native.Nat.{_+_};
+ghost use lib.Dec.{ltb};
+ghost use Rattle.definitions.specs.Channel.{bitSpan, spanIn};
+ghost use Rattle.fields.specs.Meaning.{channelMeant};
+ghost use Rattle.fields.specs.Form.{contentKind, formKind};
+use crate::channel::Channel;
+use crate::form::Content;
+use crate::form::Form;
+
+fn bit_span(channel: Channel) -> usize
+    ensures { λ r. ⌜ r ≡ bitSpan (channelMeant channel) ⌝ }
+{
+    let bits = channel.bit_offset as usize + channel.bit_count as usize;
+    if bits == 0 { 1 } else { (bits + 7) / 8 }
+}
+
+// A payload of `length` bytes is taken whole where it is no number.
+fn content_span(payload: bool, content: Content, length: usize, channel: Channel) -> usize
+    ensures { λ r. ⌜ r ≡ spanIn payload (contentKind content) length (channelMeant channel) ⌝ }
+{
+    if payload {
+        return length;
+    }
+    let bytes = channel.bit_count as usize / 8;
+    match content {
+        Content::Text(_) => bytes,
+        Content::ByteArray => bytes,
+        Content::MimeSample => bytes,
+        Content::MimeStream => bytes,
+        Content::Undecoded => bit_span(channel),
+    }
+}
+
+pub(crate) fn span_in(payload: bool, form: Form, length: usize, channel: Channel) -> usize
+    ensures { λ r. ⌜ r ≡ spanIn payload (formKind form) length (channelMeant channel) ⌝ }
+{
+    match form {
+        Form::Number(_, _) => bit_span(channel),
+        Form::Other(content) => content_span(payload, content, length, channel),
+    }
+}
+
+// By subtraction, since the sum may be past every number that fits.
+pub(crate) fn ends_outside(length: usize, skipped: usize, byte_offset: usize, span: usize) -> bool
+    ensures { λ r. ⌜ r ≡ ltb length (skipped + «byte_offset» + span) ⌝ }
+{
+    if length < skipped {
+        return true;
+    }
+    let left = length - skipped;
+    if left < byte_offset {
+        return true;
+    }
+    left - byte_offset < span
+}
