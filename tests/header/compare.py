@@ -15,7 +15,7 @@ from header import Header
 from source import Source, Unreadable
 
 SOURCE = ["crates/replies/src", "crates/mf4/src"]
-THEOREMS = ["crates/replies/proofs/Fields.antt", "crates/mf4/proofs/Border.antt"]
+THEOREMS = ["crates/replies/proofs/Structs.antt", "crates/mf4/proofs/Border.antt"]
 INCLUDE, HEADER = "include", "include/mf4.h"
 
 

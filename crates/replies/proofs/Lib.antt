@@ -1,3 +1,3 @@
 pub mod Handed
-pub mod Fields
+pub mod Structs
 pub mod ToldToC
