@@ -41,7 +41,7 @@ number-double Unsigned count x = refl
 number-double Signed count x = refl
 number-double Float count x = refl
 
-pub content-double : (content : Content) (s : List ℕ) (at n : ℕ) → doubleIn (answer (contentValue content s at n)) ≡ nanPattern
+content-double : (content : Content) (s : List ℕ) (at n : ℕ) → doubleIn (answer (contentValue content s at n)) ≡ nanPattern
 content-double (Text e) s at n = refl
 content-double ByteArray s at n = refl
 content-double MimeSample s at n = refl

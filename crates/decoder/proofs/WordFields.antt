@@ -58,10 +58,6 @@ module _ (s : List ℕ) (idSize : ℕ) (c : Channel) where
       → Near s idSize c word from
   near-by p told e low some = record { fixed = p; low = omega arith; some = some; held = subst Told e told }
 
--- a count that is not 0
-pub above : {count : ℕ} → (count ≡ 0 → ⊥) → 1 ≤ count
-above h = omega arith
-
 -- a type that is a number's, of a width that has a value
 module _ (type : DataType) (count : ℕ) {form : Form} (ef : form ≡ formOf type) where
   abbrev noWidth : Kind → Bool
@@ -69,7 +65,7 @@ module _ (type : DataType) (count : ℕ) {form : Form} (ef : form ≡ formOf typ
 
   pub sized : {number : numbers.Number} {big t : Bool} → form ≡ Number number big → t ≡ noWidth (numberKind number) → t ≡ false → (count ≡ 0 → ⊥)
       → Sized (formOf type) number big count
-  sized e et f z = record { form = sym ef ∙ e; some = above z; width = sym et ∙ f }
+  sized e et f z = record { form = sym ef ∙ e; some = omega arith; width = sym et ∙ f }
 
   -- and what is none
   pub other-type : {content : Content} → form ≡ Other content → NumberTold (formOf type) count NoNumber
@@ -110,14 +106,14 @@ module _ (s : List ℕ) (idSize : ℕ) (c : Channel) {word from : ℕ} (near : N
       by-form = looked-for s idSize c {form = Number number big} {payload = false} (sym e) (sym (near .fixed)) refl refl
 
       -- a number's field is found there
-      pub near-found : isFloating (numberKind number) && not (eqb (c .bitCount) 32 || eqb (c .bitCount) 64) ≡ false
+      near-found : isFloating (numberKind number) && not (eqb (c .bitCount) 32 || eqb (c .bitCount) 64) ≡ false
           → FieldTold (numberKind number) (valueOf s idSize c) s c (Field at (bitSpan c))
       near-found f =
           let v = found (numberKind number) false at (bitSpan c) s c (number-span number false (length s) c) some low few inside f in
           record { told = record { value = sym by-form ∙ v .value; sound = v .sound } }
 
       -- or it is a float of a width that none has
-      pub near-refused : isFloating (numberKind number) && not (eqb (c .bitCount) 32 || eqb (c .bitCount) 64) ≡ true → valueOf s idSize c ≡ noValue
+      near-refused : isFloating (numberKind number) && not (eqb (c .bitCount) 32 || eqb (c .bitCount) 64) ≡ true → valueOf s idSize c ≡ noValue
       near-refused f =
           sym by-form ∙ ap (λ (n : ℕ). valueBy (numberKind number) at n s c) (sym (number-span number false (length s) c))
           ∙ no-float-width (numberKind number) at (bitSpan c) s c some low few inside f
@@ -126,7 +122,7 @@ module _ (s : List ℕ) (idSize : ℕ) (c : Channel) {word from : ℕ} (near : N
   field big = fieldAt (orderMeant big) s (idSize + c .byteOffset) (c .bitOffset) (c .bitCount)
 
   -- what is read in the word is the field
-  pub is-field : (big : Bool) {x : ℕ} → x ≡ fieldAt (orderMeant big) (le 8 word) (from / 8) (from % 8) (c .bitCount) → x ≡ field big
+  is-field : (big : Bool) {x : ℕ} → x ≡ fieldAt (orderMeant big) (le 8 word) (from / 8) (from % 8) (c .bitCount) → x ≡ field big
   is-field big e =
       let o : Order = orderMeant big in
       e ∙ ap (λ (offset : ℕ). fieldAt o (le 8 word) (from / 8) offset (c .bitCount)) (near .held .low)
@@ -236,7 +232,7 @@ module _ (s : List ℕ) (idSize : ℕ) (c : Channel) (t d : ℕ) (same : variabl
   by-alike k at n =
       value-tested k at n s (alike c t d) ∙ ap (tested k at n (length s) c) (decoded-alike (c .dataType) s at n c t d) ∙ sym (value-tested k at n s c)
 
-  pub value-alike : valueOf s idSize (alike c t d) ≡ valueOf s idSize c
+  value-alike : valueOf s idSize (alike c t d) ≡ valueOf s idSize c
   unfolding valueOf
   value-alike =
       let k : Kind = kindOf (c .dataType) in
@@ -244,7 +240,7 @@ module _ (s : List ℕ) (idSize : ℕ) (c : Channel) (t d : ℕ) (same : variabl
       ∙ ap (λ (n : ℕ). valueBy k (startOf idSize c) n s (alike c t d)) (span-alike (variableLength c) k (length s) c t d)
       ∙ by-alike k (startOf idSize c) (spanOf s c)
 
-  pub double-alike : recordDouble s idSize (alike c t d) ≡ recordDouble s idSize c
+  double-alike : recordDouble s idSize (alike c t d) ≡ recordDouble s idSize c
   unfolding recordDouble
   double-alike =
       ap (λ (p : Bool). if p then nanPattern else doubleIn (valueOf s idSize (alike c t d))) same

@@ -62,7 +62,8 @@ fn any_double(record: &[u8], record_id_size: usize, channel: Channel) -> u64
     number_double(number, channel.bit_count, x)
 }
 
-// It takes numbers and not the channel: that would have to lie in memory for it, and every near field would wait for that.
+// It takes numbers and not the channel: that would have to lie in memory for it, and every near field would wait for that. The
+// record lies there too, so it is lent as a part of itself, which is laid down on this way alone.
 fn far_double(
     record: &[u8],
     record_id_size: usize,

@@ -57,7 +57,7 @@ number-kinds P i f Unsigned = i
 number-kinds P i f Signed = i
 number-kinds P i f Float = f
 
-pub content-kinds : (P : Kind → Type 0) → P whole → P undecoded → (content : Content) → P (contentKind content)
+content-kinds : (P : Kind → Type 0) → P whole → P undecoded → (content : Content) → P (contentKind content)
 content-kinds P w u (Text e) = w
 content-kinds P w u ByteArray = w
 content-kinds P w u MimeSample = w

@@ -2,10 +2,11 @@
 use borrow.Author.Needs.{needs}
 use mathlib.Core.Path.{_≡_, sym, _∙_}
 use mathlib.Core.Bool.{false}
+use native.Mathlib.Omega.{arith}
 use Rattle.definitions.specs.Channel.{variableLength}
 use Rattle.fields.specs.Meaning.{channelMeant}
 use Rattle.decoder.proofs.Doubles.{double-payload}
-use Rattle.decoder.proofs.WordFields.{above, near-by, without-bits, far-taken}
+use Rattle.decoder.proofs.WordFields.{near-by, without-bits, far-taken}
 use Rattle.decoder.proofs.double.decode_f64_from_record.Statement.{statement}
 use Rattle.decoder.proofs.double.decode_f64_from_record.Tie as tie
 
@@ -36,7 +37,7 @@ near-double-requires c κs =
     let three = find .before in
     let two = three .before in
     let one = two .before in
-    near-by _ _ (channelMeant (one .before .before .before .args .channel)) (fixed one) (find .find-word .ensures) (f .found .given .1) (two .if2 .left) (above (three .if3 .left))
+    near-by _ _ (channelMeant (one .before .before .before .args .channel)) (fixed one) (find .find-word .ensures) (f .found .given .1) (two .if2 .left) (omega (arith, three .if3 .left))
 
 pub decode-f64-from-record-spec : {M : Type 1} → statement M
 decode-f64-from-record-spec =
