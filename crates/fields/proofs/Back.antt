@@ -1,10 +1,20 @@
 -- The meanings are one-to-one: from a reply the code's own answer comes back.
-use mathlib.Core.Path.{_≡_, refl, ap}
+use mathlib.Core.Path.{_≡_, refl, sym, ap, ap₂, _∙_}
+use mathlib.Core.List.{List}
+use Prim.Native.Nat.{ℕ}
 use Rattle.definitions.specs.Reply.{Reply, answer, refusal}
 use Rattle.definitions.specs.Channel.{Value, ValidValue, unsigned, signed, double, text, bytes, sample, stream, unknownValue}
-use Rattle.definitions.proofs.Replies.{one-by}
+use Rattle.definitions.specs.DataType.{Kind}
+use Rattle.definitions.specs.Channel as channels
+use Rattle.definitions.proofs.Replies.{one-by, not-answered}
 use Rattle.refusals.proofs.Back.{refusalOf, back}
+use Rattle.refusals.specs.Meaning.{refused}
+use Rattle.refusals.specs.declared.Refusal.{Refusal}
+use Rattle.refusals.specs.declared.Refusal.the-variants.{NoValue}
 use Rattle.fields.specs.Meaning.{valueMeant, valueReply, validValueReply}
+use Rattle.fields.specs.Known.{FieldTold, FieldPlaced}
+use Rattle.fields.specs.declared.field.FieldFound.{FieldFound}
+use Rattle.fields.specs.declared.field.FieldFound.the-variants.{Field, Refused}
 use Rattle.fields.specs.declared.value.DecodedValue.{DecodedValue}
 use Rattle.fields.specs.declared.value.DecodedValue.the-variants.{UnsignedInteger, SignedInteger, Float, String, ByteArray, MimeSample, MimeStream, Unknown}
 use Rattle.fields.specs.declared.value.ValueRead.{ValueRead}
@@ -53,3 +63,15 @@ valid-value-back (NotJudged r) = ap NotJudged (back r)
 
 pub valid-value-one : (a b : ValidValueRead) → validValueReply a ≡ validValueReply b → a ≡ b
 valid-value-one = one-by validValueReply validValueRead valid-value-back
+
+-- a field is found in one place, or refused for one cause
+abbrev whyRefused : Reply Value → Refusal
+whyRefused (answer v) = NoValue
+whyRefused (refusal n t) = refusalOf n t
+
+pub field-one : (k : Kind) (reply : Reply Value) (s : List ℕ) (c : channels.Channel) (at n : ℕ) (a b : FieldFound)
+    → FieldTold k reply s c a × FieldPlaced at n a → FieldTold k reply s c b × FieldPlaced at n b → a ≡ b
+field-one k reply s c at n (Field p m) (Field q l) (f, (ep, em)) (g, (eq, el)) = ap₂ Field (ep ∙ sym eq) (em ∙ sym el)
+field-one k reply s c at n (Field p m) (Refused r) (f, x) (g, y) = not-answered _ _ _ (sym (g .told) ∙ f .told .value)
+field-one k reply s c at n (Refused r) (Field p m) (f, x) (g, y) = not-answered _ _ _ (sym (f .told) ∙ g .told .value)
+field-one k reply s c at n (Refused r) (Refused q) (f, x) (g, y) = ap Refused (one-by refused whyRefused back r q (sym (f .told) ∙ g .told))

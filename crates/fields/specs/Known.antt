@@ -42,6 +42,11 @@ FieldCase k reply s c (Refused r) = reply ≡ refused r
 pub record FieldTold (k : Kind) (reply : Reply Value) (s : List ℕ) (c : Channel) (found : FieldFound) : Type 0 where
   pub told : FieldCase k reply s c found
 
+-- a field is n bytes at `at`
+abbrev pub FieldPlaced : ℕ → ℕ → FieldFound → Type 0
+FieldPlaced at n (Field p m) = (p ≡ at) × (m ≡ n)
+FieldPlaced at n (Refused r) = Unit {0}
+
 -- x is a field of count bits, and a float that is no pattern of 64 bits has 32
 pub record Fitting (number : Number) (count x : ℕ) : Type 0 where
   pub some : 1 ≤ count

@@ -3,10 +3,11 @@ ghost use mathlib.Core.Path.{_≡_};
 ghost use mathlib.Core.Bool.{not, _&&_, _||_};
 ghost use Prim.Native.Nat.{_+_};
 ghost use lib.Dec.{ltb, eqb};
-ghost use Rattle.definitions.specs.Channel.{isNumber, isInteger, isFloating};
+ghost use lib.ListN.{length};
+ghost use Rattle.definitions.specs.Channel.{isNumber, isInteger, isFloating, spanIn};
 ghost use Rattle.fields.specs.Meaning.{channelMeant};
 ghost use Rattle.fields.specs.Form.{formKind};
-ghost use Rattle.fields.specs.Known.{valueAt, FieldTold};
+ghost use Rattle.fields.specs.Known.{valueAt, FieldTold, FieldPlaced};
 use crate::channel::Channel;
 use crate::form::Form;
 use crate::form::Number;
@@ -94,7 +95,7 @@ pub fn find_field(
     form: Form,
     channel: Channel,
 ) -> FieldFound
-    ensures { λ r. ⌜ FieldTold (formKind form) (valueAt (formKind form) payload (now («record» .entry)) (skipped + «byte_offset») (channelMeant channel)) (now («record» .entry)) (channelMeant channel) r ⌝ }
+    ensures { λ r. ⌜ FieldTold (formKind form) (valueAt (formKind form) payload (now («record» .entry)) (skipped + «byte_offset») (channelMeant channel)) (now («record» .entry)) (channelMeant channel) r × FieldPlaced (skipped + «byte_offset») (spanIn payload (formKind form) (length (now («record» .entry))) (channelMeant channel)) r ⌝ }
 {
     if has_no_bits(form, channel.bit_count) {
         return FieldFound::Refused(Refusal::NoValue);

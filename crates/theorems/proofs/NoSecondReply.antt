@@ -16,7 +16,7 @@ use Rattle.fields.specs.Meaning.{validValueReply}
 use Rattle.records.specs.Meaning.{recordReply}
 use Rattle.blocks.proofs.Back.{written-one, header-one, type-one, list-one}
 use Rattle.text.proofs.Back.{text-one}
-use Rattle.fields.proofs.Back.{value-one, valid-value-one}
+use Rattle.fields.proofs.Back.{field-one, value-one, valid-value-one}
 use Rattle.chain.proofs.Back.{chain-one}
 use Rattle.records.proofs.Back.{record-one}
 use Rattle.refusals.proofs.Refusal.number.Kinds as refusal-number-kinds
@@ -59,6 +59,8 @@ use Rattle.fields.proofs.form_of.Kinds as form-of-type-kinds
 use Rattle.fields.proofs.form_of.Reads as form-of-type
 use Rattle.fields.proofs.is_no_float_width.Kinds as no-float-width-kinds
 use Rattle.fields.proofs.is_no_float_width.Reads as no-float-width
+use Rattle.fields.proofs.find_field.Kinds as field-found-kinds
+use Rattle.fields.proofs.find_field.Reads as field-found
 use Rattle.fields.proofs.check_value_validity.Kinds as validity-kinds
 use Rattle.fields.proofs.check_value_validity.Reads as validity
 use Rattle.decoder.proofs.decode_channel_value.Kinds as value-read-kinds
@@ -154,6 +156,9 @@ form-of-type-settled = settled (λ κs a y z b c p q. (p ∙ sym q, refl))
 
 pub no-float-width-settled : Settled 0 no-float-width-kinds.ps no-float-width-kinds.r no-float-width.Asked no-float-width.ensures no-float-width.Learnt
 no-float-width-settled = settled (λ κs a y z b c p q. (p ∙ sym q, refl))
+
+pub field-found-settled : Settled 1 field-found-kinds.ps field-found-kinds.r field-found.Asked field-found.ensures field-found.Learnt
+field-found-settled = settled (λ κs a y z b c p q. (field-one _ _ _ _ _ _ y z p q, refl))
 
 pub value-read-settled : Settled 1 value-read-kinds.ps value-read-kinds.r value-read.Asked value-read.ensures value-read.Learnt
 value-read-settled = settled (λ κs a y z b c p q. (value-one y z (p ∙ sym q), refl))

@@ -42,28 +42,28 @@ returns-3 : tie.Need-returns-3
 returns-3 c =
     let find = c .before .before in
     let f = find .before .before .before in
-    double-refused (find .find-field .ensures) (c .enum-told2 .given .1) ∙ value find ∙ double-fixed _ _ _ (fixed (f .before .before .before))
+    double-refused (find .find-field .ensures .0) (c .enum-told2 .given .1) ∙ value find ∙ double-fixed _ _ _ (fixed (f .before .before .before))
 
 number-at-requires : tie.Need-number-at-requires
 number-at-requires c κs =
     let told = c .before in
     let find = told .before .before .before in
     let f = find .before .before .before in
-    readable (f .form .given .0 .0) _ _ _ _ (sound-at (find .find-field .ensures) (told .before .found .given .1))
+    readable (f .form .given .0 .0) _ _ _ _ (sound-at (find .find-field .ensures .0) (told .before .found .given .1))
 
 number-double-requires : tie.Need-number-double-requires
 number-double-requires c κs =
     let told = c .before .before in
     let find = told .before .before .before in
     let f = find .before .before .before in
-    fitting (f .form .given .0 .0) (f .form .given .0 .1 .0) _ _ _ _ (sound-at (find .find-field .ensures) (told .before .found .given .1)) (c .number-at .ensures)
+    fitting (f .form .given .0 .0) (f .form .given .0 .1 .0) _ _ _ _ (sound-at (find .find-field .ensures .0) (told .before .found .given .1)) (c .number-at .ensures)
 
 returns-4 : tie.Need-returns-4
 returns-4 c =
     let told = c .before .before .before in
     let find = told .before .before .before in
     let f = find .before .before .before in
-    double-found (find .find-field .ensures) (told .before .found .given .1) (form f) (c .before .number-at .ensures) (c .number-double .ensures)
+    double-found (find .find-field .ensures .0) (told .before .found .given .1) (form f) (c .before .number-at .ensures) (c .number-double .ensures)
     ∙ value find ∙ double-fixed _ _ _ (fixed (f .before .before .before))
 
 pub any-double-spec : {M : Type 1} → statement M

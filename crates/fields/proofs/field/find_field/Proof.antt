@@ -1,6 +1,6 @@
 -- The tests in turn, each with what the ones before it left.
 use borrow.Author.Needs.{needs}
-use mathlib.Core.Path.{_≡_, sym, _∙_}
+use mathlib.Core.Path.{_≡_, refl, sym, _∙_}
 use mathlib.Core.Bool.{false, _&&_}
 use native.Mathlib.Omega.{arith}
 use Prim.Native.Nat.{_+_}
@@ -25,32 +25,40 @@ in-a-word : (c : tie.Else3) → isInteger (formKind (c .before .before .before .
 in-a-word c = sym (c .before .is-over-a-word .ensures) ∙ c .if3 .left
 
 returns : tie.Need-returns
-returns c = record { told = no-bits _ _ _ _ _ (sym (c .before .has-no-bits .ensures) ∙ c .if1 .taken) }
+returns c = (record { told = no-bits _ _ _ _ _ (sym (c .before .has-no-bits .ensures) ∙ c .if1 .taken) }, tt)
 
 returns-2 : tie.Need-returns-2
-returns-2 c = record { told = past-a-byte _ _ _ _ _ (some-bits (c .before .before)) (sym (c .before .starts-past-a-byte .ensures) ∙ c .if2 .taken) }
+returns-2 c = (record { told = past-a-byte _ _ _ _ _ (some-bits (c .before .before)) (sym (c .before .starts-past-a-byte .ensures) ∙ c .if2 .taken) }, tt)
 
 returns-3 : tie.Need-returns-3
-returns-3 c = record {
-  told = over-a-word _ _ _ _ _ (some-bits (c .before .before .before .before)) (in-a-byte (c .before .before)) (sym (c .before .is-over-a-word .ensures) ∙ c .if3 .taken);
-}
+returns-3 c = (
+  record {
+    told = over-a-word _ _ _ _ _ (some-bits (c .before .before .before .before)) (in-a-byte (c .before .before)) (sym (c .before .is-over-a-word .ensures) ∙ c .if3 .taken);
+  },
+  tt,
+)
 
 returns-4 : tie.Need-returns-4
-returns-4 c = record {
-  told =
-      ends-outside _ _ _ _ _ (some-bits (c .before .before .before .before .before .before .before)) (in-a-byte (c .before .before .before .before .before)) (in-a-word (c .before .before .before))
-      (same-end _ _ _ (c .before .before .span-in .ensures) (c .before .ends-outside .ensures) ∙ c .if4 .taken);
-}
+returns-4 c = (
+  record {
+    told =
+        ends-outside _ _ _ _ _ (some-bits (c .before .before .before .before .before .before .before)) (in-a-byte (c .before .before .before .before .before)) (in-a-word (c .before .before .before))
+        (same-end _ _ _ (c .before .before .span-in .ensures) (c .before .ends-outside .ensures) ∙ c .if4 .taken);
+  },
+  tt,
+)
 
 returns-5 : tie.Need-returns-5
 returns-5 c =
-    let e = c .before .before in
-    record {
-      told =
-          no-float-width _ _ _ _ _ (some-bits (e .before .before .before .before .before .before .before)) (in-a-byte (e .before .before .before .before .before)) (in-a-word (e .before .before .before))
-          (same-end _ _ _ (e .before .before .span-in .ensures) (e .before .ends-outside .ensures) ∙ e .if4 .left)
-          (sym (c .before .is-no-float-width .ensures) ∙ c .if5 .taken);
-    }
+    let e = c .before .before in (
+      record {
+        told =
+            no-float-width _ _ _ _ _ (some-bits (e .before .before .before .before .before .before .before)) (in-a-byte (e .before .before .before .before .before)) (in-a-word (e .before .before .before))
+            (same-end _ _ _ (e .before .before .span-in .ensures) (e .before .ends-outside .ensures) ∙ e .if4 .left)
+            (sym (c .before .is-no-float-width .ensures) ∙ c .if5 .taken);
+      },
+      tt,
+    )
 
 add-t14 : tie.Need-add-t14
 add-t14 c =
@@ -61,13 +69,15 @@ add-t14 c =
 
 returns-6 : tie.Need-returns-6
 returns-6 c =
-    let e = c .before .before in
-    record {
-      told =
-          found _ _ _ _ _ _ (e .before .before .span-in .ensures) (some-bits (e .before .before .before .before .before .before .before)) (in-a-byte (e .before .before .before .before .before)) (in-a-word (e .before .before .before))
-          (sym (e .before .ends-outside .ensures) ∙ e .if4 .left)
-          (sym (c .before .is-no-float-width .ensures) ∙ c .if5 .left);
-    }
+    let e = c .before .before in (
+      record {
+        told =
+            found _ _ _ _ _ _ (e .before .before .span-in .ensures) (some-bits (e .before .before .before .before .before .before .before)) (in-a-byte (e .before .before .before .before .before)) (in-a-word (e .before .before .before))
+            (sym (e .before .ends-outside .ensures) ∙ e .if4 .left)
+            (sym (c .before .is-no-float-width .ensures) ∙ c .if5 .left);
+      },
+      (refl, e .before .before .span-in .ensures),
+    )
 
 pub find-field-spec : {M : Type 1} → statement M
 find-field-spec =
