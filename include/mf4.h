@@ -1,5 +1,5 @@
 /*
- * mf4.h: reading MDF4 channels and data lists, proved.
+ * mf4.h: reading MDF4 channels, their descriptions and data lists, proved.
  *
  * Every call ends with an answer or a numbered refusal, for every input. A call that can refuse returns a struct by
  * value: `reply` is 0 (MF4_ANSWER) or the refusal's number, `told` is what the refusal tells beside its number (0 where it
@@ -60,6 +60,7 @@ enum mf4_reply {
     MF4_DATA_TOO_LONG = 14,      /* more joined data than 2^63-1 bytes                                            */
     MF4_BAD_RECORD_SIZE = 15,    /* a record size of 0, over 16,384, or over the record buffer's                  */
     MF4_NO_SUCH_RECORD = 16,     /* a record that the joined data does not hold whole                             */
+    MF4_TOO_FEW_LINKS = 17,      /* a channel block whose link count is below 8                                   */
 
     /* Numbers from 256 on are those of this header's own helpers, never the library's. */
     MF4_NO_TEXT_TYPE = 256       /* mf4_text_by_type: a data type that is no text                                 */
@@ -86,6 +87,7 @@ static inline const char *mf4_reply_text(uint32_t reply)
     case MF4_DATA_TOO_LONG: return "the joined data passes 2^63-1 bytes";
     case MF4_BAD_RECORD_SIZE: return "the record size is 0 or over 16384, or the buffer is too short";
     case MF4_NO_SUCH_RECORD: return "the record is not inside the data";
+    case MF4_TOO_FEW_LINKS: return "the channel block has fewer than 8 links";
     case MF4_NO_TEXT_TYPE: return "the data type is no text";
     default: return "no reply of this library";
     }
@@ -141,7 +143,8 @@ enum mf4_data_type {
     MF4_UNSIGNED_LE = 0, MF4_UNSIGNED_BE = 1, MF4_SIGNED_LE = 2, MF4_SIGNED_BE = 3, MF4_FLOAT_LE = 4, MF4_FLOAT_BE = 5,
     MF4_LATIN1 = 6, MF4_UTF8 = 7, MF4_UTF16_LE = 8, MF4_UTF16_BE = 9,
     MF4_BYTE_ARRAY = 10, MF4_MIME_SAMPLE = 11, MF4_MIME_STREAM = 12, MF4_CANOPEN_DATE = 13, MF4_CANOPEN_TIME = 14,
-    MF4_COMPLEX_LE = 15, MF4_COMPLEX_BE = 16
+    MF4_COMPLEX_LE = 15, MF4_COMPLEX_BE = 16,
+    MF4_UNKNOWN_TYPE = 255 /* every code above 16 is an unknown type; mf4_read_channel gives this one for it */
 };
 
 /* The code of the type that a code stands for: itself up to 16; every other code is an unknown type, which gives 0. */
@@ -184,7 +187,7 @@ mf4_written mf4_write_list_equal(uint64_t next, const uint64_t *links, size_t li
 mf4_written mf4_write_list_variable(uint64_t next, const uint64_t *links, size_t links_len, const uint64_t *offsets,
                                     size_t offsets_len, uint8_t *out, size_t out_len);
 
-/* ---- values ----------------------------------------------------------------------------------------------------- */
+/* ---- descriptions ----------------------------------------------------------------------------------------------- */
 
 enum mf4_channel_type {
     MF4_CHANNEL_FIXED_LENGTH = 0,
@@ -208,6 +211,54 @@ typedef struct mf4_channel {
     uint32_t pos_invalidation_bit; /* which bit behind the data bytes, with MF4_CHANNEL_INVALIDATION_BIT             */
     uint64_t data;                 /* the link to the payloads; 0 where there are none                               */
 } mf4_channel;
+
+/* ---- channel blocks --------------------------------------------------------------------------------------------- */
+
+#define MF4_CHANNEL_BLOCK_SIZE 160 /* of a block that is written */
+
+/* A ##CN block: its eight links, of which the sixth is channel.data, and its fields. more_links_at, more_links: where the
+ * links behind the eighth stand in the bytes given, and how many; 8 bytes each, little-endian. The six limits are 64-bit
+ * patterns, so that a NaN keeps its bits; mf4_double_of gives the value. */
+typedef struct mf4_channel_block {
+    mf4_block_header header;
+    uint64_t next_ch_addr;
+    uint64_t component_addr;
+    uint64_t name_addr;
+    uint64_t source_addr;
+    uint64_t conversion_addr;
+    uint64_t unit_addr;
+    uint64_t comment_addr;
+    uint64_t more_links_at;
+    uint64_t more_links;
+    mf4_channel channel; /* the description, as the calls below take it */
+    uint8_t sync_type;
+    uint8_t precision;
+    uint8_t reserved1;
+    uint16_t attachment_nr;
+    uint64_t min_raw_value;
+    uint64_t max_raw_value;
+    uint64_t lower_limit;
+    uint64_t upper_limit;
+    uint64_t lower_ext_limit;
+    uint64_t upper_ext_limit;
+} mf4_channel_block;
+
+typedef struct mf4_channel_reply {
+    uint32_t reply;
+    uint64_t told;
+    mf4_channel_block block;
+} mf4_channel_reply;
+
+/* Neither attachment_nr nor block_len is compared with anything here: the fields stand behind all the links that links_nr
+ * counts. Refuses with 2, 3, 17, 2. */
+mf4_channel_reply mf4_read_channel(const uint8_t *bytes, size_t bytes_len);
+
+/* Writes 160 bytes: the eight links and the fields, with a header of its own (links_nr 8, block_len 160), and with 0 for
+ * reserved1, attachment_nr and an unknown type. The block's header, more_links and more_links_at are not looked at. Refuses
+ * with 6. */
+mf4_written mf4_write_channel(mf4_channel_block block, uint8_t *out, size_t out_len);
+
+/* ---- values ----------------------------------------------------------------------------------------------------- */
 
 enum mf4_kind {
     MF4_KIND_NOTHING = 0,  /* on a refusal                                                      */

@@ -34,6 +34,9 @@ les (x ∷ xs) = le 8 x ++ les xs
 abbrev pub span : List ℕ → ℕ → ℕ → List ℕ
 span s at n = take n (drop at s)
 
+abbrev pub u16At : List ℕ → ℕ → ℕ
+u16At s at = leOf (span s at 2)
+
 abbrev pub u32At : List ℕ → ℕ → ℕ
 u32At s at = leOf (span s at 4)
 

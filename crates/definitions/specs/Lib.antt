@@ -6,6 +6,7 @@ pub mod Unicode
 pub mod Header
 pub mod DataType
 pub mod Channel
+pub mod ChannelBlock
 pub mod DataList
 pub mod Chain
 pub mod Accepted

@@ -5,14 +5,14 @@ use Prim.Native.Nat.{ℕ}
 use lib.ListN.{getD}
 use Rattle.refusals.specs.Meaning.{refusalNumber, toldOf}
 use Rattle.refusals.specs.declared.Refusal.{Refusal}
-use Rattle.refusals.specs.declared.Refusal.the-variants.{NoValue, TooFewBytes, OtherId, NoLinks, UnwritableList, NoRoom, FileTooLong, TooManyLists, TooManyFragments, ListDisagrees, NoBlockThere, BadDataBlock, UntrueDeclaration, DataTooLong, BadRecordSize, NoSuchRecord}
+use Rattle.refusals.specs.declared.Refusal.the-variants.{NoValue, TooFewBytes, OtherId, NoLinks, UnwritableList, NoRoom, FileTooLong, TooManyLists, TooManyFragments, ListDisagrees, NoBlockThere, BadDataBlock, UntrueDeclaration, DataTooLong, BadRecordSize, NoSuchRecord, TooFewLinks}
 
 -- the refusals by their numbers, where they tell t
 abbrev pub numbered : ℕ → List Refusal
 numbered t =
     NoValue ∷ NoValue ∷ TooFewBytes t ∷ OtherId ∷ NoLinks ∷ UnwritableList ∷ NoRoom t ∷ FileTooLong ∷ TooManyLists
     ∷ TooManyFragments ∷ ListDisagrees ∷ NoBlockThere ∷ BadDataBlock ∷ UntrueDeclaration ∷ DataTooLong ∷ BadRecordSize
-    ∷ NoSuchRecord ∷ []
+    ∷ NoSuchRecord ∷ TooFewLinks ∷ []
 
 abbrev pub refusalOf : ℕ → ℕ → Refusal
 refusalOf n t = getD (numbered t) n NoValue
@@ -34,6 +34,7 @@ back UntrueDeclaration = refl
 back DataTooLong = refl
 back BadRecordSize = refl
 back NoSuchRecord = refl
+back TooFewLinks = refl
 
 pub one : (a b : Refusal) → refusalNumber a ≡ refusalNumber b → toldOf a ≡ toldOf b → a ≡ b
 one a b p q = sym (back a) ∙ ap₂ refusalOf p q ∙ back b

@@ -2,7 +2,7 @@
 use Prim.Native.Nat.{ℕ}
 use Rattle.definitions.specs.Reply.{Reply, refusal}
 use Rattle.refusals.specs.declared.Refusal.{Refusal}
-use Rattle.refusals.specs.declared.Refusal.the-variants.{NoValue, TooFewBytes, OtherId, NoLinks, UnwritableList, NoRoom, FileTooLong, TooManyLists, TooManyFragments, ListDisagrees, NoBlockThere, BadDataBlock, UntrueDeclaration, DataTooLong, BadRecordSize, NoSuchRecord}
+use Rattle.refusals.specs.declared.Refusal.the-variants.{NoValue, TooFewBytes, OtherId, NoLinks, UnwritableList, NoRoom, FileTooLong, TooManyLists, TooManyFragments, ListDisagrees, NoBlockThere, BadDataBlock, UntrueDeclaration, DataTooLong, BadRecordSize, NoSuchRecord, TooFewLinks}
 
 abbrev pub refusalNumber : Refusal → ℕ
 refusalNumber NoValue = 1
@@ -21,6 +21,7 @@ refusalNumber UntrueDeclaration = 13
 refusalNumber DataTooLong = 14
 refusalNumber BadRecordSize = 15
 refusalNumber NoSuchRecord = 16
+refusalNumber TooFewLinks = 17
 
 abbrev pub toldOf : Refusal → ℕ
 toldOf NoValue = 0
@@ -39,6 +40,7 @@ toldOf UntrueDeclaration = 0
 toldOf DataTooLong = 0
 toldOf BadRecordSize = 0
 toldOf NoSuchRecord = 0
+toldOf TooFewLinks = 0
 
 abbrev pub refused : {A : Type 0} → Refusal → Reply A
 refused r = refusal (refusalNumber r) (toldOf r)

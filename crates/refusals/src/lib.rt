@@ -35,6 +35,8 @@ pub enum Refusal {
     BadRecordSize,
     // 16
     NoSuchRecord,
+    // 17
+    TooFewLinks,
 }
 
 impl Refusal {
@@ -58,6 +60,7 @@ impl Refusal {
             Refusal::DataTooLong => 14,
             Refusal::BadRecordSize => 15,
             Refusal::NoSuchRecord => 16,
+            Refusal::TooFewLinks => 17,
         }
     }
 
@@ -82,6 +85,7 @@ impl Refusal {
             Refusal::DataTooLong => 0,
             Refusal::BadRecordSize => 0,
             Refusal::NoSuchRecord => 0,
+            Refusal::TooFewLinks => 0,
         }
     }
 }

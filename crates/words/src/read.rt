@@ -2,7 +2,7 @@
 ghost use mathlib.Core.Path.{_≡_};
 ghost use Prim.Native.Nat.{_+_, _*_, _^_, _≤_, _<_};
 ghost use lib.ListN.{length};
-ghost use Rattle.definitions.specs.Bytes.{little, big, numberOf, le, span, u32At, u64At};
+ghost use Rattle.definitions.specs.Bytes.{little, big, numberOf, le, span, u16At, u32At, u64At};
 
 // The number x of i bytes with the byte b above it
 fn with_byte_above(x: u64, i: usize, b: u8) -> u64
@@ -70,6 +70,13 @@ pub fn be_bytes(s: &[u8], at: usize, n: usize) -> u64
     ensures { λ r. ⌜ r ≡ numberOf big (span (now (s .entry)) at n) ⌝ }
 {
     swapped(few_le_bytes(s, at, n)) >> (64 - 8 * n)
+}
+
+pub fn read_u16_le(s: &[u8], at: usize) -> u16
+    requires { ⌜ at + 2 ≤ length (now s) ⌝ }
+    ensures { λ r. ⌜ r ≡ u16At (now (s .entry)) at ⌝ }
+{
+    le_bytes(s, at, 2) as u16
 }
 
 pub fn read_u32_le(s: &[u8], at: usize) -> u32
