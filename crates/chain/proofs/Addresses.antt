@@ -6,7 +6,7 @@ use Prim.Native.Nat.{ℕ, _+_, _-_, _≤_, _<_}
 use native.Mathlib.Omega.{arith}
 use native.Mathlib.Nat.{add-zero}
 use lib.ListN.{length, take, drop, length-drop}
-use lib.Seq.{take-all, drop-drop, getD-drop}
+use lib.Seq.{drop-drop, getD-drop}
 use lib.Dec.{leb, ltb, eqb}
 use borrow.Author.Tests.{eq-eqb, ne-eqb, lt-leb, le-leb, lt-ltb, le-ltb, leb-true, ltb-true, ltb-false, eqb-false, not-true}
 use Rattle.definitions.specs.Bytes.{span, idAt}
@@ -66,10 +66,6 @@ module _ (f : List ℕ) (a : ℕ) where
   -- the id of a block is that of the bytes from its address on
   pub id-from : (id : List ℕ) → idAt (drop a f) 0 id ≡ idAt f a id
   id-from id = simp (getD-drop, add-zero)
-
--- the bytes from an address to the file's end
-pub tail : (l : List ℕ) (a : ℕ) → take (length l - a) (drop a l) ≡ drop a l
-tail l a = take-all (length l - a) (drop a l) (omega (arith, length-drop a l))
 
 -- n bytes behind the first k of those from an address on
 pub part : (l : List ℕ) (a k n : ℕ) → take (k + n - k) (drop k (drop a l)) ≡ span l (a + k) n

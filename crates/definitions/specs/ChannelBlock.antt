@@ -3,7 +3,7 @@
 use Prim.Native.Nat.{ℕ, _+_, _-_, _*_}
 use mathlib.Core.List.{List, [], _∷_, _++_}
 use mathlib.Core.Bool.{not}
-use lib.ListN.{getD}
+use lib.ListN.{getD, drop}
 use lib.Dec.{ltb}
 use Rattle.definitions.specs.Reply.{Reply, Outcome, answer, refusal, if_then_else_, andThen, needing, writing}
 use Rattle.definitions.specs.Bytes.{leOf, le, les, u16At, u32At, u64At, idAt}
@@ -55,9 +55,9 @@ pub record ChannelBlock : Type 0 where
 abbrev pub fieldsAt : ℕ → ℕ
 fieldsAt n = 24 + n * 8
 
--- the block in s, by its header, with the fields from `at` on
-abbrev pub blockAt : List ℕ → Header → ℕ → ChannelBlock
-blockAt s h at = record {
+-- the block in s, by its header; f begins with the fields
+abbrev pub blockIn : List ℕ → Header → List ℕ → ChannelBlock
+blockIn s h f = record {
   header = h;
   nextChannel = u64At s 24;
   component = u64At s 32;
@@ -69,23 +69,23 @@ blockAt s h at = record {
   comment = u64At s 80;
   moreAt = 88;
   more = h .linkCount - 8;
-  channelType = getD s at 0;
-  syncType = getD s (at + 1) 0;
-  dataType = typeOf (getD s (at + 2) 0);
-  bitOffset = getD s (at + 3) 0;
-  byteOffset = u32At s (at + 4);
-  bitCount = u32At s (at + 8);
-  flags = u32At s (at + 12);
-  invalidationBit = u32At s (at + 16);
-  precision = getD s (at + 20) 0;
-  reserved = getD s (at + 21) 0;
-  attachments = u16At s (at + 22);
-  minRaw = u64At s (at + 24);
-  maxRaw = u64At s (at + 32);
-  lowerLimit = u64At s (at + 40);
-  upperLimit = u64At s (at + 48);
-  lowerExtended = u64At s (at + 56);
-  upperExtended = u64At s (at + 64);
+  channelType = getD f 0 0;
+  syncType = getD f 1 0;
+  dataType = typeOf (getD f 2 0);
+  bitOffset = getD f 3 0;
+  byteOffset = u32At f 4;
+  bitCount = u32At f 8;
+  flags = u32At f 12;
+  invalidationBit = u32At f 16;
+  precision = getD f 20 0;
+  reserved = getD f 21 0;
+  attachments = u16At f 22;
+  minRaw = u64At f 24;
+  maxRaw = u64At f 32;
+  lowerLimit = u64At f 40;
+  upperLimit = u64At f 48;
+  lowerExtended = u64At f 56;
+  upperExtended = u64At f 64;
 }
 
 -- after the header: 3 for another id, 17 for fewer than 8 links, 2 for the whole. The block length is compared with nothing
@@ -93,7 +93,7 @@ unfoldable pub fieldsOf : List ℕ → Header → Reply ChannelBlock
 fieldsOf s h =
     if not (idAt s 0 idCN) then refusal 3 0
     else if ltb (h .linkCount) 8 then refusal 17 0
-    else needing s (fieldsAt (h .linkCount) + 72) (answer (blockAt s h (fieldsAt (h .linkCount))))
+    else needing s (fieldsAt (h .linkCount) + 72) (answer (blockIn s h (drop (fieldsAt (h .linkCount)) s)))
 
 unfoldable pub channelBlockOf : List ℕ → Reply ChannelBlock
 channelBlockOf s = andThen (headerOf s) (fieldsOf s)
@@ -126,13 +126,15 @@ eightLinks b =
 abbrev pub sixLimits : ChannelBlock → List ℕ
 sixLimits b = b .minRaw ∷ b .maxRaw ∷ b .lowerLimit ∷ b .upperLimit ∷ b .lowerExtended ∷ b .upperExtended ∷ []
 
--- the reserved byte and the attachment count are 0
-unfoldable pub channelBytes : ChannelBlock → List ℕ
-channelBytes b =
-    headerBytes channelHeader ++ les (eightLinks b)
-    ++ (b .channelType ∷ b .syncType ∷ codeOf (b .dataType) ∷ b .bitOffset ∷ [])
+-- the fields before the limits; the reserved byte and the attachment count are 0
+abbrev pub formatBytes : ChannelBlock → List ℕ
+formatBytes b =
+    (b .channelType ∷ b .syncType ∷ codeOf (b .dataType) ∷ b .bitOffset ∷ [])
     ++ le 4 (b .byteOffset) ++ le 4 (b .bitCount) ++ le 4 (b .flags) ++ le 4 (b .invalidationBit)
-    ++ (b .precision ∷ 0 ∷ 0 ∷ 0 ∷ []) ++ les (sixLimits b)
+    ++ (b .precision ∷ 0 ∷ 0 ∷ 0 ∷ [])
+
+unfoldable pub channelBytes : ChannelBlock → List ℕ
+channelBytes b = headerBytes channelHeader ++ les (eightLinks b) ++ formatBytes b ++ les (sixLimits b)
 
 -- only 6
 unfoldable pub channelWritten : List ℕ → ChannelBlock → Outcome ℕ

@@ -13,7 +13,7 @@ use Rattle.definitions.specs.Reply.{answer, if_then_else_}
 use Rattle.definitions.specs.Bytes.{leOf, le, span, u32At, u64At, u64sAt, idAt}
 use Rattle.definitions.specs.Header.{Header, headerIn, headerBytes}
 use Rattle.definitions.specs.DataList.{DataList, idDL, linkLimit, oneLength, listOf, listIn, restIn, restCount, flagsAt, listSize, headerFor, listBytes, Lengths, equal, variable, flagsFor, restFor, unwritable}
-use Rattle.words.proofs.Numbers.{Bytes}
+use Rattle.words.proofs.Numbers.{Bytes, length-u64s}
 use Rattle.words.proofs.Spans.{span-one, span-split}
 use Rattle.words.proofs.Ids.{id-words}
 use Rattle.blocks.proofs.Headers.{header-met}
@@ -33,11 +33,6 @@ pub record Plain (d : DataList) : Type 0 where
 -- what the list is written from: its one length, or its offsets
 abbrev pub lengthsIn : List ℕ → DataList → Lengths
 lengthsIn s d = if oneLength (d .flags) then equal (u64At s (d .restAt)) else variable (u64sAt s (d .restAt) (d .rest))
-
-length-u64s : (n : ℕ) (s : List ℕ) (at : ℕ) → length (u64sAt s at n) ≡ n
-unfolding u64sAt
-length-u64s zero s at = refl
-length-u64s (suc n) s at = ap suc (length-u64s n s (at + 8))
 
 same-header : {g h : Header} → g .id ≡ h .id → g .reserved ≡ h .reserved → g .blockLength ≡ h .blockLength → g .linkCount ≡ h .linkCount → g ≡ h
 same-header {g} {h} ei er eb ek = λ i. record { id = ei i; reserved = er i; blockLength = eb i; linkCount = ek i }

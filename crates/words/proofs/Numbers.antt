@@ -7,7 +7,7 @@ use native.Mathlib.Omega.{arith}
 use lib.ListN.{length, getD, length-append, length-reverse}
 use lib.Arith.{digits-lt}
 use lib.Pow.{pow-add, mod-pow-add, high, low}
-use Rattle.definitions.specs.Bytes.{Order, little, big, leOf, numberOf, le, les}
+use Rattle.definitions.specs.Bytes.{Order, little, big, leOf, numberOf, le, les, u64sAt}
 
 -- every element is a byte, as the logic says it of a slice of them
 abbrev pub Bytes : List ℕ → Type 0
@@ -71,6 +71,11 @@ pub length-les : (xs : List ℕ) → length (les xs) ≡ length xs * 8
 unfolding les
 length-les [] = refl
 length-les (x ∷ xs) = omega (arith, length-append (le 8 x) (les xs), length-les xs, length-le 8 x)
+
+pub length-u64s : (n : ℕ) (s : List ℕ) (at : ℕ) → length (u64sAt s at n) ≡ n
+unfolding u64sAt
+length-u64s zero s at = refl
+length-u64s (suc n) s at = ap suc (length-u64s n s (at + 8))
 
 pub bytes-le : (n x : ℕ) → Bytes (le n x)
 unfolding le

@@ -1,10 +1,10 @@
 -- Spans of a list of bytes, and the numbers that they stand for.
 use mathlib.Core.Path.{_≡_, refl, sym, ap, _∙_}
 use mathlib.Core.List.{List, [], _∷_, _++_, append-assoc}
-use Prim.Native.Nat.{ℕ, zero, suc, _+_, _*_, _^_, _≤_, _<_}
+use Prim.Native.Nat.{ℕ, zero, suc, _+_, _-_, _*_, _^_, _≤_, _<_}
 use native.Mathlib.Omega.{arith}
 use lib.ListN.{length, take, drop, getD, length-take, length-drop}
-use lib.Seq.{drop-cons, getD-drop, getD-take, drop-drop, take-add, take-append-seam, drop-append-seam}
+use lib.Seq.{drop-cons, getD-drop, getD-take, drop-drop, take-all, take-add, take-append-seam, drop-append-seam}
 use Rattle.definitions.specs.Bytes.{Order, little, big, leOf, numberOf, span}
 use Rattle.words.proofs.Numbers.{Bytes, lower, upper, append, below}
 
@@ -32,6 +32,10 @@ span-one s p h = rw (drop-cons s p 0)
 pub span-whole : (s : List ℕ) → span s 0 (length s) ≡ s
 span-whole [] = refl
 span-whole (x ∷ s) = ap (λ (xs : List ℕ). x ∷ xs) (span-whole s)
+
+-- the bytes from a place to the end
+pub span-rest : (s : List ℕ) (p : ℕ) → span s p (length s - p) ≡ drop p s
+span-rest s p = take-all (length s - p) (drop p s) (omega (arith, length-drop p s))
 
 -- bytes between others
 pub span-middle : (front bs rest : List ℕ) → span (front ++ bs ++ rest) (length front) (length bs) ≡ bs

@@ -1,14 +1,14 @@
--- Runs of stores: numbers put into a buffer, and read back.
+-- Runs of stores: numbers put into a buffer, and read back or out of one.
 use mathlib.Core.Path.{_≡_, refl, sym, ap, _∙_}
-use mathlib.Core.List.{List, _++_, append-assoc}
+use mathlib.Core.List.{List, _++_, append-assoc, append-nil}
 use Prim.Native.Nat.{ℕ, suc, _+_, _-_, _*_, _/_, _%_, _^_, _≤_, _<_}
 use native.Mathlib.Numerals.{add-one}
 use native.Mathlib.Omega.{arith}
-use lib.ListN.{length, take, drop, set, getD}
+use lib.ListN.{length, take, drop, drop-of-length-le, set, getD}
 use lib.Seq.{sets, sets-eq, drop-cons, take-at, drop-at, length-take-le}
-use Rattle.definitions.specs.Bytes.{leOf, le, les, span}
-use Rattle.definitions.proofs.Stores.{sets-append}
-use Rattle.words.proofs.Numbers.{length-le, le-back}
+use Rattle.definitions.specs.Bytes.{leOf, le, les, span, u64At, u64sAt}
+use Rattle.definitions.proofs.Stores.{sets-append, sets-front}
+use Rattle.words.proofs.Numbers.{length-le, length-u64s, le-back}
 use Rattle.words.proofs.Spans.{span-middle}
 
 -- a turn of the loop that stores one byte after another
@@ -28,6 +28,28 @@ turn-number out xs at i h new =
     let x : ℕ = getD xs i 0 in
     let e : at + (i + 1) * 8 ≡ at + i * 8 + length (le 8 x) = omega (arith, length-le 8 x) in
     rw (new, e, add-one, drop-cons xs i 0) (sym (sets-append out (at + i * 8) (le 8 x) (les (drop (suc i) xs))))
+
+-- a turn of the loop that reads one number after another
+pub turn-read : (s numbers : List ℕ) (at i n x : ℕ) → i < n → x ≡ u64At s (at + i * 8)
+    → sets (set numbers i x) (i + 1) (u64sAt s (at + (i + 1) * 8) (n - (i + 1))) ≡ sets numbers i (u64sAt s (at + i * 8) (n - i))
+unfolding u64sAt
+turn-read s numbers at i n x h ex =
+    let e : n - i ≡ suc (n - (i + 1)) = omega arith in
+    let f : at + (i + 1) * 8 ≡ at + i * 8 + 8 = omega arith in
+    rw (e, f, add-one, ex)
+
+-- a number for every place
+sets-all : (l xs : List ℕ) → length xs ≡ length l → sets l 0 xs ≡ xs
+sets-all l xs e =
+    let none : length l ≤ length xs = omega arith in
+    sets-front l xs (omega arith) ∙ ap (λ (r : List ℕ). xs ++ r) (drop-of-length-le l none) ∙ append-nil xs
+
+-- before the first turn all numbers are left
+pub none-read : (s numbers : List ℕ) (at : ℕ) → sets numbers 0 (u64sAt s (at + 0 * 8) (length numbers - 0)) ≡ u64sAt s at (length numbers)
+none-read s numbers at =
+    let start : at + 0 * 8 ≡ at = omega arith in
+    let all : length numbers - 0 ≡ length numbers = omega arith in
+    rw (start, all) (sets-all numbers (u64sAt s at (length numbers)) (length-u64s (length numbers) s at))
 
 -- what was stored is there
 span-sets : (l bs : List ℕ) (at : ℕ) → at + length bs ≤ length l → span (sets l at bs) at (length bs) ≡ bs

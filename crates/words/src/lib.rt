@@ -13,6 +13,7 @@ pub use field::near_le;
 pub use id::id_at;
 pub use read::few_le_bytes;
 pub use read::le_bytes;
+pub use read::read_all_le;
 pub use read::read_u16_le;
 pub use read::read_u32_le;
 pub use read::read_u64_be;

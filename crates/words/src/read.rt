@@ -2,7 +2,7 @@
 ghost use mathlib.Core.Path.{_≡_};
 ghost use Prim.Native.Nat.{_+_, _*_, _^_, _≤_, _<_};
 ghost use lib.ListN.{length};
-ghost use Rattle.definitions.specs.Bytes.{little, big, numberOf, le, span, u16At, u32At, u64At};
+ghost use Rattle.definitions.specs.Bytes.{little, big, numberOf, le, span, u16At, u32At, u64At, u64sAt};
 
 // The number x of i bytes with the byte b above it
 fn with_byte_above(x: u64, i: usize, b: u8) -> u64
@@ -98,4 +98,16 @@ pub fn read_u64_be(s: &[u8], at: usize) -> u64
     ensures { λ r. ⌜ r ≡ numberOf big (span (now (s .entry)) at 8) ⌝ }
 {
     be_bytes(s, at, 8)
+}
+
+// As many numbers of eight bytes, from `at` on, as `numbers` has places
+pub fn read_all_le(s: &[u8], at: usize, numbers: &mut [u64])
+    requires { ⌜ at + length (now numbers) * 8 ≤ length (now s) ⌝ }
+    ensures { λ _. ⌜ now (numbers .exit) ≡ u64sAt (now (s .entry)) at (length (now (numbers .entry))) ⌝ }
+{
+    let mut i = 0;
+    while i < numbers.len() {
+        numbers[i] = read_u64_le(s, at + i * 8);
+        i += 1;
+    }
 }
