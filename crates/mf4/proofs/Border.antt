@@ -9,17 +9,21 @@ use Rattle.definitions.specs.Unicode.{latin1, utf8, utf16, textWritten}
 use Rattle.definitions.specs.Header.{headerOf, headerWritten}
 use Rattle.definitions.specs.DataType.{typeOf, codeOf, defaultBits}
 use Rattle.definitions.specs.DataList.{listOf, listWritten, equal, variable}
+use Rattle.definitions.specs.ChannelBlock.{channelBlockOf, channelWritten}
 use Rattle.definitions.specs.Channel.{valueOf, validOf, validValueOf, recordDouble}
 use Rattle.definitions.specs.Chain.{dataLength, fetched, valueFetched}
 use Rattle.mf4.specs.Clauses.{Slice, Allows}
 use Rattle.replies.specs.Replies.{flagC, writtenC, headerC, headerGiven, listC, textC, returned, returnedBy}
 use Rattle.replies.specs.Values.{channelGiven, valueC, validValueC, lengthC, fetchedC}
+use Rattle.replies.specs.Channels.{channelC, blockGiven}
 use Rattle.replies.specs.declared.written.Mf4Written.{Mf4Written}
 use Rattle.replies.specs.declared.header.Mf4BlockHeader.{Mf4BlockHeader}
 use Rattle.replies.specs.declared.header.Mf4Header.{Mf4Header}
 use Rattle.replies.specs.declared.list.Mf4List.{Mf4List}
 use Rattle.replies.specs.declared.texts.Mf4Text.{Mf4Text}
 use Rattle.replies.specs.declared.channel.Mf4Channel.{Mf4Channel}
+use Rattle.replies.specs.declared.channel_block.Mf4ChannelBlock.{Mf4ChannelBlock}
+use Rattle.replies.specs.declared.channel_block.Mf4ChannelReply.{Mf4ChannelReply}
 use Rattle.replies.specs.declared.values.Mf4Value.{Mf4Value}
 use Rattle.replies.specs.declared.valid_values.Mf4ValidValue.{Mf4ValidValue}
 use Rattle.replies.specs.declared.fetches.Mf4Length.{Mf4Length}
@@ -38,6 +42,10 @@ use Rattle.mf4.proofs.mf4_write_list_equal.Kinds as mf4-write-list-equa
 use Rattle.mf4.proofs.mf4_write_list_equal.Reads as mf4-write-list-equal
 use Rattle.mf4.proofs.mf4_write_list_variable.Kinds as mf4-write-list-variable-kinds
 use Rattle.mf4.proofs.mf4_write_list_variable.Reads as mf4-write-list-variable
+use Rattle.mf4.proofs.mf4_read_channel.Kinds as mf4-read-channel-kinds
+use Rattle.mf4.proofs.mf4_read_channel.Reads as mf4-read-channel
+use Rattle.mf4.proofs.mf4_write_channel.Kinds as mf4-write-channel-kinds
+use Rattle.mf4.proofs.mf4_write_channel.Reads as mf4-write-channel
 use Rattle.mf4.proofs.mf4_decode_value.Kinds as mf4-decode-value-kinds
 use Rattle.mf4.proofs.mf4_decode_value.Reads as mf4-decode-value
 use Rattle.mf4.proofs.mf4_check_validity.Kinds as mf4-check-validity-kinds
@@ -95,6 +103,16 @@ pub mf4-write-list-variable-arguments : (κs : Lfts 3) (next : ℕ) (links offse
     → Allows 3 mf4-write-list-variable-kinds.ps mf4-write-list-variable-kinds.r mf4-write-list-variable.Learnt κs (next, (links, (offsets, (out, tt)))) y (tt, (tt, (tt, (after, tt))))
     ≡ (returned y after ≡ returnedBy writtenC (listWritten (out .now) next (links .now) (variable (offsets .now))))
 mf4-write-list-variable-arguments κs next links offsets out y after = refl
+
+pub mf4-read-channel-arguments : (κs : Lfts 1) (bytes : Slice) (y : Mf4ChannelReply)
+    → Allows 1 mf4-read-channel-kinds.ps mf4-read-channel-kinds.r mf4-read-channel.Learnt κs (bytes, tt) y (tt, tt)
+    ≡ (y ≡ channelC (channelBlockOf (bytes .now)))
+mf4-read-channel-arguments κs bytes y = refl
+
+pub mf4-write-channel-arguments : (κs : Lfts 1) (block : Mf4ChannelBlock) (out : Slice) (y : Mf4Written) (after : List ℕ)
+    → Allows 1 mf4-write-channel-kinds.ps mf4-write-channel-kinds.r mf4-write-channel.Learnt κs (block, (out, tt)) y (tt, (after, tt))
+    ≡ (returned y after ≡ returnedBy writtenC (channelWritten (out .now) (blockGiven block)))
+mf4-write-channel-arguments κs block out y after = refl
 
 pub mf4-decode-value-arguments : (κs : Lfts 1) (bytes : Slice) (recordIdSize : ℕ) (channel : Mf4Channel) (y : Mf4Value)
     → Allows 1 mf4-decode-value-kinds.ps mf4-decode-value-kinds.r mf4-decode-value.Learnt κs (bytes, (recordIdSize, (channel, tt))) y (tt, (tt, (tt, tt)))

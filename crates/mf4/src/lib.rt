@@ -1,4 +1,5 @@
 // The calls for C, one thin function each; include/mf4.h says what they take, answer and refuse.
+mod channel_block;
 mod fetches;
 mod header;
 mod list;
@@ -8,6 +9,8 @@ mod valid_values;
 mod validity;
 mod values;
 
+pub use channel_block::mf4_read_channel;
+pub use channel_block::mf4_write_channel;
 pub use fetches::mf4_data_length;
 pub use fetches::mf4_read_record;
 pub use fetches::mf4_record_value;
@@ -18,6 +21,8 @@ pub use list::mf4_write_list_equal;
 pub use list::mf4_write_list_variable;
 pub use replies::Mf4BlockHeader;
 pub use replies::Mf4Channel;
+pub use replies::Mf4ChannelBlock;
+pub use replies::Mf4ChannelReply;
 pub use replies::Mf4Fetched;
 pub use replies::Mf4Header;
 pub use replies::Mf4Length;

@@ -6,6 +6,8 @@ use Rattle.replies.specs.declared.header.Mf4Header.{Mf4Header}
 use Rattle.replies.specs.declared.list.Mf4List.{Mf4List}
 use Rattle.replies.specs.declared.texts.Mf4Text.{Mf4Text}
 use Rattle.replies.specs.declared.channel.Mf4Channel.{Mf4Channel}
+use Rattle.replies.specs.declared.channel_block.Mf4ChannelBlock.{Mf4ChannelBlock}
+use Rattle.replies.specs.declared.channel_block.Mf4ChannelReply.{Mf4ChannelReply}
 use Rattle.replies.specs.declared.values.Mf4Value.{Mf4Value}
 use Rattle.replies.specs.declared.valid_values.Mf4ValidValue.{Mf4ValidValue}
 use Rattle.replies.specs.declared.fetches.Mf4Length.{Mf4Length}
@@ -16,6 +18,8 @@ use Rattle.replies.proofs.header.Mf4Header as mf4-header
 use Rattle.replies.proofs.list.Mf4List as mf4-list
 use Rattle.replies.proofs.texts.Mf4Text as mf4-text
 use Rattle.replies.proofs.channel.Mf4Channel as mf4-channel
+use Rattle.replies.proofs.channel_block.Mf4ChannelBlock as mf4-channel-block
+use Rattle.replies.proofs.channel_block.Mf4ChannelReply as mf4-channel-reply
 use Rattle.replies.proofs.values.Mf4Value as mf4-value
 use Rattle.replies.proofs.valid_values.Mf4ValidValue as mf4-valid-value
 use Rattle.replies.proofs.fetches.Mf4Length as mf4-length
@@ -38,6 +42,12 @@ mf4-text-fields s = refl
 
 pub mf4-channel-fields : (s : Mf4Channel) → mf4-channel.struct .as-values s ≡ (s .«data_type», (s .«channel_type», (s .«bit_offset», (s .«byte_offset», (s .«bit_count», (s .flags, (s .«pos_invalidation_bit», (s .«data», tt))))))))
 mf4-channel-fields s = refl
+
+pub mf4-channel-block-fields : (s : Mf4ChannelBlock) → mf4-channel-block.struct .as-values s ≡ (s .header, (s .«next_ch_addr», (s .«component_addr», (s .«name_addr», (s .«source_addr», (s .«conversion_addr», (s .«unit_addr», (s .«comment_addr», (s .«more_links_at», (s .«more_links», (s .channel, (s .«sync_type», (s .precision, (s .reserved1, (s .«attachment_nr», (s .«min_raw_value», (s .«max_raw_value», (s .«lower_limit», (s .«upper_limit», (s .«lower_ext_limit», (s .«upper_ext_limit», tt)))))))))))))))))))))
+mf4-channel-block-fields s = refl
+
+pub mf4-channel-reply-fields : (s : Mf4ChannelReply) → mf4-channel-reply.struct .as-values s ≡ (s .reply, (s .told, (s .block, tt)))
+mf4-channel-reply-fields s = refl
 
 pub mf4-value-fields : (s : Mf4Value) → mf4-value.struct .as-values s ≡ (s .reply, (s .kind, (s .told, (s .number, (s .at, (s .length, tt))))))
 mf4-value-fields s = refl

@@ -10,16 +10,20 @@ use lib.Dec.{ltb, eqb}
 use lib.Ieee.{binary64, ofBits}
 use borrow.Author.Tests.{lt-ltb, le-ltb, ne-eqb}
 use Rattle.definitions.specs.Reply.{Reply, answer, refusal, if_then_else_}
-use Rattle.definitions.specs.Bytes.{twosComplement}
-use Rattle.definitions.specs.Unicode.{TextWritten}
+use Rattle.definitions.specs.Bytes.{little, big, twosComplement}
+use Rattle.definitions.specs.Unicode.{TextWritten, latin1, utf8, utf16}
 use Rattle.definitions.specs.Header.{Header}
 use Rattle.definitions.specs.DataList.{DataList}
+use Rattle.definitions.specs.DataType.{DataType, unsignedInteger, signedInteger, float, complex, string, byteArray, mimeSample, mimeStream, canOpenDate, canOpenTime, unknown, typeOf}
+use Rattle.definitions.specs.ChannelBlock.{ChannelBlock}
 use Rattle.definitions.specs.Channel.{Value, ValidValue, unsigned, signed, double, text, bytes, sample, stream, unknownValue, doubleValue}
 use Rattle.replies.specs.Replies.{flagC, writtenC, headerC, headerGiven, listC, textC}
+use Rattle.replies.specs.Channels.{typeC, blockC, blockGiven, channelC}
 use Rattle.replies.specs.Values.{wordOf, decodedC, valueC, validValueC, lengthC, fetchedC}
 use Rattle.replies.specs.declared.written.Mf4Written.{Mf4Written}
 use Rattle.replies.specs.declared.header.Mf4Header.{Mf4Header}
 use Rattle.replies.specs.declared.list.Mf4List.{Mf4List}
+use Rattle.replies.specs.declared.channel_block.Mf4ChannelReply.{Mf4ChannelReply}
 use Rattle.replies.specs.declared.texts.Mf4Text.{Mf4Text}
 use Rattle.replies.specs.declared.values.Mf4Value.{Mf4Value}
 use Rattle.replies.specs.declared.valid_values.Mf4ValidValue.{Mf4ValidValue}
@@ -95,6 +99,66 @@ listAgain s =
 
 pub list-told : (r : Reply DataList) → Tellable Any r → listAgain (listC r) ≡ r
 list-told = told-by Any listC listAgain (λ a h. refl) (again-refused _)
+
+-- a type comes back from the code that tells it, an unknown one too
+pub type-back : (t : DataType) → typeOf (typeC t) ≡ t
+type-back (unsignedInteger little) = refl
+type-back (unsignedInteger big) = refl
+type-back (signedInteger little) = refl
+type-back (signedInteger big) = refl
+type-back (float little) = refl
+type-back (float big) = refl
+type-back (complex little) = refl
+type-back (complex big) = refl
+type-back (string latin1) = refl
+type-back (string utf8) = refl
+type-back (string (utf16 little)) = refl
+type-back (string (utf16 big)) = refl
+type-back byteArray = refl
+type-back mimeSample = refl
+type-back mimeStream = refl
+type-back canOpenDate = refl
+type-back canOpenTime = refl
+type-back unknown = refl
+
+-- and with it the block
+pub block-back : (b : ChannelBlock) → blockGiven (blockC b) ≡ b
+block-back b = λ i. record {
+  header = b .header;
+  nextChannel = b .nextChannel;
+  component = b .component;
+  name = b .name;
+  source = b .source;
+  conversion = b .conversion;
+  dataLink = b .dataLink;
+  unit = b .unit;
+  comment = b .comment;
+  moreAt = b .moreAt;
+  more = b .more;
+  channelType = b .channelType;
+  syncType = b .syncType;
+  dataType = type-back (b .dataType) i;
+  bitOffset = b .bitOffset;
+  byteOffset = b .byteOffset;
+  bitCount = b .bitCount;
+  flags = b .flags;
+  invalidationBit = b .invalidationBit;
+  precision = b .precision;
+  reserved = b .reserved;
+  attachments = b .attachments;
+  minRaw = b .minRaw;
+  maxRaw = b .maxRaw;
+  lowerLimit = b .lowerLimit;
+  upperLimit = b .upperLimit;
+  lowerExtended = b .lowerExtended;
+  upperExtended = b .upperExtended;
+}
+
+abbrev pub channelAgain : Mf4ChannelReply → Reply ChannelBlock
+channelAgain s = again (s .reply) (s .told) (blockGiven (s .block))
+
+pub channel-told : (r : Reply ChannelBlock) → Tellable Any r → channelAgain (channelC r) ≡ r
+channel-told = told-by Any channelC channelAgain (λ a h. ap answer (block-back a)) (again-refused _)
 
 -- ---- flags and texts
 

@@ -1,5 +1,6 @@
 // What C is told and what it gives: each answer of the library as a struct, and each struct as what the library takes.
 mod channel;
+mod channel_block;
 mod fetches;
 mod header;
 mod list;
@@ -10,6 +11,10 @@ mod written;
 
 pub use channel::Mf4Channel;
 pub use channel::channel_of;
+pub use channel_block::Mf4ChannelBlock;
+pub use channel_block::Mf4ChannelReply;
+pub use channel_block::block_of;
+pub use channel_block::channel_reply;
 pub use fetches::Mf4Fetched;
 pub use fetches::Mf4Length;
 pub use fetches::fetched_reply;

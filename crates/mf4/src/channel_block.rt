@@ -1,0 +1,26 @@
+// Channel blocks, read and written.
+ghost use mathlib.Core.Path.{_≡_};
+ghost use Rattle.definitions.specs.ChannelBlock.{channelBlockOf, channelWritten};
+ghost use Rattle.replies.specs.Replies.{writtenC, returned, returnedBy};
+ghost use Rattle.replies.specs.Channels.{channelC, blockGiven};
+use blocks::ChannelBlock;
+use replies::Mf4ChannelBlock;
+use replies::Mf4ChannelReply;
+use replies::Mf4Written;
+use replies::block_of;
+use replies::channel_reply;
+use replies::written_reply;
+
+#[no_mangle]
+pub extern "C" fn mf4_read_channel(bytes: &[u8]) -> Mf4ChannelReply
+    ensures { λ r. ⌜ r ≡ channelC (channelBlockOf (now (bytes .entry))) ⌝ }
+{
+    channel_reply(ChannelBlock::from_bytes(bytes))
+}
+
+#[no_mangle]
+pub extern "C" fn mf4_write_channel(block: Mf4ChannelBlock, out: &mut [u8]) -> Mf4Written
+    ensures { λ r. ⌜ returned r (now (out .exit)) ≡ returnedBy writtenC (channelWritten (now (out .entry)) (blockGiven block)) ⌝ }
+{
+    written_reply(block_of(block).to_bytes(out))
+}

@@ -1,0 +1,23 @@
+use mathlib.Core.Path.{ap}
+use Prim.Native.Nat.{ℕ}
+use borrow.Author.Needs.{needs}
+use Rattle.replies.proofs.channel_block.description_told.Statement.{statement}
+use Rattle.replies.proofs.channel_block.description_told.Tie as tie
+
+returns : tie.Need-returns
+returns c =
+    let d = c .before .args .channel in
+    λ i.
+    record {
+      «data_type» = c .code-told .ensures i;
+      «channel_type» = d .«channel_type»;
+      «bit_offset» = d .«bit_offset»;
+      «byte_offset» = d .«byte_offset»;
+      «bit_count» = d .«bit_count»;
+      flags = d .flags;
+      «pos_invalidation_bit» = d .«pos_invalidation_bit»;
+      «data» = d .«data»;
+    }
+
+pub description-told-spec : {M : Type 1} → statement M
+description-told-spec = tie.close (tie.spec (λ c κs. search needs) returns)

@@ -1,0 +1,136 @@
+-- Channel blocks as C sees them.
+use Prim.Native.Nat.{ℕ}
+use Rattle.definitions.specs.Reply.{Reply, answer, refusal}
+use Rattle.definitions.specs.DataType.{DataType, unsignedInteger, signedInteger, float, complex, string, byteArray, mimeSample, mimeStream, canOpenDate, canOpenTime, unknown, typeOf, codeOf}
+use Rattle.definitions.specs.Channel.{Channel}
+use Rattle.definitions.specs.ChannelBlock.{ChannelBlock, described}
+use Rattle.replies.specs.Replies.{headerFields, noHeader, headerGiven}
+use Rattle.replies.specs.declared.channel.Mf4Channel.{Mf4Channel}
+use Rattle.replies.specs.declared.channel_block.Mf4ChannelBlock.{Mf4ChannelBlock}
+use Rattle.replies.specs.declared.channel_block.Mf4ChannelReply.{Mf4ChannelReply}
+
+-- a type by its code; an unknown one by 255, which no type has
+abbrev pub typeC : DataType → ℕ
+typeC (unsignedInteger o) = codeOf (unsignedInteger o)
+typeC (signedInteger o) = codeOf (signedInteger o)
+typeC (float o) = codeOf (float o)
+typeC (complex o) = codeOf (complex o)
+typeC (string e) = codeOf (string e)
+typeC byteArray = codeOf byteArray
+typeC mimeSample = codeOf mimeSample
+typeC mimeStream = codeOf mimeStream
+typeC canOpenDate = codeOf canOpenDate
+typeC canOpenTime = codeOf canOpenTime
+typeC unknown = 255
+
+-- a description, as the calls that decode take it
+abbrev pub descriptionC : Channel → Mf4Channel
+descriptionC c = record {
+  «data_type» = typeC (c .dataType);
+  «channel_type» = c .channelType;
+  «bit_offset» = c .bitOffset;
+  «byte_offset» = c .byteOffset;
+  «bit_count» = c .bitCount;
+  flags = c .flags;
+  «pos_invalidation_bit» = c .invalidationBit;
+  «data» = c .dataLink;
+}
+
+abbrev pub noDescription : Mf4Channel
+noDescription = record {
+  «data_type» = 0;
+  «channel_type» = 0;
+  «bit_offset» = 0;
+  «byte_offset» = 0;
+  «bit_count» = 0;
+  flags = 0;
+  «pos_invalidation_bit» = 0;
+  «data» = 0;
+}
+
+abbrev pub blockC : ChannelBlock → Mf4ChannelBlock
+blockC b = record {
+  header = headerFields (b .header);
+  «next_ch_addr» = b .nextChannel;
+  «component_addr» = b .component;
+  «name_addr» = b .name;
+  «source_addr» = b .source;
+  «conversion_addr» = b .conversion;
+  «unit_addr» = b .unit;
+  «comment_addr» = b .comment;
+  «more_links_at» = b .moreAt;
+  «more_links» = b .more;
+  channel = descriptionC (described b);
+  «sync_type» = b .syncType;
+  precision = b .precision;
+  reserved1 = b .reserved;
+  «attachment_nr» = b .attachments;
+  «min_raw_value» = b .minRaw;
+  «max_raw_value» = b .maxRaw;
+  «lower_limit» = b .lowerLimit;
+  «upper_limit» = b .upperLimit;
+  «lower_ext_limit» = b .lowerExtended;
+  «upper_ext_limit» = b .upperExtended;
+}
+
+abbrev pub noBlock : Mf4ChannelBlock
+noBlock = record {
+  header = noHeader;
+  «next_ch_addr» = 0;
+  «component_addr» = 0;
+  «name_addr» = 0;
+  «source_addr» = 0;
+  «conversion_addr» = 0;
+  «unit_addr» = 0;
+  «comment_addr» = 0;
+  «more_links_at» = 0;
+  «more_links» = 0;
+  channel = noDescription;
+  «sync_type» = 0;
+  precision = 0;
+  reserved1 = 0;
+  «attachment_nr» = 0;
+  «min_raw_value» = 0;
+  «max_raw_value» = 0;
+  «lower_limit» = 0;
+  «upper_limit» = 0;
+  «lower_ext_limit» = 0;
+  «upper_ext_limit» = 0;
+}
+
+-- the block that C gives
+abbrev pub blockGiven : Mf4ChannelBlock → ChannelBlock
+blockGiven b = record {
+  header = headerGiven (b .header);
+  nextChannel = b .«next_ch_addr»;
+  component = b .«component_addr»;
+  name = b .«name_addr»;
+  source = b .«source_addr»;
+  conversion = b .«conversion_addr»;
+  dataLink = b .channel .«data»;
+  unit = b .«unit_addr»;
+  comment = b .«comment_addr»;
+  moreAt = b .«more_links_at»;
+  more = b .«more_links»;
+  channelType = b .channel .«channel_type»;
+  syncType = b .«sync_type»;
+  dataType = typeOf (b .channel .«data_type»);
+  bitOffset = b .channel .«bit_offset»;
+  byteOffset = b .channel .«byte_offset»;
+  bitCount = b .channel .«bit_count»;
+  flags = b .channel .flags;
+  invalidationBit = b .channel .«pos_invalidation_bit»;
+  precision = b .precision;
+  reserved = b .reserved1;
+  attachments = b .«attachment_nr»;
+  minRaw = b .«min_raw_value»;
+  maxRaw = b .«max_raw_value»;
+  lowerLimit = b .«lower_limit»;
+  upperLimit = b .«upper_limit»;
+  lowerExtended = b .«lower_ext_limit»;
+  upperExtended = b .«upper_ext_limit»;
+}
+
+abbrev pub channelC : Reply ChannelBlock → Mf4ChannelReply
+channelC (answer b) = record { reply = 0; told = 0; block = blockC b }
+channelC (refusal n t) = record { reply = n; told = t; block = noBlock }
