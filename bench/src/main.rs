@@ -1,7 +1,8 @@
 //! The speed of the library and of mf4-rs 3.8.0, on the same input, in the same loops.
 //!
-//!     bench count          makes the passes that callgrind counts, and prints a line for each
-//!     bench table COUNTS   measures times and prints the table; the file COUNTS has those lines, each with its count
+//!     bench count            makes the passes that callgrind or an emulator counts, and prints a line for each
+//!     bench table COUNTS     measures times and prints the table; the file COUNTS has those lines, each with its count
+//!     bench untimed COUNTS   prints the table without times
 //!
 //! A row has up to four sides: the library through its archive; the crate at the same kind of border, where each call is
 //! that of a function compiled apart; the crate inlined, compiled together with its loop; and a copy of the bytes that
@@ -31,8 +32,9 @@ fn main() -> ExitCode {
     let words: Vec<String> = std::env::args().skip(1).collect();
     let done = match words.iter().map(String::as_str).collect::<Vec<_>>()[..] {
         ["count"] => measure::count(&rows::all()),
-        ["table", counts] => table::print(&rows::all(), counts),
-        _ => Err("usage: bench count | bench table COUNTS".to_string()),
+        ["table", counts] => table::print(&rows::all(), counts, measure::times),
+        ["untimed", counts] => table::print(&rows::all(), counts, |_| Ok(Vec::new())),
+        _ => Err("usage: bench count | bench table COUNTS | bench untimed COUNTS".to_string()),
     };
     if let Err(said) = done {
         eprintln!("bench: {said}");

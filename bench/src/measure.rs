@@ -1,4 +1,4 @@
-//! Times by the clock, and the passes that callgrind counts.
+//! Times by the clock, and the passes that callgrind or an emulator counts.
 
 use std::hint::black_box;
 use std::time::Instant;
@@ -53,7 +53,7 @@ fn checked(plan: &Plan, items: usize) -> Result<Row, String> {
     Ok(row)
 }
 
-// callgrind knows this function by its name.
+// callgrind knows this function by its name, and so does count.c.
 #[no_mangle]
 #[inline(never)]
 fn counted_pass(pass: &Pass, items: usize) {

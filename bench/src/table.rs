@@ -3,7 +3,6 @@
 use std::collections::HashMap;
 use std::fs;
 
-use crate::measure;
 use crate::row::Plan;
 
 const HEAD: &str = "\
@@ -13,12 +12,12 @@ const HEAD: &str = "\
 /// The instructions an item takes, by row and side.
 type Counts = HashMap<(String, String), f64>;
 
-pub fn print(plans: &[Plan], counts: &str) -> Result<(), String> {
+pub fn print(plans: &[Plan], counts: &str, times: impl Fn(&Plan) -> Result<Vec<f64>, String>) -> Result<(), String> {
     let text = fs::read_to_string(counts).map_err(|said| format!("{counts}: {said}"))?;
     let counts = text.lines().map(counted).collect::<Option<Counts>>().ok_or(format!("{counts}: a strange line"))?;
     println!("{HEAD}");
     for plan in plans {
-        println!("{}", line(plan, &counts, &measure::times(plan)?));
+        println!("{}", line(plan, &counts, &times(plan)?));
     }
     Ok(())
 }
@@ -36,15 +35,16 @@ fn counted(line: &str) -> Option<((String, String), f64)> {
 fn line(plan: &Plan, counts: &Counts, times: &[f64]) -> String {
     let instructions = |side: &str| counts.get(&(plan.name.clone(), side.to_string())).copied();
     let (ours, border, inlined, copy) = match *times {
-        [ours, border, inlined, copy] => (ours, Some(border), Some(inlined), copy),
-        [ours, copy] => (ours, None, None, copy),
+        [ours, border, inlined, copy] => (Some(ours), Some(border), Some(inlined), Some(copy)),
+        [ours, copy] => (Some(ours), None, None, Some(copy)),
+        [] => (None, None, None, None),
         _ => panic!("a row with another number of sides"),
     };
     let cells = [
-        number(Some(ours)),
+        number(ours),
         number(border),
         number(inlined),
-        number(Some(copy)),
+        number(copy),
         ratio(ours, border),
         ratio(ours, inlined),
         whole(instructions("ours")),
@@ -63,8 +63,8 @@ fn number(time: Option<f64>) -> String {
     }
 }
 
-fn ratio(ours: f64, theirs: Option<f64>) -> String {
-    theirs.map_or("-".to_string(), |theirs| format!("{:.2}", ours / theirs))
+fn ratio(ours: Option<f64>, theirs: Option<f64>) -> String {
+    ours.zip(theirs).map_or("-".to_string(), |(ours, theirs)| format!("{:.2}", ours / theirs))
 }
 
 fn whole(instructions: Option<f64>) -> String {
