@@ -85,16 +85,16 @@ block-read s f h links limits type byte count flags position attached =
 -- ---- written
 
 module _ (x y z t : ℕ) (hx : x < 256) (hy : y < 256) (hz : z < 256) (ht : t < 256) where
-  bytes : Bytes (x ∷ y ∷ z ∷ t ∷ [])
-  bytes zero = hx
-  bytes (suc zero) = hy
-  bytes (suc (suc zero)) = hz
-  bytes (suc (suc (suc zero))) = ht
-  bytes (suc (suc (suc (suc i)))) = omega arith
+  pub four-below : Bytes (x ∷ y ∷ z ∷ t ∷ [])
+  four-below zero = hx
+  four-below (suc zero) = hy
+  four-below (suc (suc zero)) = hz
+  four-below (suc (suc (suc zero))) = ht
+  four-below (suc (suc (suc (suc i)))) = omega arith
 
   -- the word of four bytes has these
   pub four-bytes : (w : ℕ) → w ≡ u32At (x ∷ y ∷ z ∷ t ∷ []) 0 → le 4 w ≡ x ∷ y ∷ z ∷ t ∷ []
-  four-bytes w e = ap (le 4) e ∙ back-le (x ∷ y ∷ z ∷ t ∷ []) bytes
+  four-bytes w e = ap (le 4) e ∙ back-le (x ∷ y ∷ z ∷ t ∷ []) four-below
 
 -- one store more, of bytes as another law names them
 store-then : (l : List ℕ) (i k : ℕ) (xs ys : List ℕ) {a b stored : List ℕ} → stored ≡ ys → a ≡ sets l i xs → b ≡ sets a k stored → k ≡ i + length xs

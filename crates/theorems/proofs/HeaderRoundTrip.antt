@@ -1,15 +1,19 @@
 -- A header that is written and then read, or read and then written, is the same.
 use mathlib.Core.Path.{_≡_, refl, sym, ap, ap₂, _∙_}
-use mathlib.Core.List.{List, [], _++_, append-assoc}
+use mathlib.Core.Bool.{true}
+use mathlib.Core.List.{List, [], _∷_, _++_, append-assoc}
 use Prim.Native.Nat.{ℕ, _^_, _≤_, _<_}
 use native.Mathlib.Omega.{arith}
 use lib.ListN.{length, take, length-append}
+use borrow.Author.Tests.{eqb-true}
 use Rattle.definitions.specs.Reply.{answer}
-use Rattle.definitions.specs.Bytes.{le, u32At, u64At}
+use Rattle.definitions.specs.Bytes.{leOf, le, span, u32At, u64At, idAt}
 use Rattle.definitions.specs.Header.{Header, headerIn, headerOf, headerBytes}
 use Rattle.words.proofs.Numbers.{Bytes, length-le}
 use Rattle.words.proofs.Spans.{span-split}
+use Rattle.words.proofs.Ids.{id-words}
 use Rattle.blocks.proofs.Headers.{header-met, header-answered, length-header}
+use Rattle.blocks.proofs.Channels.{four-below}
 use Rattle.theorems.proofs.Rewritten.{number-read, number-written}
 
 -- the fields fit in their bytes
@@ -62,3 +66,13 @@ header-read-written s h b e =
     (ap₂ (λ (x y : List ℕ). x ++ y) (number-written s 0 4 b (omega arith)) (number-written s 4 4 b (omega arith)) ∙ sym (span-split s 0 4 4))
     (number-written s 8 8 b (omega arith)) ∙ sym (span-split s 0 8 8))
     (number-written s 16 8 b (omega arith)) ∙ sym (span-split s 0 16 8))
+
+-- a header with the id that was found, and with the fields as they were read
+pub named-header : (s : List ℕ) (h : Header) (x y z t : ℕ) → Bytes s → x < 256 → y < 256 → z < 256 → t < 256 → 24 ≤ length s
+    → idAt s 0 (x ∷ y ∷ z ∷ t ∷ []) ≡ true → h .id ≡ leOf (x ∷ y ∷ z ∷ t ∷ []) → h .reserved ≡ u32At s 4 → h .blockLength ≡ u64At s 8
+    → h .linkCount ≡ u64At s 16 → headerBytes h ≡ span s 0 24
+named-header s h x y z t b hx hy hz ht l named ei er eb ek =
+    let id : List ℕ = x ∷ y ∷ z ∷ t ∷ [] in
+    let same : u32At s 0 ≡ leOf id = eqb-true (u32At s 0) (u32At id 0) (id-words s id 0 (omega arith) (omega arith) b (four-below x y z t hx hy hz ht) refl refl ∙ named) in
+    let e : h ≡ headerIn s = λ i. record { id = (ei ∙ sym same) i; reserved = er i; blockLength = eb i; linkCount = ek i } in
+    ap headerBytes e ∙ header-read-written s (headerIn s) b (header-met s l)

@@ -2,9 +2,13 @@ pub mod WorkedExamples
 pub mod TypeCodes
 pub mod Rewritten
 pub mod HeaderRoundTrip
+pub mod HeaderAnswers
 pub mod ListAnswers
 pub mod ListWrittenRead
 pub mod ListReadWritten
+pub mod ChannelAnswers
+pub mod ChannelWrittenRead
+pub mod ChannelReadWritten
 pub mod BlocksStand
 pub mod AcceptedChains
 pub mod NoSecondReply

@@ -1,5 +1,5 @@
 -- When a data list is answered: exactly then, with the list that stands in the bytes.
-use mathlib.Core.Path.{_≡_, refl, sym, ap, _∙_}
+use mathlib.Core.Path.{_≡_, refl, _∙_}
 use mathlib.Core.List.{List}
 use mathlib.Core.Bool.{Bool, true, false, not}
 use Prim.Native.Nat.{ℕ, _+_, _*_, _≤_, _<_}
@@ -7,12 +7,13 @@ use native.Mathlib.Omega.{arith}
 use lib.ListN.{length}
 use lib.Dec.{eqb}
 use borrow.Author.Tests.{eqb-false}
-use Rattle.definitions.specs.Reply.{Reply, answer, refusal, if_then_else_, andThen, needing}
+use Rattle.definitions.specs.Reply.{answer, refusal, if_then_else_, needing}
 use Rattle.definitions.specs.Bytes.{u64At, idAt}
-use Rattle.definitions.specs.Header.{Header, headerOf, headerIn}
+use Rattle.definitions.specs.Header.{Header, headerIn}
 use Rattle.definitions.specs.DataList.{DataList, idDL, listOf, linksOf, restOf, listIn, restIn, flagsAt}
 use Rattle.theorems.specs.Exactly.{ListStands}
-use Rattle.blocks.proofs.Headers.{needed, header-met, header-answered}
+use Rattle.theorems.proofs.HeaderAnswers.{headed}
+use Rattle.blocks.proofs.Headers.{needed, header-met}
 use Rattle.blocks.proofs.Lists.{list-linked}
 use Rattle.definitions.proofs.Replies.{not-answered, needing-met}
 
@@ -39,21 +40,14 @@ module _ (s : List ℕ) where
   unfolding linksOf
   linked x d h = by-tests x d (idAt s 0 idDL) (eqb (x .linkCount) 0) refl refl h
 
-  by-header : (d : DataList) (r : Reply Header) → headerOf s ≡ r → andThen r (linksOf s) ≡ answer d → linksOf s (headerIn s) ≡ answer d
-  by-header d (refusal n t) e h = not-answered d _ _ h
-  by-header d (answer x) e h = ap (linksOf s) (sym (header-answered s x e .1)) ∙ h
-
-  headed : (d : DataList) → listOf s ≡ answer d → linksOf s (headerIn s) ≡ answer d
-  unfolding listOf
-  headed d h = by-header d (headerOf s) refl h
-
   rested : (d : DataList) → restOf s (headerIn s) ≡ answer d
       → (flagsAt (u64At s 16) + 8 + restIn s (u64At s 16) * 8 ≤ length s) × (answer (listIn s (headerIn s)) ≡ answer d)
   unfolding restOf
   rested d h = needed s _ _ d h
 
   pub list-stands : (d : DataList) → listOf s ≡ answer d → ListStands s × (d ≡ listIn s (headerIn s))
+  unfolding listOf
   list-stands d h =
-      let p = linked (headerIn s) d (headed d h) in
+      let p = linked (headerIn s) d (headed s (linksOf s) d h) in
       let q = rested d (p .2) in
       (record { named = p .0; some = above-zero (u64At s 16) (p .1); whole = q .0 }, cc)

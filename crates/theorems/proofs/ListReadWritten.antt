@@ -5,7 +5,6 @@ use mathlib.Core.Logic.{_⊎_, inl, inr}
 use mathlib.Core.Bool.{true, false}
 use mathlib.Core.List.{List, [], _∷_, _++_}
 use Prim.Native.Nat.{ℕ, zero, suc, _+_, _-_, _*_, _≤_, _<_}
-use native.Mathlib.Nat.{zero-add}
 use native.Mathlib.Omega.{arith}
 use lib.ListN.{length, getD, take}
 use borrow.Author.Tests.{le-ltb, eq-eqb, eqb-true}
@@ -15,10 +14,8 @@ use Rattle.definitions.specs.Header.{Header, headerIn, headerBytes}
 use Rattle.definitions.specs.DataList.{DataList, idDL, linkLimit, oneLength, listOf, listIn, restIn, restCount, flagsAt, listSize, headerFor, listBytes, Lengths, equal, variable, flagsFor, restFor, unwritable}
 use Rattle.words.proofs.Numbers.{Bytes, length-u64s}
 use Rattle.words.proofs.Spans.{span-one, span-split}
-use Rattle.words.proofs.Ids.{id-words}
-use Rattle.blocks.proofs.Headers.{header-met}
-use Rattle.theorems.proofs.Rewritten.{number-written, numbers-written}
-use Rattle.theorems.proofs.HeaderRoundTrip.{header-read-written}
+use Rattle.theorems.proofs.Rewritten.{glue, number-written, numbers-written}
+use Rattle.theorems.proofs.HeaderRoundTrip.{named-header}
 use Rattle.theorems.specs.Exactly.{ListStands}
 use Rattle.theorems.proofs.ListAnswers.{list-stands}
 
@@ -34,21 +31,6 @@ pub record Plain (d : DataList) : Type 0 where
 abbrev pub lengthsIn : List ℕ → DataList → Lengths
 lengthsIn s d = if oneLength (d .flags) then equal (u64At s (d .restAt)) else variable (u64sAt s (d .restAt) (d .rest))
 
-same-header : {g h : Header} → g .id ≡ h .id → g .reserved ≡ h .reserved → g .blockLength ≡ h .blockLength → g .linkCount ≡ h .linkCount → g ≡ h
-same-header {g} {h} ei er eb ek = λ i. record { id = ei i; reserved = er i; blockLength = eb i; linkCount = ek i }
-
-id-number : (s : List ℕ) → Bytes s → 24 ≤ length s → idAt s 0 idDL ≡ true → leOf idDL ≡ u32At s 0
-unfolding leOf
-id-number s b l h =
-    sym (eqb-true (u32At s 0) (u32At idDL 0) (id-words s idDL 0 (omega arith) (omega arith) b id-bytes refl refl ∙ h))
-  where
-    id-bytes : Bytes idDL
-    id-bytes zero = omega arith
-    id-bytes (suc zero) = omega arith
-    id-bytes (suc (suc zero)) = omega arith
-    id-bytes (suc (suc (suc zero))) = omega arith
-    id-bytes (suc (suc (suc (suc i)))) = omega arith
-
 module _ (s : List ℕ) (bytes : Bytes s) (stands : ListStands s) where
   -- the link count, where the flags stand, the data links and the numbers of the rest
   abbrev count : ℕ
@@ -62,11 +44,6 @@ module _ (s : List ℕ) (bytes : Bytes s) (stands : ListStands s) where
 
   abbrev r : ℕ
   r = restIn s count
-
-  -- pieces of the bytes, one after the other
-  glue : {x y : List ℕ} (a b c : ℕ) → c ≡ a → x ≡ span s 0 a → y ≡ span s c b → x ++ y ≡ span s 0 (a + b)
-  glue a b c e ex ey =
-      ap₂ (λ (x y : List ℕ). x ++ y) ex (ey ∙ ap (λ (k : ℕ). span s k b) (e ∙ sym (zero-add a))) ∙ sym (span-split s 0 a b)
 
   flags-piece : leOf (span s (at + 1) 3) ≡ 0 → getD s at 0 ∷ 0 ∷ 0 ∷ 0 ∷ [] ≡ span s at 4
   unfolding le
@@ -82,11 +59,9 @@ module _ (s : List ℕ) (bytes : Bytes s) (stands : ListStands s) where
         let w : at + 8 + r * 8 ≤ length s = stands .whole in
         let some : 0 < count = stands .some in
         let l : 24 ≤ length s = omega arith in
-        let i : leOf idDL ≡ u32At s 0 = id-number s bytes l (stands .named) in
         let size : listSize n r ≡ u64At s 8 = omega arith in
         let links : n + 1 ≡ count = omega arith in
-        let e : headerFor n r ≡ headerIn s = same-header i (sym reserved) size links in
-        ap headerBytes e ∙ header-read-written s (headerIn s) bytes (header-met s l)
+        named-header s (headerFor n r) 35 35 68 76 bytes (omega arith) (omega arith) (omega arith) (omega arith) l (stands .named) refl (sym reserved) size links
 
     pub pieces : listBytes (u64At s 24) (u64sAt s 32 n) (getD s at 0) (u64sAt s (at + 8) r) ≡ take (at + 8 + r * 8) s
     unfolding listBytes
@@ -98,11 +73,11 @@ module _ (s : List ℕ) (bytes : Bytes s) (stands : ListStands s) where
         let number : le 4 (length (u64sAt s 32 n)) ≡ span s (at + 4) 4 =
         ap (le 4) (length-u64s n s 32 ∙ sym counted) ∙ number-written s (at + 4) 4 bytes (omega arith) in
         let all : 24 + 8 + n * 8 + 4 + 4 + r * 8 ≡ at + 8 + r * 8 = omega arith in
-        glue (24 + 8 + n * 8 + 4 + 4) (r * 8) (at + 8) (omega arith)
-        (glue (24 + 8 + n * 8 + 4) 4 (at + 4) (omega arith)
-        (glue (24 + 8 + n * 8) 4 at (omega arith)
-        (glue (24 + 8) (n * 8) 32 refl
-        (glue 24 8 24 refl head (number-written s 24 8 bytes (omega arith)))
+        glue s (24 + 8 + n * 8 + 4 + 4) (r * 8) (at + 8) (omega arith)
+        (glue s (24 + 8 + n * 8 + 4) 4 (at + 4) (omega arith)
+        (glue s (24 + 8 + n * 8) 4 at (omega arith)
+        (glue s (24 + 8) (n * 8) 32 refl
+        (glue s 24 8 24 refl head (number-written s 24 8 bytes (omega arith)))
         (numbers-written n s 32 bytes (omega arith)))
         (flags-piece zeros))
         number)

@@ -2,7 +2,7 @@
 use mathlib.Core.Path.{_≡_, refl, sym, ap, ap₂, _∙_}
 use mathlib.Core.List.{List, [], _∷_, _++_, append-assoc}
 use Prim.Native.Nat.{ℕ, zero, suc, _+_, _*_, _^_, _≤_, _<_}
-use native.Mathlib.Nat.{mod-eq-of-lt}
+use native.Mathlib.Nat.{zero-add, mod-eq-of-lt}
 use native.Mathlib.Omega.{arith}
 use lib.ListN.{length, getD, take, length-append}
 use lib.Seq.{take-append-seam}
@@ -23,6 +23,11 @@ number-read s front rest at n x e l h = rw (e, sym l) (read-middle front rest n 
 pub number-written : (s : List ℕ) (at n : ℕ) → Bytes s → at + n ≤ length s → le n (leOf (span s at n)) ≡ span s at n
 number-written s at n b h =
     ap (λ (k : ℕ). le k (leOf (span s at n))) (sym (length-span s at n h)) ∙ back-le (span s at n) (bytes-span s at n b)
+
+-- pieces of the bytes, one after the other
+pub glue : (s : List ℕ) {x y : List ℕ} (a b c : ℕ) → c ≡ a → x ≡ span s 0 a → y ≡ span s c b → x ++ y ≡ span s 0 (a + b)
+glue s a b c e ex ey =
+    ap₂ (λ (x y : List ℕ). x ++ y) ex (ey ∙ ap (λ (k : ℕ). span s k b) (e ∙ sym (zero-add a))) ∙ sym (span-split s 0 a b)
 
 -- every number has 64 bits, as the logic says it of a slice of them
 abbrev pub Words : List ℕ → Type 0

@@ -9,6 +9,7 @@ use Rattle.definitions.specs.Reply.{Reply, answer}
 use Rattle.definitions.specs.DataType.{Kind, integer, floating, whole, undecoded, kindOf}
 use Rattle.definitions.specs.Bytes.{span, u64At, idAt}
 use Rattle.definitions.specs.DataList.{Lengths, equal, variable, idDL, linkLimit, flagsAt, restIn, listSize, restFor}
+use Rattle.definitions.specs.ChannelBlock.{idCN, fieldsAt}
 use Rattle.definitions.specs.Channel.{Channel, startOf, spanOf}
 use Rattle.definitions.specs.Chain.{Block, idDT, fileLimit, recordLimit, joined}
 use Rattle.definitions.specs.Accepted.{Accepted}
@@ -29,6 +30,13 @@ pub record ListStands (s : List ℕ) : Type 0 where
   pub named : idAt s 0 idDL ≡ true
   pub some : 0 < u64At s 16
   pub whole : flagsAt (u64At s 16) + 8 + restIn s (u64At s 16) * 8 ≤ length s
+
+-- ---- a channel block that is read: the id, eight links, and room for the fields behind all links
+
+pub record ChannelStands (s : List ℕ) : Type 0 where
+  pub named : idAt s 0 idCN ≡ true
+  pub enough : 8 ≤ u64At s 16
+  pub whole : fieldsAt (u64At s 16) + 72 ≤ length s
 
 -- ---- a list to be written: as many offsets as links
 
