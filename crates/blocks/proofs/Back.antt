@@ -49,7 +49,7 @@ header-back (NoHeader r) = ap NoHeader (back r)
 pub header-one : (a b : HeaderRead) → headerReply a ≡ headerReply b → a ≡ b
 header-one = one-by headerReply headerReadBack header-back
 
-abbrev typeBack : types.DataType → DataType
+abbrev pub typeBack : types.DataType → DataType
 typeBack (types.unsignedInteger little) = UnsignedIntegerLE
 typeBack (types.unsignedInteger big) = UnsignedIntegerBE
 typeBack (types.signedInteger little) = SignedIntegerLE
@@ -69,7 +69,7 @@ typeBack (types.complex little) = ComplexLE
 typeBack (types.complex big) = ComplexBE
 typeBack types.unknown = Unknown
 
-type-back : (t : DataType) → typeBack (typeMeant t) ≡ t
+pub type-back : (t : DataType) → typeBack (typeMeant t) ≡ t
 type-back UnsignedIntegerLE = refl
 type-back UnsignedIntegerBE = refl
 type-back SignedIntegerLE = refl

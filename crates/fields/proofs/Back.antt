@@ -11,7 +11,10 @@ use Rattle.refusals.proofs.Back.{refusalOf, back}
 use Rattle.refusals.specs.Meaning.{refused}
 use Rattle.refusals.specs.declared.Refusal.{Refusal}
 use Rattle.refusals.specs.declared.Refusal.the-variants.{NoValue}
-use Rattle.fields.specs.Meaning.{valueMeant, valueReply, validValueReply}
+use Rattle.blocks.proofs.Back.{typeBack, type-back}
+use Rattle.blocks.specs.declared.data_type.DataType.{DataType}
+use Rattle.fields.specs.declared.channel.Channel.{Channel}
+use Rattle.fields.specs.Meaning.{channelMeant, valueMeant, valueReply, validValueReply}
 use Rattle.fields.specs.Known.{FieldTold, FieldPlaced}
 use Rattle.fields.specs.declared.field.FieldFound.{FieldFound}
 use Rattle.fields.specs.declared.field.FieldFound.the-variants.{Field, Refused}
@@ -21,6 +24,22 @@ use Rattle.fields.specs.declared.value.ValueRead.{ValueRead}
 use Rattle.fields.specs.declared.value.ValueRead.the-variants.{Value as Valued, Refused as NotValued}
 use Rattle.fields.specs.declared.value.ValidValueRead.{ValidValueRead}
 use Rattle.fields.specs.declared.value.ValidValueRead.the-variants.{Value as Judged, Refused as NotJudged}
+
+-- from what it means the description comes back, its type too
+abbrev descriptionBack : DataType → channels.Channel → Channel
+descriptionBack t c = record {
+  «data_type» = t;
+  «channel_type» = c .channelType;
+  «bit_offset» = c .bitOffset;
+  «byte_offset» = c .byteOffset;
+  «bit_count» = c .bitCount;
+  «data» = c .dataLink;
+  flags = c .flags;
+  «pos_invalidation_bit» = c .invalidationBit;
+}
+
+pub description-one : (a b : Channel) → channelMeant a ≡ channelMeant b → a ≡ b
+description-one = one-by channelMeant (λ c. descriptionBack (typeBack (c .dataType)) c) (λ c. ap (λ (t : DataType). descriptionBack t (channelMeant c)) (type-back (c .«data_type»)))
 
 abbrev pub valueDecoded : Value → DecodedValue
 valueDecoded (unsigned n) = UnsignedInteger n

@@ -16,10 +16,10 @@ use Rattle.definitions.specs.Header.{Header}
 use Rattle.definitions.specs.DataList.{DataList}
 use Rattle.definitions.specs.DataType.{DataType, unsignedInteger, signedInteger, float, complex, string, byteArray, mimeSample, mimeStream, canOpenDate, canOpenTime, unknown, typeOf}
 use Rattle.definitions.specs.ChannelBlock.{ChannelBlock}
-use Rattle.definitions.specs.Channel.{Value, ValidValue, unsigned, signed, double, text, bytes, sample, stream, unknownValue, doubleValue}
+use Rattle.definitions.specs.Channel.{Channel, Value, ValidValue, unsigned, signed, double, text, bytes, sample, stream, unknownValue, doubleValue}
 use Rattle.replies.specs.Replies.{flagC, writtenC, headerC, headerGiven, listC, textC}
-use Rattle.replies.specs.Channels.{typeC, blockC, blockGiven, channelC}
-use Rattle.replies.specs.Values.{wordOf, decodedC, valueC, validValueC, lengthC, fetchedC}
+use Rattle.replies.specs.Channels.{typeC, descriptionC, blockC, blockGiven, channelC}
+use Rattle.replies.specs.Values.{channelGiven, wordOf, decodedC, valueC, validValueC, lengthC, fetchedC}
 use Rattle.replies.specs.declared.written.Mf4Written.{Mf4Written}
 use Rattle.replies.specs.declared.header.Mf4Header.{Mf4Header}
 use Rattle.replies.specs.declared.list.Mf4List.{Mf4List}
@@ -121,7 +121,20 @@ type-back canOpenDate = refl
 type-back canOpenTime = refl
 type-back unknown = refl
 
--- and with it the block
+-- and so does a description, when C gives it to another call
+pub description-back : (c : Channel) → channelGiven (descriptionC c) ≡ c
+description-back c = λ i. record {
+  dataType = type-back (c .dataType) i;
+  channelType = c .channelType;
+  bitOffset = c .bitOffset;
+  byteOffset = c .byteOffset;
+  bitCount = c .bitCount;
+  flags = c .flags;
+  invalidationBit = c .invalidationBit;
+  dataLink = c .dataLink;
+}
+
+-- and the block
 pub block-back : (b : ChannelBlock) → blockGiven (blockC b) ≡ b
 block-back b = λ i. record {
   header = b .header;

@@ -14,18 +14,21 @@ use Rattle.definitions.specs.Unicode.{Encoding, textOf, writtenText, textWritte
 use Rattle.definitions.specs.Header.{Header, headerIn, headerOf, headerBytes, headerWritten}
 use Rattle.definitions.specs.DataType.{Kind, integer, floating, whole, undecoded, kindOf}
 use Rattle.definitions.specs.DataList.{Lengths, equal, variable, linkLimit, listOf, listBytes, listSize, flagsFor, restFor, unwritable, listWritten}
+use Rattle.definitions.specs.ChannelBlock.{ChannelBlock, channelBlockOf, channelBytes, channelWritten}
 use Rattle.definitions.specs.Channel.{Channel, Value, ValidValue, startOf, spanOf, valueBy, valueOf, validValueOf}
 use Rattle.definitions.specs.Chain.{Block, idDT, fileLimit, recordLimit, joined, total, chainOf, totalOf, dataLength, badSize, onBlocks, recordOf, fetched, valueFetched}
 use Rattle.definitions.specs.Accepted.{Accepted}
 use Rattle.definitions.proofs.Replies.{not-answered}
 use Rattle.blocks.proofs.Headers.{length-header}
 use Rattle.blocks.proofs.Writes.{length-list}
+use Rattle.blocks.proofs.Channels.{length-channel}
 use Rattle.words.proofs.Spans.{length-span}
 use Rattle.chain.proofs.Answers.{answered, followed}
 use Rattle.theorems.proofs.Rewritten.{front-of}
 use Rattle.theorems.proofs.ListAnswers.{above-zero, list-answered, list-stands}
+use Rattle.theorems.proofs.ChannelAnswers.{channel-answered, channel-stands}
 use Rattle.theorems.proofs.AcceptedChains.{accepted, accepts}
-use Rattle.theorems.specs.Exactly.{Exactly, ListStands, Counted, ListFits, Legal, FieldStands, Joinable, Fetchable, ValueFetchable}
+use Rattle.theorems.specs.Exactly.{Exactly, ListStands, ChannelStands, Counted, ListFits, Legal, FieldStands, Joinable, Fetchable, ValueFetchable}
 
 -- ---- tests in turn
 
@@ -84,6 +87,11 @@ header-exactly s = unless-under (length s) 24 2 (told 24) (headerIn s)
 pub list-exactly : (s : List ℕ) → Exactly (ListStands s) (listOf s)
 list-exactly s = record { answers = λ h. (_, list-answered s h); only = λ d e. list-stands s d e .0 }
 
+-- ---- channel blocks
+
+pub channel-exactly : (s : List ℕ) → Exactly (ChannelStands s) (channelBlockOf s)
+channel-exactly s = record { answers = λ h. (_, channel-answered s h); only = λ b e. channel-stands s b e .0 }
+
 -- ---- into a buffer
 
 module _ {A : Type 0} where
@@ -103,6 +111,12 @@ unfolding headerWritten
 header-written-exactly out h =
     let l = length-header h in
     same (λ p. omega arith) (λ p. omega arith) (writing-exactly out (headerBytes h) 24)
+
+pub channel-written-exactly : (out : List ℕ) (b : ChannelBlock) → Exactly (160 ≤ length out) (channelWritten out b .reply)
+unfolding channelWritten
+channel-written-exactly out b =
+    let l = length-channel b in
+    same (λ p. omega arith) (λ p. omega arith) (writing-exactly out (channelBytes b) 160)
 
 counted-passes : (n : ℕ) (l : Lengths) → (n ≤ linkLimit) × Counted n l → unwritable n l ≡ false
 counted-passes n (equal k) p = le-ltb _ _ (p .0)

@@ -11,13 +11,15 @@ use Rattle.definitions.specs.DataList.{equal, variable}
 use Rattle.definitions.specs.Chain.{Block}
 use Rattle.definitions.specs.Accepted.{Accepted}
 use Rattle.mf4.specs.Clauses.{Slice}
-use Rattle.theorems.specs.Exactly.{Exactly, ListStands, ListFits, FieldStands, Joinable, Fetchable, ValueFetchable}
-use Rattle.theorems.specs.Clauses.{ReadsHeader, WritesHeader, ReadsList, WritesEqual, WritesVariable, WritesText, ReadsValue, ReadsValidValue, AcceptsChain, ReadsLength, ReadsRecord, ReadsRecordValue}
-use Rattle.theorems.proofs.Answers.{header-exactly, list-exactly, header-written-exactly, list-written-exactly, text-written-exactly, value-exactly, valid-value-exactly, total-exactly, length-exactly, fetched-exactly, value-fetched-exactly}
-use Rattle.blocks.specs.Meaning.{headerReply, headerMeant, writtenReply, listReply}
+use Rattle.theorems.specs.Exactly.{Exactly, ListStands, ChannelStands, ListFits, FieldStands, Joinable, Fetchable, ValueFetchable}
+use Rattle.theorems.specs.Clauses.{ReadsHeader, WritesHeader, ReadsList, WritesEqual, WritesVariable, ReadsChannel, WritesChannel, WritesText, ReadsValue, ReadsValidValue, AcceptsChain, ReadsLength, ReadsRecord, ReadsRecordValue}
+use Rattle.theorems.proofs.Answers.{header-exactly, list-exactly, channel-exactly, header-written-exactly, channel-written-exactly, list-written-exactly, text-written-exactly, value-exactly, valid-value-exactly, total-exactly, length-exactly, fetched-exactly, value-fetched-exactly}
+use Rattle.blocks.specs.Meaning.{headerReply, headerMeant, writtenReply, listReply, channelBlockReply, channelBlockMeant}
 use Rattle.blocks.specs.declared.header.BlockHeader.{BlockHeader}
 use Rattle.blocks.specs.declared.header.HeaderRead.{HeaderRead}
 use Rattle.blocks.specs.declared.data_list.ListRead.{ListRead}
+use Rattle.blocks.specs.declared.channel_block.ChannelBlock.{ChannelBlock}
+use Rattle.blocks.specs.declared.channel_block.ChannelRead.{ChannelRead}
 use Rattle.blocks.specs.declared.written.Written.{Written}
 use Rattle.text.specs.Meaning.{encodingOf, textReply}
 use Rattle.text.specs.declared.encoding.Encoding.{Encoding}
@@ -53,6 +55,14 @@ header-write-exactly κs header out y after p = exactly (of-outcome p) (header-w
 
 pub list-read-exactly : (κs : Lfts 1) (bytes : Slice) (y : ListRead) → ReadsList κs bytes y → Exactly (ListStands (bytes .now)) (listReply y)
 list-read-exactly κs bytes y p = exactly p (list-exactly (bytes .now))
+
+pub channel-read-exactly : (κs : Lfts 1) (bytes : Slice) (y : ChannelRead) → ReadsChannel κs bytes y
+    → Exactly (ChannelStands (bytes .now)) (channelBlockReply y)
+channel-read-exactly κs bytes y p = exactly p (channel-exactly (bytes .now))
+
+pub channel-write-exactly : (κs : Lfts 1) (block : ChannelBlock) (out : Slice) (y : Written) (after : List ℕ)
+    → WritesChannel κs block out y after → Exactly (160 ≤ length (out .now)) (writtenReply y)
+channel-write-exactly κs block out y after p = exactly (of-outcome p) (channel-written-exactly (out .now) (channelBlockMeant block))
 
 pub list-equal-exactly : (κs : Lfts 2) (next : ℕ) (links : Slice) (length : ℕ) (out : Slice) (y : Written) (after : List ℕ)
     → WritesEqual κs next links length out y after → Exactly (ListFits (out .now) (links .now) (equal length)) (writtenReply y)

@@ -16,9 +16,12 @@ use Rattle.text.proofs.FirstChar.{Bytes}
 use Rattle.text.proofs.Room.{room, text-room}
 use Rattle.replies.specs.Replies.{headerGiven}
 use Rattle.replies.specs.Values.{channelGiven}
+use Rattle.replies.specs.Channels.{blockGiven}
 use Rattle.replies.specs.declared.header.Mf4BlockHeader.{Mf4BlockHeader}
 use Rattle.replies.specs.declared.header.Mf4Header.{Mf4Header}
 use Rattle.replies.specs.declared.list.Mf4List.{Mf4List}
+use Rattle.replies.specs.declared.channel_block.Mf4ChannelBlock.{Mf4ChannelBlock}
+use Rattle.replies.specs.declared.channel_block.Mf4ChannelReply.{Mf4ChannelReply}
 use Rattle.replies.specs.declared.written.Mf4Written.{Mf4Written}
 use Rattle.replies.specs.declared.texts.Mf4Text.{Mf4Text}
 use Rattle.replies.specs.declared.channel.Mf4Channel.{Mf4Channel}
@@ -27,10 +30,10 @@ use Rattle.replies.specs.declared.valid_values.Mf4ValidValue.{Mf4ValidValue}
 use Rattle.replies.specs.declared.fetches.Mf4Length.{Mf4Length}
 use Rattle.replies.specs.declared.fetches.Mf4Fetched.{Mf4Fetched}
 use Rattle.mf4.specs.Clauses.{Slice}
-use Rattle.theorems.specs.Exactly.{Exactly, ExactlyZero, ListStands, ListFits, FieldStands, Joinable, Fetchable, ValueFetchable}
-use Rattle.theorems.specs.ClausesToC.{ReadsHeaderC, WritesHeaderC, ReadsListC, WritesEqualC, WritesVariableC, WritesTextC, ReadsValueC, ReadsValidValueC, ReadsLengthC, ReadsRecordC, ReadsRecordValueC}
-use Rattle.theorems.proofs.Answers.{header-exactly, list-exactly, header-written-exactly, list-written-exactly, text-written-exactly, value-exactly, valid-value-exactly, length-exactly, fetched-exactly, value-fetched-exactly}
-use Rattle.theorems.proofs.ToldToC.{mf4-read-header-told, mf4-write-header-told, mf4-read-list-told, mf4-write-list-equal-told, mf4-write-list-variable-told, mf4-text-told, mf4-decode-value-told, mf4-decode-valid-value-told, mf4-data-length-told, mf4-read-record-told, mf4-record-value-told}
+use Rattle.theorems.specs.Exactly.{Exactly, ExactlyZero, ListStands, ChannelStands, ListFits, FieldStands, Joinable, Fetchable, ValueFetchable}
+use Rattle.theorems.specs.ClausesToC.{ReadsHeaderC, WritesHeaderC, ReadsListC, WritesEqualC, WritesVariableC, ReadsChannelC, WritesChannelC, WritesTextC, ReadsValueC, ReadsValidValueC, ReadsLengthC, ReadsRecordC, ReadsRecordValueC}
+use Rattle.theorems.proofs.Answers.{header-exactly, list-exactly, channel-exactly, header-written-exactly, channel-written-exactly, list-written-exactly, text-written-exactly, value-exactly, valid-value-exactly, length-exactly, fetched-exactly, value-fetched-exactly}
+use Rattle.theorems.proofs.ToldToC.{mf4-read-header-told, mf4-write-header-told, mf4-read-list-told, mf4-write-list-equal-told, mf4-write-list-variable-told, mf4-read-channel-told, mf4-write-channel-told, mf4-text-told, mf4-decode-value-told, mf4-decode-valid-value-told, mf4-data-length-told, mf4-read-record-told, mf4-record-value-told}
 
 -- a struct tells an answer exactly where its reply is 0
 zero-exactly : {A P : Type 0} (n t : ℕ) (a : A) (r : Reply A) → (if eqb n 0 then answer a else refusal n t) ≡ r → Exactly P r → ExactlyZero P n
@@ -55,6 +58,14 @@ header-write-zero κs header out y after p =
 
 pub list-read-zero : (κs : Lfts 1) (bytes : Slice) (y : Mf4List) → ReadsListC κs bytes y → ExactlyZero (ListStands (bytes .now)) (y .reply)
 list-read-zero κs bytes y p = zero-exactly (y .reply) (y .told) _ _ (mf4-read-list-told κs bytes y p) (list-exactly (bytes .now))
+
+pub channel-read-zero : (κs : Lfts 1) (bytes : Slice) (y : Mf4ChannelReply) → ReadsChannelC κs bytes y → ExactlyZero (ChannelStands (bytes .now)) (y .reply)
+channel-read-zero κs bytes y p = zero-exactly (y .reply) (y .told) _ _ (mf4-read-channel-told κs bytes y p) (channel-exactly (bytes .now))
+
+pub channel-write-zero : (κs : Lfts 1) (block : Mf4ChannelBlock) (out : Slice) (y : Mf4Written) (after : List ℕ)
+    → WritesChannelC κs block out y after → ExactlyZero (160 ≤ length (out .now)) (y .reply)
+channel-write-zero κs block out y after p =
+    zero-exactly (y .reply) (y .told) _ _ (mf4-write-channel-told κs block out y after p) (channel-written-exactly (out .now) (blockGiven block))
 
 pub list-equal-zero : (κs : Lfts 2) (next : ℕ) (links : Slice) (length : ℕ) (out : Slice) (y : Mf4Written) (after : List ℕ)
     → WritesEqualC κs next links length out y after → ExactlyZero (ListFits (out .now) (links .now) (equal length)) (y .reply)

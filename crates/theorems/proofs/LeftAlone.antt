@@ -14,12 +14,14 @@ use Rattle.definitions.specs.Bytes.{span}
 use Rattle.definitions.specs.Unicode.{Encoding, TextWritten, textOf, writtenText, textWritten}
 use Rattle.definitions.specs.Header.{Header, headerBytes, headerWritten}
 use Rattle.definitions.specs.DataList.{Lengths, listBytes, listSize, flagsFor, restFor, unwritable, listWritten}
+use Rattle.definitions.specs.ChannelBlock.{ChannelBlock, channelBytes, channelWritten}
 use Rattle.definitions.specs.Channel.{Channel}
 use Rattle.definitions.specs.Chain.{Block, idDT, fileLimit, joined, chainOf, badSize, onBlocks, recordOf, fetched, valueFetched}
 use Rattle.definitions.proofs.Replies.{not-answered}
 use Rattle.words.proofs.Spans.{length-span}
 use Rattle.blocks.proofs.Headers.{length-header}
 use Rattle.blocks.proofs.Writes.{length-list}
+use Rattle.blocks.proofs.Channels.{length-channel}
 use Rattle.chain.proofs.Answers.{answered}
 use Rattle.theorems.proofs.RefusalNumbers.{OfField, field-of-fetched, other-of-fetch}
 use Rattle.theorems.proofs.Answers.{size-fits, fetched-exactly, fetched-record}
@@ -67,7 +69,7 @@ module _ {A : Type 0} (count : A → ℕ) (out : List ℕ) where
       tested (ltb (length out) (length bytes)) _ 6 (told (length bytes)) _ refl
       (λ h. answering a bytes (length bytes) c refl (ltb-false _ _ h))
 
--- the bytes that a header and a list report, and a text
+-- the bytes that a block reports, and a text
 abbrev pub itself : ℕ → ℕ
 itself n = n
 
@@ -78,6 +80,10 @@ module _ (out : List ℕ) where
   pub header-leaves : (h : Header) → Leaves itself out (headerWritten out h)
   unfolding headerWritten
   header-leaves h = writing-leaves itself out (headerBytes h) 24 (sym (length-header h))
+
+  pub channel-leaves : (b : ChannelBlock) → Leaves itself out (channelWritten out b)
+  unfolding channelWritten
+  channel-leaves b = writing-leaves itself out (channelBytes b) 160 (sym (length-channel b))
 
   pub list-leaves : (next : ℕ) (links : List ℕ) (l : Lengths) → Leaves itself out (listWritten out next links l)
   unfolding listWritten

@@ -11,11 +11,12 @@ use Rattle.definitions.specs.Bytes.{span}
 use Rattle.definitions.specs.Chain.{joined}
 use Rattle.mf4.specs.Clauses.{Slice}
 use Rattle.theorems.specs.Exactly.{Fetchable}
-use Rattle.theorems.specs.Clauses.{WritesHeader, WritesEqual, WritesVariable, WritesText, ReadsRecord, ReadsRecordValue}
-use Rattle.theorems.proofs.LeftAlone.{SameBehind, untouched, Leaves, itself, countOf, header-leaves, list-leaves, text-leaves, fetch-leaves, value-spares, value-behind, value-holds}
+use Rattle.theorems.specs.Clauses.{WritesHeader, WritesChannel, WritesEqual, WritesVariable, WritesText, ReadsRecord, ReadsRecordValue}
+use Rattle.theorems.proofs.LeftAlone.{SameBehind, untouched, Leaves, itself, countOf, header-leaves, channel-leaves, list-leaves, text-leaves, fetch-leaves, value-spares, value-behind, value-holds}
 use Rattle.theorems.proofs.RefusalNumbers.{OfField}
-use Rattle.blocks.specs.Meaning.{headerMeant, writtenReply}
+use Rattle.blocks.specs.Meaning.{headerMeant, channelBlockMeant, writtenReply}
 use Rattle.blocks.specs.declared.header.BlockHeader.{BlockHeader}
+use Rattle.blocks.specs.declared.channel_block.ChannelBlock.{ChannelBlock}
 use Rattle.text.specs.Meaning.{encodingOf, textReply}
 use Rattle.text.specs.declared.encoding.Encoding.{Encoding}
 use Rattle.records.specs.Meaning.{recordReply}
@@ -59,6 +60,10 @@ module _ {Result A : Type 0} (reply : Result → Reply A) (count : A → ℕ) (o
 module _ (κs : Lfts 1) (header : BlockHeader) (out : Slice) where
   pub header-write-spares : Sparing (WritesHeader κs header out) (λ y. Refused (writtenReply y)) (λ y. reported itself (writtenReply y)) (out .now)
   header-write-spares = sparing writtenReply itself _ (out .now) (header-leaves (out .now) (headerMeant header))
+
+module _ (κs : Lfts 1) (block : ChannelBlock) (out : Slice) where
+  pub channel-write-spares : Sparing (WritesChannel κs block out) (λ y. Refused (writtenReply y)) (λ y. reported itself (writtenReply y)) (out .now)
+  channel-write-spares = sparing writtenReply itself _ (out .now) (channel-leaves (out .now) (channelBlockMeant block))
 
 module _ (κs : Lfts 2) (next : ℕ) (links : Slice) (length : ℕ) (out : Slice) where
   pub list-equal-spares : Sparing (WritesEqual κs next links length out) (λ y. Refused (writtenReply y)) (λ y. reported itself (writtenReply y)) (out .now)

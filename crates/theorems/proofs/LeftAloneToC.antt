@@ -14,8 +14,10 @@ use Rattle.definitions.specs.DataList.{equal, variable}
 use Rattle.definitions.specs.Channel.{ValidValue}
 use Rattle.definitions.specs.Chain.{joined, valueFetched}
 use Rattle.replies.specs.Replies.{Returned, returned, returnedBy, headerGiven, writtenC, textC}
+use Rattle.replies.specs.Channels.{blockGiven}
 use Rattle.replies.specs.Values.{channelGiven, validValueC, fetchedC}
 use Rattle.replies.specs.declared.header.Mf4BlockHeader.{Mf4BlockHeader}
+use Rattle.replies.specs.declared.channel_block.Mf4ChannelBlock.{Mf4ChannelBlock}
 use Rattle.replies.specs.declared.written.Mf4Written.{Mf4Written}
 use Rattle.replies.specs.declared.texts.Mf4Text.{Mf4Text}
 use Rattle.replies.specs.declared.channel.Mf4Channel.{Mf4Channel}
@@ -23,10 +25,10 @@ use Rattle.replies.specs.declared.valid_values.Mf4ValidValue.{Mf4ValidValue}
 use Rattle.replies.specs.declared.fetches.Mf4Fetched.{Mf4Fetched}
 use Rattle.mf4.specs.Clauses.{Slice}
 use Rattle.theorems.specs.Exactly.{Fetchable}
-use Rattle.theorems.specs.ClausesToC.{WritesHeaderC, WritesEqualC, WritesVariableC, WritesTextC, ReadsRecordC, ReadsRecordValueC}
+use Rattle.theorems.specs.ClausesToC.{WritesHeaderC, WritesChannelC, WritesEqualC, WritesVariableC, WritesTextC, ReadsRecordC, ReadsRecordValueC}
 use Rattle.theorems.proofs.TextClausesToC.{text-clause}
 use Rattle.theorems.proofs.RefusalNumbers.{Numbered, Some, OfField, value-fetched-numbered}
-use Rattle.theorems.proofs.LeftAlone.{SameBehind, untouched, Leaves, itself, countOf, header-leaves, list-leaves, text-leaves, fetch-leaves, value-spares, value-behind, value-holds}
+use Rattle.theorems.proofs.LeftAlone.{SameBehind, untouched, Leaves, itself, countOf, header-leaves, channel-leaves, list-leaves, text-leaves, fetch-leaves, value-spares, value-behind, value-holds}
 use Rattle.theorems.proofs.LeftAloneByCalls.{Spares, Sparing}
 
 -- from what the definition leaves: `number` is the reply in the struct, and `counted` what it reports
@@ -56,6 +58,10 @@ written-sparing = sparing writtenC (λ (y : Mf4Written). y .reply) (λ (y : Mf4W
 pub header-write-spares : (κs : Lfts 1) (header : Mf4BlockHeader) (out : Slice)
     → Sparing (WritesHeaderC κs header out) (λ y. y .reply ≡ 0 → ⊥) (λ y. y .count) (out .now)
 header-write-spares κs header out = written-sparing _ (out .now) (header-leaves (out .now) (headerGiven header))
+
+pub channel-write-spares : (κs : Lfts 1) (block : Mf4ChannelBlock) (out : Slice)
+    → Sparing (WritesChannelC κs block out) (λ y. y .reply ≡ 0 → ⊥) (λ y. y .count) (out .now)
+channel-write-spares κs block out = written-sparing _ (out .now) (channel-leaves (out .now) (blockGiven block))
 
 pub list-equal-spares : (κs : Lfts 2) (next : ℕ) (links : Slice) (length : ℕ) (out : Slice)
     → Sparing (WritesEqualC κs next links length out) (λ y. y .reply ≡ 0 → ⊥) (λ y. y .count) (out .now)

@@ -14,9 +14,9 @@ use Rattle.blocks.specs.Meaning.{writtenReply}
 use Rattle.text.specs.Meaning.{textReply}
 use Rattle.fields.specs.Meaning.{validValueReply}
 use Rattle.records.specs.Meaning.{recordReply}
-use Rattle.blocks.proofs.Back.{written-one, header-one, type-one, list-one}
+use Rattle.blocks.proofs.Back.{written-one, header-one, type-one, list-one, channel-one}
 use Rattle.text.proofs.Back.{text-one}
-use Rattle.fields.proofs.Back.{field-one, value-one, valid-value-one}
+use Rattle.fields.proofs.Back.{description-one, field-one, value-one, valid-value-one}
 use Rattle.chain.proofs.Back.{chain-one}
 use Rattle.records.proofs.Back.{record-one}
 use Rattle.refusals.proofs.Refusal.number.Kinds as refusal-number-kinds
@@ -49,10 +49,16 @@ use Rattle.blocks.proofs.data_list.DataListBlock.write_equal.Kinds as list-equa
 use Rattle.blocks.proofs.data_list.DataListBlock.write_equal.Reads as list-equal
 use Rattle.blocks.proofs.data_list.DataListBlock.write_variable.Kinds as list-variable-kinds
 use Rattle.blocks.proofs.data_list.DataListBlock.write_variable.Reads as list-variable
+use Rattle.blocks.proofs.channel_block.ChannelBlock.from_bytes.Kinds as channel-read-kinds
+use Rattle.blocks.proofs.channel_block.ChannelBlock.from_bytes.Reads as channel-read
+use Rattle.blocks.proofs.channel_block.ChannelBlock.to_bytes.Kinds as channel-write-kinds
+use Rattle.blocks.proofs.channel_block.ChannelBlock.to_bytes.Reads as channel-write
 use Rattle.text.proofs.text_end.Kinds as text-end-kinds
 use Rattle.text.proofs.text_end.Reads as text-end
 use Rattle.text.proofs.write_text.Kinds as text-write-kinds
 use Rattle.text.proofs.write_text.Reads as text-write
+use Rattle.fields.proofs.channel.Channel.from_block.Kinds as channel-describe-kinds
+use Rattle.fields.proofs.channel.Channel.from_block.Reads as channel-describe
 use Rattle.fields.proofs.channel.Channel.is_variable_length.Kinds as variable-length-kinds
 use Rattle.fields.proofs.channel.Channel.is_variable_length.Reads as variable-length
 use Rattle.fields.proofs.form_of.Kinds as form-of-type-kinds
@@ -141,6 +147,15 @@ list-equal-settled = settled (λ κs a y z b c p q. one-outcome writtenReply wri
 
 pub list-variable-settled : Settled 3 list-variable-kinds.ps list-variable-kinds.r list-variable.Asked list-variable.ensures list-variable.Learnt
 list-variable-settled = settled (λ κs a y z b c p q. one-outcome writtenReply written-one (λ out. (tt, (tt, (tt, (out, tt))))) (p ∙ sym q))
+
+pub channel-read-settled : Settled 1 channel-read-kinds.ps channel-read-kinds.r channel-read.Asked channel-read.ensures channel-read.Learnt
+channel-read-settled = settled (λ κs a y z b c p q. (channel-one y z (p ∙ sym q), refl))
+
+pub channel-write-settled : Settled 1 channel-write-kinds.ps channel-write-kinds.r channel-write.Asked channel-write.ensures channel-write.Learnt
+channel-write-settled = settled (λ κs a y z b c p q. one-outcome writtenReply written-one (λ out. (tt, (out, tt))) (p ∙ sym q))
+
+pub channel-describe-settled : Settled 0 channel-describe-kinds.ps channel-describe-kinds.r channel-describe.Asked channel-describe.ensures channel-describe.Learnt
+channel-describe-settled = settled (λ κs a y z b c p q. (description-one y z (p ∙ sym q), refl))
 
 pub text-end-settled : Settled 1 text-end-kinds.ps text-end-kinds.r text-end.Asked text-end.ensures text-end.Learnt
 text-end-settled = settled (λ κs a y z b c p q. (p ∙ sym q, refl))

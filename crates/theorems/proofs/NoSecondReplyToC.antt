@@ -19,6 +19,10 @@ use Rattle.mf4.proofs.mf4_write_list_equal.Kinds as mf4-write-list-equal-kinds
 use Rattle.mf4.proofs.mf4_write_list_equal.Reads as mf4-write-list-equal
 use Rattle.mf4.proofs.mf4_write_list_variable.Kinds as mf4-write-list-variable-kinds
 use Rattle.mf4.proofs.mf4_write_list_variable.Reads as mf4-write-list-variable
+use Rattle.mf4.proofs.mf4_read_channel.Kinds as mf4-read-channel-kinds
+use Rattle.mf4.proofs.mf4_read_channel.Reads as mf4-read-channel
+use Rattle.mf4.proofs.mf4_write_channel.Kinds as mf4-write-channel-kinds
+use Rattle.mf4.proofs.mf4_write_channel.Reads as mf4-write-channel
 use Rattle.mf4.proofs.mf4_text_latin1.Kinds as mf4-text-latin1-kinds
 use Rattle.mf4.proofs.mf4_text_latin1.Reads as mf4-text-latin1
 use Rattle.mf4.proofs.mf4_text_utf8.Kinds as mf4-text-utf8-kinds
@@ -66,6 +70,12 @@ mf4-write-list-equal-settled = settled (λ κs a y z b c p q. one-returned (λ o
 
 pub mf4-write-list-variable-settled : Settled 3 mf4-write-list-variable-kinds.ps mf4-write-list-variable-kinds.r mf4-write-list-variable.Asked mf4-write-list-variable.ensures mf4-write-list-variable.Learnt
 mf4-write-list-variable-settled = settled (λ κs a y z b c p q. one-returned (λ out. (tt, (tt, (tt, (out, tt))))) (p ∙ sym q))
+
+pub mf4-read-channel-settled : Settled 1 mf4-read-channel-kinds.ps mf4-read-channel-kinds.r mf4-read-channel.Asked mf4-read-channel.ensures mf4-read-channel.Learnt
+mf4-read-channel-settled = settled (λ κs a y z b c p q. (p ∙ sym q, refl))
+
+pub mf4-write-channel-settled : Settled 1 mf4-write-channel-kinds.ps mf4-write-channel-kinds.r mf4-write-channel.Asked mf4-write-channel.ensures mf4-write-channel.Learnt
+mf4-write-channel-settled = settled (λ κs a y z b c p q. one-returned (λ out. (tt, (out, tt))) (p ∙ sym q))
 
 pub mf4-text-latin1-settled : Settled 2 mf4-text-latin1-kinds.ps mf4-text-latin1-kinds.r mf4-text-latin1.Asked mf4-text-latin1.ensures mf4-text-latin1.Learnt
 mf4-text-latin1-settled = settled (λ κs a y z b c p q. one-returned (λ out. (tt, (out, tt))) (p ∙ sym q))

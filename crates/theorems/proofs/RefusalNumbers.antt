@@ -13,6 +13,7 @@ use Rattle.definitions.specs.Unicode.{Encoding, textOf, writtenText, textWritte
 use Rattle.definitions.specs.Header.{Header, headerOf, headerBytes, headerWritten}
 use Rattle.definitions.specs.DataType.{Kind, kindOf}
 use Rattle.definitions.specs.DataList.{DataList, Lengths, idDL, listOf, linksOf, restOf, restIn, flagsAt, listBytes, listSize, flagsFor, restFor, unwritable, listWritten}
+use Rattle.definitions.specs.ChannelBlock.{ChannelBlock, idCN, fieldsAt, fieldsOf, channelBlockOf, channelBytes, channelWritten}
 use Rattle.definitions.specs.Channel.{Channel, ValidValue, startOf, spanOf, isInteger, isFloating, isNumber, valueBy, valueOf, validValueOf}
 use Rattle.definitions.specs.Chain.{Block, idDT, dataLimit, fileLimit, fragmentLimit, hasHeader, blockAt, declared, judged, fragmentOf, fragments, agrees, admitted, listAt, lists, listLimit, chainOf, totalOf, dataLength, joined, badSize, recordOf, onBlocks, fetched, valueFetched}
 use Rattle.definitions.proofs.Replies.{not-answered}
@@ -78,6 +79,17 @@ pub list-numbered : (s : List ℕ) → Numbered FromTwo (listOf s)
 unfolding listOf
 list-numbered s = of-following FromTwo (headerOf s) (linksOf s) (header-numbered s) (links-numbered s)
 
+fields-numbered : (s : List ℕ) (h : Header) → Numbered FromTwo (fieldsOf s h)
+unfolding fieldsOf
+fields-numbered s h =
+    of-test FromTwo (not (idAt s 0 idCN)) 3 0 _ (omega arith)
+    (of-test FromTwo (ltb (h .linkCount) 8) 17 0 _ (omega arith)
+    (of-test FromTwo (ltb (length s) (fieldsAt (h .linkCount) + 72)) 2 _ _ (omega arith) (of-answer FromTwo _)))
+
+pub channel-numbered : (s : List ℕ) → Numbered FromTwo (channelBlockOf s)
+unfolding channelBlockOf
+channel-numbered s = of-following FromTwo (headerOf s) (fieldsOf s) (header-numbered s) (fields-numbered s)
+
 -- ---- into a buffer
 
 writing-numbered : {A : Type 0} (out bytes : List ℕ) (a : A) → Numbered FromTwo (writing out bytes a .reply)
@@ -86,6 +98,10 @@ writing-numbered out bytes a = of-outcome FromTwo (ltb (length out) (length byte
 pub header-written-numbered : (out : List ℕ) (h : Header) → Numbered FromTwo (headerWritten out h .reply)
 unfolding headerWritten
 header-written-numbered out h = writing-numbered out (headerBytes h) 24
+
+pub channel-written-numbered : (out : List ℕ) (b : ChannelBlock) → Numbered FromTwo (channelWritten out b .reply)
+unfolding channelWritten
+channel-written-numbered out b = writing-numbered out (channelBytes b) 160
 
 pub list-written-numbered : (out : List ℕ) (next : ℕ) (links : List ℕ) (l : Lengths) → Numbered FromTwo (listWritten out next links l .reply)
 unfolding listWritten

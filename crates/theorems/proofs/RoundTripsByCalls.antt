@@ -5,19 +5,24 @@ use Prim.Native.Nat.{ℕ, _^_, _<_}
 use contract.Lifetimes.{Lfts}
 use lib.ListN.{take}
 use Rattle.definitions.specs.Reply.{Outcome, answer}
+use Rattle.definitions.specs.ChannelBlock as channels
 use Rattle.definitions.specs.DataList.{DataList, Lengths, equal, variable, flagsFor, restFor, listWritten}
 use Rattle.words.proofs.Numbers.{Bytes}
-use Rattle.blocks.specs.Meaning.{headerReply, headerMeant, writtenReply, listReply}
+use Rattle.blocks.specs.Meaning.{headerReply, headerMeant, writtenReply, listReply, channelBlockMeant, channelBlockReply}
 use Rattle.blocks.specs.declared.header.BlockHeader.{BlockHeader}
 use Rattle.blocks.specs.declared.header.HeaderRead.{HeaderRead}
 use Rattle.blocks.specs.declared.data_list.ListRead.{ListRead}
+use Rattle.blocks.specs.declared.channel_block.ChannelBlock.{ChannelBlock}
+use Rattle.blocks.specs.declared.channel_block.ChannelRead.{ChannelRead}
 use Rattle.blocks.specs.declared.written.Written.{Written}
 use Rattle.mf4.specs.Clauses.{Slice}
-use Rattle.theorems.specs.Clauses.{ReadsHeader, WritesHeader, ReadsList, WritesEqual, WritesVariable}
+use Rattle.theorems.specs.Clauses.{ReadsHeader, WritesHeader, ReadsChannel, WritesChannel, ReadsList, WritesEqual, WritesVariable}
 use Rattle.theorems.proofs.Rewritten.{Words}
 use Rattle.theorems.proofs.HeaderRoundTrip.{Fits}
+use Rattle.theorems.proofs.ChannelWrittenRead.{BlockFits, blockWritten}
+use Rattle.theorems.proofs.ChannelReadWritten.{PlainBlock}
 use Rattle.theorems.proofs.ListWrittenRead.{listFrom}
-use Rattle.theorems.proofs.RoundTripsInBuffers.{WrittenInto, header-back, header-again, ListBack, WrittenFrom, one-word, list-back, list-again}
+use Rattle.theorems.proofs.RoundTripsInBuffers.{WrittenInto, header-back, header-again, channel-back, channel-again, channel-again-plain, ListBack, WrittenFrom, one-word, list-back, list-again}
 
 into : (y : Written) (after : List ℕ) (o : Outcome ℕ) → record { reply = writtenReply y; buffer = after } ≡ o → (n : ℕ) → writtenReply y ≡ answer n → WrittenInto after o
 into y after o p n e = record { count = n; answers = sym (ap (λ (x : Outcome ℕ). x .reply) p) ∙ e; left = ap (λ (x : Outcome ℕ). x .buffer) p }
@@ -31,6 +36,23 @@ module _ (ws rs : Lfts 1) (header : BlockHeader) (out : Slice) (y : Written) (af
 
   pub header-written-again : Bytes (bytes .now) → headerReply z ≡ answer (headerMeant header) → take 24 after ≡ take 24 (bytes .now)
   header-written-again b e = header-again (out .now) (headerMeant header) after (into y after _ wrote n answers) (bytes .now) b (sym read ∙ e)
+
+-- ---- a channel block
+
+module _ (ws rs : Lfts 1) (block : ChannelBlock) (out : Slice) (y : Written) (after : List ℕ) (n : ℕ)
+    (wrote : WritesChannel ws block out y after) (answers : writtenReply y ≡ answer n) (bytes : Slice) (z : ChannelRead) (read : ReadsChannel rs bytes z) where
+  abbrev b : channels.ChannelBlock
+  b = channelBlockMeant block
+
+  pub channel-read-back : BlockFits b → bytes .now ≡ after → channelBlockReply z ≡ answer (blockWritten b)
+  channel-read-back fits same = read ∙ channel-back (out .now) b after (into y after _ wrote n answers) fits (bytes .now) same
+
+  module _ (below : Bytes (bytes .now)) (found : channelBlockReply z ≡ answer b) where
+    pub channel-written-again : PlainBlock b → take 160 after ≡ take 160 (bytes .now)
+    channel-written-again = channel-again (out .now) b after (into y after _ wrote n answers) (bytes .now) below (sym read ∙ found)
+
+    pub channel-written-plainly : take 160 after ≡ take 160 (bytes .now) → PlainBlock b
+    channel-written-plainly = channel-again-plain (out .now) b after (into y after _ wrote n answers) (bytes .now) below (sym read ∙ found)
 
 -- ---- a list
 

@@ -11,14 +11,18 @@ use Rattle.definitions.specs.Reply.{Outcome, answer, refusal, if_then_else_, to
 use Rattle.definitions.specs.Bytes.{u64sAt}
 use Rattle.definitions.specs.Header.{Header, headerOf, headerBytes, headerWritten}
 use Rattle.definitions.specs.DataList.{DataList, Lengths, equal, variable, listOf, listBytes, flagsFor, restFor, unwritable, listWritten}
+use Rattle.definitions.specs.ChannelBlock.{ChannelBlock, channelBlockOf, channelBytes, channelWritten}
 use Rattle.definitions.proofs.Replies.{not-answered}
 use Rattle.words.proofs.Numbers.{Bytes}
 use Rattle.blocks.proofs.Headers.{length-header}
+use Rattle.blocks.proofs.Channels.{length-channel}
 use Rattle.theorems.specs.Exactly.{ListFits}
 use Rattle.theorems.proofs.Rewritten.{Words, front-of}
 use Rattle.theorems.proofs.Answers.{list-written-exactly}
 use Rattle.theorems.proofs.ListAnswers.{list-stands}
 use Rattle.theorems.proofs.HeaderRoundTrip.{Fits, header-written-read, header-read-written}
+use Rattle.theorems.proofs.ChannelWrittenRead.{BlockFits, blockWritten, channel-written-read}
+use Rattle.theorems.proofs.ChannelReadWritten.{PlainBlock, channel-read-written, channel-written-plain}
 use Rattle.theorems.proofs.ListWrittenRead.{Writable, listFrom, list-written-read, links-written-read, rest-written-read}
 use Rattle.theorems.proofs.ListReadWritten.{Plain, lengthsIn, list-read-written}
 
@@ -55,6 +59,28 @@ module _ (out : List ℕ) (h : Header) (after : List ℕ) (w : WrittenInto after
   pub header-again : (s : List ℕ) → Bytes s → headerOf s ≡ answer h → take 24 after ≡ take 24 s
   header-again s b e =
       ap (take 24) header-front ∙ front-of (headerBytes h) (drop (length (headerBytes h)) out) 24 (length-header h) ∙ header-read-written s h b e
+
+-- ---- a channel block
+
+module _ (out : List ℕ) (b : ChannelBlock) (after : List ℕ) (w : WrittenInto after (channelWritten out b)) where
+  channel-front : after ≡ channelBytes b ++ drop (length (channelBytes b)) out
+  unfolding channelWritten
+  channel-front = w .left ∙ front-written out (channelBytes b) 160 (w .count) (w .answers)
+
+  first-bytes : take 160 after ≡ channelBytes b
+  first-bytes = ap (take 160) channel-front ∙ front-of (channelBytes b) (drop (length (channelBytes b)) out) 160 (length-channel b)
+
+  -- every field, which has its width, but for what the writer fixes and a type that is unknown
+  pub channel-back : BlockFits b → (s : List ℕ) → s ≡ after → channelBlockOf s ≡ answer (blockWritten b)
+  channel-back fits s e = ap channelBlockOf (e ∙ channel-front) ∙ channel-written-read b (drop (length (channelBytes b)) out) fits
+
+  module _ (s : List ℕ) (bytes : Bytes s) (read : channelBlockOf s ≡ answer b) where
+    -- the same 160 bytes, of a plain block and of no other
+    pub channel-again : PlainBlock b → take 160 after ≡ take 160 s
+    channel-again p = first-bytes ∙ channel-read-written s b bytes read p
+
+    pub channel-again-plain : take 160 after ≡ take 160 s → PlainBlock b
+    channel-again-plain e = channel-written-plain s b bytes read (sym first-bytes ∙ e)
 
 -- ---- a list
 

@@ -7,21 +7,27 @@ use lib.ListN.{take}
 use borrow.Author.Tests.{eq-eqb}
 use Rattle.definitions.specs.Reply.{Outcome, answer}
 use Rattle.definitions.specs.Header.{headerWritten}
+use Rattle.definitions.specs.ChannelBlock.{channelWritten}
 use Rattle.definitions.specs.DataList.{DataList, Lengths, equal, variable, flagsFor, restFor, listWritten}
 use Rattle.words.proofs.Numbers.{Bytes}
 use Rattle.replies.specs.Replies.{Returned, returned, returnedBy, writtenC, headerGiven, headerC, listC}
+use Rattle.replies.specs.Channels.{blockGiven, channelC}
+use Rattle.replies.specs.declared.channel_block.Mf4ChannelBlock.{Mf4ChannelBlock}
+use Rattle.replies.specs.declared.channel_block.Mf4ChannelReply.{Mf4ChannelReply}
 use Rattle.replies.specs.declared.header.Mf4BlockHeader.{Mf4BlockHeader}
 use Rattle.replies.specs.declared.header.Mf4Header.{Mf4Header}
 use Rattle.replies.specs.declared.list.Mf4List.{Mf4List}
 use Rattle.replies.specs.declared.written.Mf4Written.{Mf4Written}
 use Rattle.mf4.specs.Clauses.{Slice}
-use Rattle.theorems.specs.ClausesToC.{ReadsHeaderC, WritesHeaderC, ReadsListC, WritesEqualC, WritesVariableC}
-use Rattle.replies.proofs.ToldToC.{writtenAgain, headerAgain, listAgain}
-use Rattle.theorems.proofs.ToldToC.{mf4-read-header-told, mf4-write-header-told, mf4-read-list-told, mf4-write-list-equal-told, mf4-write-list-variable-told}
+use Rattle.theorems.specs.ClausesToC.{ReadsHeaderC, WritesHeaderC, ReadsChannelC, WritesChannelC, ReadsListC, WritesEqualC, WritesVariableC}
+use Rattle.replies.proofs.ToldToC.{writtenAgain, headerAgain, listAgain, channelAgain}
+use Rattle.theorems.proofs.ToldToC.{mf4-read-header-told, mf4-write-header-told, mf4-read-channel-told, mf4-write-channel-told, mf4-read-list-told, mf4-write-list-equal-told, mf4-write-list-variable-told}
 use Rattle.theorems.proofs.Rewritten.{Words}
 use Rattle.theorems.proofs.HeaderRoundTrip.{Fits}
+use Rattle.theorems.proofs.ChannelWrittenRead.{BlockFits, blockWritten}
+use Rattle.theorems.proofs.ChannelReadWritten.{PlainBlock}
 use Rattle.theorems.proofs.ListWrittenRead.{listFrom}
-use Rattle.theorems.proofs.RoundTripsInBuffers.{WrittenInto, header-back, header-again, ListBack, WrittenFrom, one-word, list-back, list-again}
+use Rattle.theorems.proofs.RoundTripsInBuffers.{WrittenInto, header-back, header-again, channel-back, channel-again, channel-again-plain, ListBack, WrittenFrom, one-word, list-back, list-again}
 
 -- a reply of 0 is an answer
 into : (y : Mf4Written) (after : List ℕ) (o : Outcome ℕ) → returned y after ≡ returnedBy writtenC o → writtenAgain y ≡ o .reply → y .reply ≡ 0 → WrittenInto after o
@@ -44,6 +50,25 @@ module _ (ws rs : Lfts 1) (header : Mf4BlockHeader) (out : Slice) (y : Mf4Writte
   pub header-written-again : Bytes (bytes .now) → headerAgain z ≡ answer (headerGiven header) → take 24 after ≡ take 24 (bytes .now)
   header-written-again b e =
       header-again (out .now) (headerGiven header) after header-in (bytes .now) b (sym (mf4-read-header-told rs bytes z read) ∙ e)
+
+-- ---- a channel block
+
+module _ (ws rs : Lfts 1) (block : Mf4ChannelBlock) (out : Slice) (y : Mf4Written) (after : List ℕ)
+    (wrote : WritesChannelC ws block out y after) (zero : y .reply ≡ 0) (bytes : Slice) (z : Mf4ChannelReply) (read : ReadsChannelC rs bytes z) where
+  channel-in : WrittenInto after (channelWritten (out .now) (blockGiven block))
+  channel-in = into y after _ wrote (mf4-write-channel-told ws block out y after wrote) zero
+
+  pub channel-read-back : BlockFits (blockGiven block) → bytes .now ≡ after → z ≡ channelC (answer (blockWritten (blockGiven block)))
+  channel-read-back fits same = read ∙ ap channelC (channel-back (out .now) (blockGiven block) after channel-in fits (bytes .now) same)
+
+  module _ (below : Bytes (bytes .now)) (found : channelAgain z ≡ answer (blockGiven block)) where
+    pub channel-written-again : PlainBlock (blockGiven block) → take 160 after ≡ take 160 (bytes .now)
+    channel-written-again =
+        channel-again (out .now) (blockGiven block) after channel-in (bytes .now) below (sym (mf4-read-channel-told rs bytes z read) ∙ found)
+
+    pub channel-written-plainly : take 160 after ≡ take 160 (bytes .now) → PlainBlock (blockGiven block)
+    channel-written-plainly =
+        channel-again-plain (out .now) (blockGiven block) after channel-in (bytes .now) below (sym (mf4-read-channel-told rs bytes z read) ∙ found)
 
 -- ---- a list
 

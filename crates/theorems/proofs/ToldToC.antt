@@ -17,25 +17,29 @@ use Rattle.definitions.specs.Unicode.{Encoding, textWritten}
 use Rattle.definitions.specs.Header.{headerOf, headerWritten}
 use Rattle.definitions.specs.DataType.{DataType, unsignedInteger, signedInteger, float, complex, string, byteArray, mimeSample, mimeStream, canOpenDate, canOpenTime, unknown, kindOf}
 use Rattle.definitions.specs.Channel.{Channel, Value, ValidValue, signed, decoded, startOf, spanOf, numberIn, isNumber, isInteger, isFloating, valueBy, valueOf, validOf, validValueOf}
+use Rattle.definitions.specs.ChannelBlock.{ChannelBlock, described, channelBlockOf, channelWritten}
 use Rattle.definitions.specs.DataList.{listOf, listWritten, equal, variable}
 use Rattle.definitions.specs.Chain.{dataLength, fetched, valueFetched}
 use Rattle.mf4.specs.Clauses.{Slice}
 use Rattle.replies.specs.Replies.{Returned, returned, returnedBy, writtenC, headerGiven, textC}
+use Rattle.replies.specs.Channels.{blockGiven, channelC}
 use Rattle.replies.specs.Values.{channelGiven, validValueC, fetchedC}
 use Rattle.replies.specs.declared.written.Mf4Written.{Mf4Written}
 use Rattle.replies.specs.declared.header.Mf4BlockHeader.{Mf4BlockHeader}
 use Rattle.replies.specs.declared.header.Mf4Header.{Mf4Header}
 use Rattle.replies.specs.declared.list.Mf4List.{Mf4List}
+use Rattle.replies.specs.declared.channel_block.Mf4ChannelBlock.{Mf4ChannelBlock}
+use Rattle.replies.specs.declared.channel_block.Mf4ChannelReply.{Mf4ChannelReply}
 use Rattle.replies.specs.declared.texts.Mf4Text.{Mf4Text}
 use Rattle.replies.specs.declared.channel.Mf4Channel.{Mf4Channel}
 use Rattle.replies.specs.declared.values.Mf4Value.{Mf4Value}
 use Rattle.replies.specs.declared.valid_values.Mf4ValidValue.{Mf4ValidValue}
 use Rattle.replies.specs.declared.fetches.Mf4Length.{Mf4Length}
 use Rattle.replies.specs.declared.fetches.Mf4Fetched.{Mf4Fetched}
-use Rattle.replies.proofs.ToldToC.{Tellable, Any, Reversible, headerAgain, header-told, writtenAgain, written-told, listAgain, list-told, textAgain, text-told, valueReplyAgain, value-told, validValueAgain, valid-value-told, lengthAgain, length-told, fetchedAgain, fetched-told}
-use Rattle.theorems.specs.ClausesToC.{ReadsHeaderC, WritesHeaderC, ReadsListC, WritesEqualC, WritesVariableC, WritesTextC, ReadsValueC, ReadsValidValueC, ReadsLengthC, ReadsRecordC, ReadsRecordValueC}
+use Rattle.replies.proofs.ToldToC.{Tellable, Any, Reversible, headerAgain, header-told, writtenAgain, written-told, listAgain, list-told, channelAgain, description-back, channel-told, textAgain, text-told, valueReplyAgain, value-told, validValueAgain, valid-value-told, lengthAgain, length-told, fetchedAgain, fetched-told}
+use Rattle.theorems.specs.ClausesToC.{ReadsHeaderC, WritesHeaderC, ReadsListC, WritesEqualC, WritesVariableC, ReadsChannelC, WritesChannelC, WritesTextC, ReadsValueC, ReadsValidValueC, ReadsLengthC, ReadsRecordC, ReadsRecordValueC}
 use Rattle.theorems.proofs.TextClausesToC.{text-clause}
-use Rattle.theorems.proofs.RefusalNumbers.{Numbered, FromTwo, header-numbered, list-numbered, header-written-numbered, list-written-numbered, text-written-numbered, length-numbered, fetched-numbered}
+use Rattle.theorems.proofs.RefusalNumbers.{Numbered, FromTwo, header-numbered, list-numbered, channel-numbered, header-written-numbered, channel-written-numbered, list-written-numbered, text-written-numbered, length-numbered, fetched-numbered}
 
 -- ---- the values of fields can be told
 
@@ -121,6 +125,19 @@ mf4-write-header-told κs header out y after p = by-result writtenC writtenAgain
 
 pub mf4-read-list-told : (κs : Lfts 1) (bytes : Slice) (y : Mf4List) → ReadsListC κs bytes y → listAgain y ≡ listOf (bytes .now)
 mf4-read-list-told κs bytes y p = ap listAgain p ∙ list-told _ (from-two _ (list-numbered (bytes .now)))
+
+pub mf4-read-channel-told : (κs : Lfts 1) (bytes : Slice) (y : Mf4ChannelReply) → ReadsChannelC κs bytes y → channelAgain y ≡ channelBlockOf (bytes .now)
+mf4-read-channel-told κs bytes y p = ap channelAgain p ∙ channel-told _ (from-two _ (channel-numbered (bytes .now)))
+
+-- the description that C is told is the block's, when C gives it to another call
+pub mf4-read-channel-described : (κs : Lfts 1) (bytes : Slice) (y : Mf4ChannelReply) (b : ChannelBlock) → ReadsChannelC κs bytes y
+    → channelBlockOf (bytes .now) ≡ answer b → channelGiven (y .block .channel) ≡ described b
+mf4-read-channel-described κs bytes y b p e =
+    ap (λ (x : Mf4ChannelReply). channelGiven (x .block .channel)) (p ∙ ap channelC e) ∙ description-back (described b)
+
+pub mf4-write-channel-told : (κs : Lfts 1) (block : Mf4ChannelBlock) (out : Slice) (y : Mf4Written) (after : List ℕ)
+    → WritesChannelC κs block out y after → writtenAgain y ≡ channelWritten (out .now) (blockGiven block) .reply
+mf4-write-channel-told κs block out y after p = by-result writtenC writtenAgain p (written-told _ (from-two _ (channel-written-numbered (out .now) (blockGiven block))))
 
 pub mf4-write-list-equal-told : (κs : Lfts 2) (next : ℕ) (links : Slice) (length : ℕ) (out : Slice) (y : Mf4Written) (after : List ℕ)
     → WritesEqualC κs next links length out y after → writtenAgain y ≡ listWritten (out .now) next (links .now) (equal length) .reply

@@ -6,9 +6,10 @@ use Rattle.definitions.specs.Unicode.{stopped, beforeNul}
 use Rattle.definitions.specs.Channel.{decoded, valueBy, valueOf, recordDouble, validOf}
 use Rattle.definitions.specs.Header.{headerOf, headerBytes}
 use Rattle.definitions.specs.DataList.{listOf, linksOf, restOf, listBytes}
+use Rattle.definitions.specs.ChannelBlock.{fieldsOf, channelBlockOf}
 use Rattle.definitions.specs.Chain.{joined, total, blockAt, fragmentOf, fragments, listAt, lists, chainOf, recordOf, fetched}
 use Rattle.theorems.specs.Examples.{Claim}
 
 pub claim : Claim
-unfolding toUnsigned ofBits toBits ofInt leOf le les stopped beforeNul decoded valueBy valueOf recordDouble validOf headerOf headerBytes listOf linksOf restOf listBytes joined total blockAt fragmentOf fragments listAt lists chainOf recordOf fetched
+unfolding toUnsigned ofBits toBits ofInt leOf le les stopped beforeNul decoded valueBy valueOf recordDouble validOf headerOf headerBytes listOf linksOf restOf listBytes fieldsOf channelBlockOf joined total blockAt fragmentOf fragments listAt lists chainOf recordOf fetched
 claim = refl

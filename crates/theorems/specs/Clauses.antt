@@ -8,6 +8,8 @@ use Rattle.mf4.specs.Clauses.{Slice, Allows}
 use Rattle.blocks.specs.declared.header.BlockHeader.{BlockHeader}
 use Rattle.blocks.specs.declared.header.HeaderRead.{HeaderRead}
 use Rattle.blocks.specs.declared.data_list.ListRead.{ListRead}
+use Rattle.blocks.specs.declared.channel_block.ChannelBlock.{ChannelBlock}
+use Rattle.blocks.specs.declared.channel_block.ChannelRead.{ChannelRead}
 use Rattle.blocks.specs.declared.written.Written.{Written}
 use Rattle.text.specs.declared.encoding.Encoding.{Encoding}
 use Rattle.text.specs.declared.answer.TextWrite.{TextWrite}
@@ -27,6 +29,12 @@ use Rattle.blocks.proofs.data_list.DataListBlock.write_equal.Kinds as list-equa
 use Rattle.blocks.proofs.data_list.DataListBlock.write_equal.Reads as list-equal
 use Rattle.blocks.proofs.data_list.DataListBlock.write_variable.Kinds as list-variable-kinds
 use Rattle.blocks.proofs.data_list.DataListBlock.write_variable.Reads as list-variable
+use Rattle.blocks.proofs.channel_block.ChannelBlock.from_bytes.Kinds as channel-read-kinds
+use Rattle.blocks.proofs.channel_block.ChannelBlock.from_bytes.Reads as channel-read
+use Rattle.blocks.proofs.channel_block.ChannelBlock.to_bytes.Kinds as channel-write-kinds
+use Rattle.blocks.proofs.channel_block.ChannelBlock.to_bytes.Reads as channel-write
+use Rattle.fields.proofs.channel.Channel.from_block.Kinds as channel-describe-kinds
+use Rattle.fields.proofs.channel.Channel.from_block.Reads as channel-describe
 use Rattle.text.proofs.write_text.Kinds as text-write-kinds
 use Rattle.text.proofs.write_text.Reads as text-write
 use Rattle.decoder.proofs.decode_channel_value.Kinds as value-read-kinds
@@ -64,6 +72,15 @@ WritesEqual κs next links length out y after =
 abbrev pub WritesVariable : Lfts 3 → ℕ → Slice → Slice → Slice → Written → List ℕ → Type 0
 WritesVariable κs next links offsets out y after =
     Allows 3 list-variable-kinds.ps list-variable-kinds.r list-variable.Learnt κs (next, (links, (offsets, (out, tt)))) y (tt, (tt, (tt, (after, tt))))
+
+abbrev pub ReadsChannel : Lfts 1 → Slice → ChannelRead → Type 0
+ReadsChannel κs bytes y = Allows 1 channel-read-kinds.ps channel-read-kinds.r channel-read.Learnt κs (bytes, tt) y (tt, tt)
+
+abbrev pub WritesChannel : Lfts 1 → ChannelBlock → Slice → Written → List ℕ → Type 0
+WritesChannel κs block out y after = Allows 1 channel-write-kinds.ps channel-write-kinds.r channel-write.Learnt κs (block, (out, tt)) y (tt, (after, tt))
+
+abbrev pub DescribesChannel : Lfts 0 → ChannelBlock → Channel → Type 0
+DescribesChannel κs block y = Allows 0 channel-describe-kinds.ps channel-describe-kinds.r channel-describe.Learnt κs (block, tt) y (tt, tt)
 
 -- ---- a text
 

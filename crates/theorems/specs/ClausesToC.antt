@@ -9,6 +9,8 @@ use Rattle.mf4.specs.Clauses.{Slice, Allows}
 use Rattle.replies.specs.declared.header.Mf4BlockHeader.{Mf4BlockHeader}
 use Rattle.replies.specs.declared.header.Mf4Header.{Mf4Header}
 use Rattle.replies.specs.declared.list.Mf4List.{Mf4List}
+use Rattle.replies.specs.declared.channel_block.Mf4ChannelBlock.{Mf4ChannelBlock}
+use Rattle.replies.specs.declared.channel_block.Mf4ChannelReply.{Mf4ChannelReply}
 use Rattle.replies.specs.declared.written.Mf4Written.{Mf4Written}
 use Rattle.replies.specs.declared.texts.Mf4Text.{Mf4Text}
 use Rattle.replies.specs.declared.channel.Mf4Channel.{Mf4Channel}
@@ -26,6 +28,10 @@ use Rattle.mf4.proofs.mf4_write_list_equal.Kinds as write-equal-kinds
 use Rattle.mf4.proofs.mf4_write_list_equal.Reads as write-equal
 use Rattle.mf4.proofs.mf4_write_list_variable.Kinds as write-variable-kinds
 use Rattle.mf4.proofs.mf4_write_list_variable.Reads as write-variable
+use Rattle.mf4.proofs.mf4_read_channel.Kinds as read-channel-kinds
+use Rattle.mf4.proofs.mf4_read_channel.Reads as read-channel
+use Rattle.mf4.proofs.mf4_write_channel.Kinds as write-channel-kinds
+use Rattle.mf4.proofs.mf4_write_channel.Reads as write-channel
 use Rattle.mf4.proofs.mf4_text_latin1.Kinds as text-latin1-kinds
 use Rattle.mf4.proofs.mf4_text_latin1.Reads as text-latin1
 use Rattle.mf4.proofs.mf4_text_utf8.Kinds as text-utf8-kinds
@@ -67,6 +73,12 @@ WritesEqualC κs next links length out y after =
 abbrev pub WritesVariableC : Lfts 3 → ℕ → Slice → Slice → Slice → Mf4Written → List ℕ → Type 0
 WritesVariableC κs next links offsets out y after =
     Allows 3 write-variable-kinds.ps write-variable-kinds.r write-variable.Learnt κs (next, (links, (offsets, (out, tt)))) y (tt, (tt, (tt, (after, tt))))
+
+abbrev pub ReadsChannelC : Lfts 1 → Slice → Mf4ChannelReply → Type 0
+ReadsChannelC κs bytes y = Allows 1 read-channel-kinds.ps read-channel-kinds.r read-channel.Learnt κs (bytes, tt) y (tt, tt)
+
+abbrev pub WritesChannelC : Lfts 1 → Mf4ChannelBlock → Slice → Mf4Written → List ℕ → Type 0
+WritesChannelC κs block out y after = Allows 1 write-channel-kinds.ps write-channel-kinds.r write-channel.Learnt κs (block, (out, tt)) y (tt, (after, tt))
 
 -- ---- a text: the call for its encoding
 

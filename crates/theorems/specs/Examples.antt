@@ -4,14 +4,16 @@ use mathlib.Core.Path.{_≡_}
 use mathlib.Core.List.{List, [], _∷_, _++_, map}
 use mathlib.Core.Bool.{Bool, true, false}
 use lib.IntN.{pos, negsuc}
-use lib.ListN.{length}
+use lib.ListN.{length, take}
 use lib.Ieee.{binary64, ofBits, toUnsigned, fin}
 use Rattle.definitions.specs.Reply.{Reply, Outcome, answer, refusal}
-use Rattle.definitions.specs.Bytes.{little, big, le}
+use Rattle.definitions.specs.Bytes.{little, big, le, les}
 use Rattle.definitions.specs.Unicode.{latin1}
 use Rattle.definitions.specs.DataType.{DataType, unsignedInteger, signedInteger, float, string}
 use Rattle.definitions.specs.Channel.{Channel, Value, unsigned, signed, double, text, valueOf, recordDouble, validOf}
 use Rattle.definitions.specs.DataList.{DataList, idDL, listOf, listBytes}
+use Rattle.definitions.specs.Header.{Header}
+use Rattle.definitions.specs.ChannelBlock.{ChannelBlock, idCN, channelBlockOf}
 use Rattle.definitions.specs.Chain.{idDT, fetched}
 
 -- a fixed channel: byte offset, flags, invalidation bit position, data type, bit offset, bit count
@@ -38,6 +40,46 @@ flagged flags position = fixed 0 flags position (unsignedInteger little) 0 8
 abbrev pub shortList : ℕ → ℕ → List ℕ
 shortList links flags = idDL ++ le 4 0 ++ le 8 40 ++ le 8 links ++ le 8 0 ++ (flags ∷ 0 ∷ 0 ∷ 0 ∷ []) ++ le 4 0
 
+-- a channel block with the given block length and link count: the links 1 to 8, and maybe others; then a signed integer of 12
+-- bits from bit 4 of byte 5 on, invalid by bit 3, and the limits 11 to 16
+abbrev pub channelBlock : ℕ → ℕ → List ℕ → List ℕ
+channelBlock size links others =
+    idCN ++ le 4 0 ++ le 8 size ++ le 8 links ++ les (1 ∷ 2 ∷ 3 ∷ 4 ∷ 5 ∷ 6 ∷ 7 ∷ 8 ∷ []) ++ les others
+    ++ (0 ∷ 9 ∷ 2 ∷ 4 ∷ []) ++ le 4 5 ++ le 4 12 ++ le 4 2 ++ le 4 3 ++ (10 ∷ 0 ∷ []) ++ le 2 0
+    ++ les (11 ∷ 12 ∷ 13 ∷ 14 ∷ 15 ∷ 16 ∷ [])
+
+abbrev pub channelRead : ℕ → ℕ → ChannelBlock
+channelRead size more = record {
+  header = record { id = 1313022755; reserved = 0; blockLength = size; linkCount = 8 + more };
+  nextChannel = 1;
+  component = 2;
+  name = 3;
+  source = 4;
+  conversion = 5;
+  dataLink = 6;
+  unit = 7;
+  comment = 8;
+  moreAt = 88;
+  more = more;
+  channelType = 0;
+  syncType = 9;
+  dataType = signedInteger little;
+  bitOffset = 4;
+  byteOffset = 5;
+  bitCount = 12;
+  flags = 2;
+  invalidationBit = 3;
+  precision = 10;
+  reserved = 0;
+  attachments = 0;
+  minRaw = 11;
+  maxRaw = 12;
+  lowerLimit = 13;
+  upperLimit = 14;
+  lowerExtended = 15;
+  upperExtended = 16;
+}
+
 -- a data block
 abbrev pub dataBlock : List ℕ → List ℕ
 dataBlock bytes = idDT ++ le 4 0 ++ le 8 (24 + length bytes) ++ le 8 0 ++ bytes
@@ -63,6 +105,7 @@ pub data Row : Type 0 where
   -- validity with id size 0 and 2 data bytes
   validity : List ℕ → Channel → Bool → Row
   list : List ℕ → Reply DataList → Row
+  block : List ℕ → Reply ChannelBlock → Row
   -- record k of size 2 from the chain at 8, into a buffer of 2 bytes FF
   fetch : List ℕ → ℕ → Outcome (Unit {0}) → Row
 
@@ -72,6 +115,7 @@ pub data Said : Type 0 where
   aNumber : ℕ → Said
   aTest : Bool → Said
   aList : Reply DataList → Said
+  aBlock : Reply ChannelBlock → Said
   aRecord : Outcome (Unit {0}) → Said
 
 -- what the definitions give for a row's call, and what the row says
@@ -80,6 +124,7 @@ given (value s c r) = aValue (valueOf s 0 c)
 given (counter n r) = aNumber (toUnsigned 64 (ofBits binary64 (recordDouble (le 8 n) 0 (channel (unsignedInteger little) 0 64))))
 given (validity s c r) = aTest (validOf s 0 2 c)
 given (list s r) = aList (listOf s)
+given (block s r) = aBlock (channelBlockOf s)
 given (fetch f k r) = aRecord (fetched f 8 k 2 (255 ∷ 255 ∷ []))
 
 abbrev pub stated : Row → Said
@@ -87,6 +132,7 @@ stated (value s c r) = aValue r
 stated (counter n r) = aNumber r
 stated (validity s c r) = aTest r
 stated (list s r) = aList r
+stated (block s r) = aBlock r
 stated (fetch f k r) = aRecord r
 
 abbrev pub table : List Row
@@ -125,6 +171,16 @@ table =
     }))
     ∷ list (shortList 1 1) (refusal 2 48)
     ∷ list (shortList 18446744073709551615 0) (refusal 2 18446744073709551615)
+    ∷ block (channelBlock 160 8 []) (answer (channelRead 160 0))
+    -- neither the block length nor a ninth link misleads; the bytes may be too few, and the links too few or countless
+    ∷ block (channelBlock 1 8 []) (answer (channelRead 1 0))
+    ∷ block (channelBlock 168 9 (99 ∷ [])) (answer (channelRead 168 1))
+    ∷ block (channelBlock 160 9 []) (refusal 2 168)
+    ∷ block (take 159 (channelBlock 160 8 [])) (refusal 2 160)
+    ∷ block (channelBlock 160 7 []) (refusal 17 0)
+    ∷ block (channelBlock 160 18446744073709551615 []) (refusal 2 18446744073709551615)
+    ∷ block (shortList 1 0) (refusal 3 0)
+    ∷ block (take 23 (channelBlock 160 8 [])) (refusal 2 24)
     ∷ fetch threeBlocks 1 (record { reply = answer tt; buffer = 3 ∷ 4 ∷ [] })
     ∷ fetch oneBlock 1 (record { reply = answer tt; buffer = 3 ∷ 4 ∷ [] })
     ∷ fetch threeBlocks 3 (record { reply = refusal 16 0; buffer = 255 ∷ 255 ∷ [] })
