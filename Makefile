@@ -61,8 +61,10 @@ $(SHARED): build/libmf4.a | tools
 	@$(CC) -shared -nostdlib -Wl,-z,defs -Wl,-soname,$(SONAME) -Wl,--version-script,build/exports \
 	    -Wl,--whole-archive build/libmf4.a -o $@
 
-build/%: examples/%.c examples/pump.h include/mf4.h build/libmf4.a | tools
-	@$(CC) $(C_FLAGS) -o $@ $< build/libmf4.a
+build/make_log: examples/make_log.c examples/mdf_write.c
+build/loader: examples/loader.c examples/listing.c examples/mdf_walk.c examples/mdf_file.c
+build/make_log build/loader: $(wildcard examples/*.h) include/mf4.h build/libmf4.a | tools
+	@$(CC) $(C_FLAGS) -o $@ $(filter %.c,$^) build/libmf4.a
 
 # Below $(DESTDIR)$(PREFIX): header, archive, shared object, pkg-config file and licences.
 install: build/libmf4.a $(SHARED)

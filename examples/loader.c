@@ -1,162 +1,153 @@
 /*
- * Reads a pump log with the library and says for each record which pump it is, how long it has run and whether its service
- * is due. Then it shows two refusals: a record past the end, and a copy of the log in which a list tells an untrue offset.
+ * Reads a pump log with the library: which channels it has, what each record says, and which pumps are due for service. All
+ * of it is found in the file, by its links from the header block on; of pumps the loader knows the name of one channel and
+ * the hours of a service. Then it shows two refusals: a record past the end, and a copy of the log in which a list tells
+ * an untrue offset.
  *
  *     loader FILE
  */
 #include <inttypes.h>
 #include <stdio.h>
 #include <stdlib.h>
+#include <string.h>
 
-#include "pump.h"
+#include "listing.h"
+#include "mdf_walk.h"
 
-typedef struct log_bytes {
-    uint8_t *bytes;
-    size_t length;
-} log_bytes;
+#define HOURS_NAME "hours"
 
-/* The log is copied: what the calls read must not change under them, and a mapping would follow the file. */
-static int copy_log(const char *path, log_bytes *log)
+enum { SERVICE_HOURS = 500 };
+
+static mdf_channel channels[MDF_MOST_CHANNELS];
+
+static const mdf_channel *find_channel(const char *name, size_t count)
 {
-    FILE *file = fopen(path, "rb");
-    long length = file != NULL && fseek(file, 0, SEEK_END) == 0 ? ftell(file) : -1;
-    int is_copied = 0;
-    if (length > 0 && fseek(file, 0, SEEK_SET) == 0) {
-        log->length = (size_t)length;
-        log->bytes = malloc(log->length);
-        is_copied = log->bytes != NULL && fread(log->bytes, 1, log->length, file) == log->length;
+    size_t i;
+    for (i = 0; i < count; i++)
+        if (strcmp(channels[i].name, name) == 0)
+            return &channels[i];
+    return NULL;
+}
+
+/* Hours of any number type are compared as doubles, which keep the order. Where they are no number, invalid or in need of a
+ * conversion, nothing is known of service. */
+static const char *service_of(const mdf_group *group, const mdf_channel *hours, const uint8_t *record)
+{
+    const size_t size = (size_t)group->record_size;
+    double run;
+    if (hours == NULL)
+        return "";
+    run = mf4_double_of(mf4_decode_double(record, size, group->record_id_size, hours->block.channel));
+    if (hours->block.conversion_addr == 0
+        && mf4_check_validity(record, size, group->record_id_size, group->data_bytes, hours->block.channel)) {
+        if (run >= SERVICE_HOURS)
+            return "  SERVICE DUE";
+        if (run < SERVICE_HOURS)
+            return "";
     }
-    if (!is_copied)
-        fprintf(stderr, "%s: cannot be read\n", path);
-    if (file != NULL)
-        fclose(file);
-    return is_copied;
+    return "  hours unknown";
 }
 
-static void print_refusal(const char *what, uint32_t reply)
+/* Fetches each record once and decodes every channel from it; gives the reply to the first record that is refused. */
+static uint32_t print_records(const mdf_file *file, const mdf_group *group, size_t count, uint64_t *number)
 {
-    printf("%s: refused (%" PRIu32 "): %s\n", what, reply, mf4_reply_text(reply));
-}
-
-static mf4_list list_at(const log_bytes *log, uint64_t address)
-{
-    if (address >= log->length)
-        return mf4_read_list(NULL, 0);
-    return mf4_read_list(log->bytes + address, log->length - (size_t)address);
-}
-
-static void print_first_list(const log_bytes *log)
-{
-    mf4_list list = list_at(log, FIRST_LIST_AT);
-    if (list.reply != MF4_ANSWER) {
-        print_refusal("data list", list.reply);
-        return;
+    const mdf_channel *hours = find_channel(HOURS_NAME, count);
+    uint8_t record[MF4_MAX_RECORD_SIZE];
+    if (hours == NULL)
+        printf("  no channel is named " HOURS_NAME ", so nothing is said of service\n");
+    printf("  record");
+    print_heading(channels, count);
+    printf("\n");
+    for (*number = 0;; ++*number) {
+        mf4_fetched fetched = mdf_read_record(file, group, *number, record, sizeof record);
+        if (fetched.reply != MF4_ANSWER)
+            return fetched.reply;
+        printf("  %6" PRIu64, *number);
+        print_values(group, channels, count, record);
+        printf("%s\n", service_of(group, hours, record));
     }
-    printf("data list at %d: %" PRIu64 " data blocks, %s, %s\n", FIRST_LIST_AT, list.links,
-           (list.flags & MF4_LIST_EQUAL_LENGTH) ? "one length for all" : "an offset for each",
-           list.next == 0 ? "no list follows" : "another list follows");
 }
 
-/* Each channel is decoded from the record that was fetched, and looked at only where it has a value that is valid. */
-static mf4_valid_value field_of(const uint8_t *record, mf4_channel channel)
+static void print_size(const mdf_group *group, uint64_t length)
 {
-    return mf4_decode_valid_value(record, RECORD_SIZE, RECORD_ID_SIZE, DATA_BYTES, channel);
+    const uint64_t records = length / group->record_size, tail = length % group->record_size;
+    printf("\n%s at %" PRIu64 ": %" PRIu64 " bytes, %" PRIu64 " records of %" PRIu64,
+           group->is_chain ? "data lists" : "data", group->data, length, records, group->record_size);
+    if (tail != 0)
+        printf(" and a tail of %" PRIu64 " that is none", tail);
+    if (group->cycles != records)
+        printf("; the file counts %" PRIu64, group->cycles);
+    printf("\n");
 }
 
-/* The serial up to its NUL: the value's place and length leave the leftovers out. */
-static void print_serial(const uint8_t *record)
+/* Asks for the record behind the last one too, which must be refused. */
+static int show_data(mdf_file *file, const mdf_group *group, size_t count)
 {
-    uint8_t serial[17];  /* mf4_text_room(SERIAL_SIZE) */
-    mf4_valid_value field = field_of(record, serial_channel);
-    mf4_text text = mf4_text_by_type(serial_channel.data_type, record + field.at, (size_t)field.length, serial,
-                                     sizeof serial);
-    if (field.reply != MF4_ANSWER || text.reply != MF4_ANSWER || !field.is_valid)
-        printf(" pump ?");
-    else
-        printf(" pump %.*s", (int)text.count, (const char *)serial);
+    const mf4_length data = mdf_data_length(file, group);
+    const uint64_t records = data.length / group->record_size;
+    uint64_t number;
+    uint32_t reply;
+    if (data.reply != MF4_ANSWER)
+        return mdf_trouble(file, "data at %" PRIu64 ": refused (%" PRIu32 "): %s", group->data, data.reply,
+                           mf4_reply_text(data.reply));
+    print_size(group, data.length);
+    reply = print_records(file, group, count, &number);
+    printf("  %6" PRIu64 "  refused (%" PRIu32 "): %s\n", number, reply, mf4_reply_text(reply));
+    return (number == records && reply == MF4_NO_SUCH_RECORD)
+        || mdf_trouble(file, "record %" PRIu64 " should be there", number);
 }
 
-static void print_hours(const uint8_t *record)
+static int show_group(mdf_file *file, uint64_t address, mdf_group *group)
 {
-    mf4_valid_value hours = field_of(record, hours_channel);
-    if (hours.reply != MF4_ANSWER)
-        printf(", hours unknown: %s", mf4_reply_text(hours.reply));
-    else if (!hours.is_valid)
-        printf(", hours not counted");
-    else
-        printf(", %" PRIu64 " hours, %s", hours.number, hours.number >= SERVICE_HOURS ? "SERVICE DUE" : "no service yet");
+    size_t count;
+    if (!mdf_read_group(file, address, group) || !mdf_read_channels(file, group, channels, &count))
+        return 0;
+    printf("\ndata group at %" PRIu64 ": %u channels\n", address, (unsigned)count);
+    print_channels(channels, count);
+    return show_data(file, group, count);
 }
 
-static void print_temperature(const uint8_t *record)
+/* Makes the last offset of a list untrue by one, in the copy. A list that tells one length has none. */
+static int show_untrue_offset(mdf_file *file, const mdf_group *group)
 {
-    mf4_valid_value oil = field_of(record, temperature_channel);
-    if (oil.reply != MF4_ANSWER)
-        printf(", oil unknown: %s\n", mf4_reply_text(oil.reply));
-    else if (!oil.is_valid)
-        printf(", oil not measured\n");
-    else
-        printf(", oil %.2f C\n", mf4_double_of(oil.number));
+    const mf4_list list = mf4_read_list(file->bytes + group->data, file->length - (size_t)group->data);
+    mf4_length data;
+    if (list.reply != MF4_ANSWER || (list.flags & MF4_LIST_EQUAL_LENGTH) != 0 || list.rest == 0)
+        return 1;
+    file->bytes[group->data + list.rest_at + 8 * (list.rest - 1)] ^= 1;
+    data = mdf_data_length(file, group);
+    printf("\nthe same log with an untrue offset in the list at %" PRIu64 ":\n  refused (%" PRIu32 "): %s\n", group->data,
+           data.reply, mf4_reply_text(data.reply));
+    return data.reply == MF4_UNTRUE_DECLARATION || mdf_trouble(file, "the untrue offset should be refused");
 }
 
-/* Fetches a record once and prints its channels; gives the reply. */
-static uint32_t print_record(const log_bytes *log, uint64_t number)
+static int show_file(mdf_file *file)
 {
-    uint8_t record[RECORD_SIZE];
-    mf4_fetched fetched = mf4_read_record(log->bytes, log->length, FIRST_LIST_AT, number, RECORD_SIZE, record,
-                                          sizeof record);
-    if (fetched.reply != MF4_ANSWER) {
-        char what[40];
-        snprintf(what, sizeof what, "record %" PRIu64, number);
-        print_refusal(what, fetched.reply);
-        return fetched.reply;
+    mdf_group group, chain = { 0 };
+    uint64_t address;
+    if (!mdf_first_group(file, &address))
+        return 0;
+    for (; address != 0; address = group.next) {
+        if (!show_group(file, address, &group))
+            return 0;
+        if (group.is_chain && !chain.is_chain)
+            chain = group;
     }
-    printf("record %" PRIu64 ":", number);
-    print_serial(record);
-    print_hours(record);
-    print_temperature(record);
-    return MF4_ANSWER;
-}
-
-/* Prints every record, then asks for one more; gives the last reply: 16 is that of a good log. */
-static uint32_t print_records(const log_bytes *log)
-{
-    mf4_length data = mf4_data_length(log->bytes, log->length, FIRST_LIST_AT);
-    uint64_t number, records = data.length / RECORD_SIZE;
-    uint32_t reply = MF4_ANSWER;
-    if (data.reply != MF4_ANSWER) {
-        print_refusal("the chain", data.reply);
-        return data.reply;
-    }
-    printf("%" PRIu64 " bytes of data: %" PRIu64 " records, and a tail of %" PRIu64 " bytes that is none\n", data.length,
-           records, data.length % RECORD_SIZE);
-    for (number = 0; number < records && reply == MF4_ANSWER; number++)
-        reply = print_record(log, number);
-    return reply == MF4_ANSWER ? print_record(log, records) : reply;
-}
-
-/* Makes the last offset of the first list untrue by one, in the copy. */
-static void damage_last_offset(const log_bytes *log)
-{
-    mf4_list list = list_at(log, FIRST_LIST_AT);
-    if (list.reply == MF4_ANSWER && list.rest > 0)
-        log->bytes[FIRST_LIST_AT + list.rest_at + 8 * (list.rest - 1)] ^= 1;
+    return !chain.is_chain || show_untrue_offset(file, &chain);
 }
 
 int main(int count, char **words)
 {
-    log_bytes log = { NULL, 0 };
-    int is_as_expected = 0;
+    mdf_file file = { NULL, 0, "" };
+    int is_as_expected;
     if (count != 2) {
         fputs("use: loader FILE\n", stderr);
         return 2;
     }
-    if (copy_log(words[1], &log)) {
-        print_first_list(&log);
-        is_as_expected = print_records(&log) == MF4_NO_SUCH_RECORD;
-        puts("the same log with an untrue offset in its first list:");
-        damage_last_offset(&log);
-        is_as_expected &= print_records(&log) == MF4_UNTRUE_DECLARATION;
-    }
-    free(log.bytes);
+    is_as_expected = mdf_copy(&file, words[1]) && show_file(&file);
+    fflush(stdout);
+    if (!is_as_expected)
+        fprintf(stderr, "%s: %s\n", words[1], file.trouble);
+    free(file.bytes);
     return is_as_expected ? 0 : 1;
 }

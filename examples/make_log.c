@@ -1,40 +1,47 @@
 /*
- * Writes a small pump log: only the parts of an MDF4 file that the library reads. Every run writes the same bytes.
+ * Writes a small pump log, a whole file by ASAM MDF 4.1. Every run writes the same bytes.
  *
  *     make_log FILE
  *
- * Six records of RECORD_SIZE bytes (pump.h) and the beginning of a seventh, whose pump lost power, stand in six data blocks,
- * which two data lists name one behind the other: the first, at FIRST_LIST_AT, tells the offset of each block's data, the
- * second tells one length for its blocks, of which the last is shorter. The cuts fall inside records, and one block is empty:
- * a reader that took blocks for records would not get far.
+ * A pump controller's record, as the file's channel blocks tell it:
+ *
+ *     byte  0..5    serial, Latin-1, ends at a NUL; behind the NUL stand leftovers of older, longer serials
+ *     byte  6..14   hours run, unsigned, 64 bits from bit 4 of byte 6 on, so over 9 bytes
+ *     byte 15..18   oil temperature in degrees Celsius, 32-bit float
+ *     byte 19       invalidation bits; bit 0 is the temperature's
+ *
+ * Six records and the beginning of a seventh, whose pump lost power, stand in six data blocks, which two data lists name one
+ * behind the other. The cuts fall inside records, and one block is empty: a reader that took blocks for records would not
+ * get far.
  */
 #include <stdio.h>
 #include <string.h>
 
-#include "pump.h"
+#include "mdf_layout.h"
+#include "mdf_write.h"
 
 enum {
+    RECORD_SIZE = 20,
+    DATA_BYTES = 19,
+    SERIAL_SIZE = 6,
+    HOURS_AT = 6,
+    HOURS_BIT_OFFSET = 4,
+    TEMPERATURE_AT = 15,
+
     RECORDS = 6,
     TAIL = 7,
     DATA = RECORDS * RECORD_SIZE + TAIL,
-    MOST_FILE = 1024,
+    CHANNELS = 3,
     BLOCKS = 6,
     BLOCKS_OF_FIRST_LIST = 3,
     BLOCKS_OF_SECOND_LIST = BLOCKS - BLOCKS_OF_FIRST_LIST
 };
 
+#define START_TIME UINT64_C(1772431200000000000) /* 2 March 2026, 6 o'clock UTC, in nanoseconds */
+
 static const size_t block_sizes[BLOCKS] = { 33, 0, 37, 25, 25, TAIL };
 
-typedef struct log_file {
-    uint8_t bytes[MOST_FILE];
-    size_t length;
-} log_file;
-
-static void put_little(uint8_t *place, uint64_t number, int size)
-{
-    for (; size > 0; size--, number >>= 8)
-        *place++ = (uint8_t)number;
-}
+/* ---- the records ------------------------------------------------------------------------------------------------ */
 
 /* The counter begins in the upper half of its first byte and ends in the lower half of its ninth. */
 static void put_hours(uint8_t *record, uint64_t hours)
@@ -74,73 +81,117 @@ static void make_records(uint8_t *data)
         put_hours(record, entries[i].hours);
         put_temperature(record, entries[i].degrees, entries[i].is_valid);
     }
+    memcpy(data + RECORDS * RECORD_SIZE, "PX2\0" "47", TAIL);
 }
 
-/* A writer call that is refused ends the program: the sizes are ours, so it would be our mistake. */
-static int is_written(mf4_written written)
+/* ---- the file --------------------------------------------------------------------------------------------------- */
+
+static void add_identification(new_file *file)
 {
-    if (written.reply != MF4_ANSWER)
-        fprintf(stderr, "make_log: %s\n", mf4_reply_text(written.reply));
-    return written.reply == MF4_ANSWER;
+    uint8_t *bytes = file->bytes + keep_room(file, IDENTIFICATION_SIZE);
+    memcpy(bytes, "MDF     ", 8);
+    memcpy(bytes + IDENTIFICATION_TEXT, "4.10    ", 8);
+    memcpy(bytes + IDENTIFICATION_PROGRAM, "make_log", 8);
+    put_little(bytes + IDENTIFICATION_VERSION, 410, 2);
 }
 
-static int add_data_block(log_file *file, const uint8_t *data, size_t size, uint64_t *address)
+/* The file's history: MDF 4.1 wants one entry at least, with a comment that names the tool. */
+static uint64_t add_history(new_file *file)
 {
-    mf4_block_header header = { .id = MF4_ID_DT, .block_len = MF4_HEADER_SIZE + size };
-    *address = file->length;
-    if (!is_written(mf4_write_header(header, file->bytes + file->length, MOST_FILE - file->length)))
-        return 0;
-    memcpy(file->bytes + file->length + MF4_HEADER_SIZE, data, size);
-    file->length += MF4_HEADER_SIZE + size;
-    return 1;
+    const uint64_t history = add_block(file, ID_FH, FH_LINKS, FH_FIELDS);
+    set_field(file, history, FH_LINKS, FH_TIME, START_TIME, 8);
+    set_link(file, history, FH_COMMENT,
+             add_text(file, MF4_ID_MD,
+                      "<FHcomment xmlns=\"http://www.asam.net/mdf/v4\"><TX>A made-up pump log</TX>"
+                      "<tool_id>make_log</tool_id><tool_vendor>Tsikumanto</tool_vendor>"
+                      "<tool_version>" MF4_VERSION "</tool_version></FHcomment>"));
+    return history;
 }
 
-/* The lists stand in front of the blocks, so their room is kept first and they are written last. */
-static int make_log(log_file *file, const uint8_t *data)
+/* The channels stand one behind the other, and their texts behind them; gives the first one's address. */
+static uint64_t add_channels(new_file *file)
+{
+    static const struct {
+        const char *name, *unit;
+        mf4_channel channel;
+    } entries[CHANNELS] = {
+        { "serial", NULL, { .data_type = MF4_LATIN1, .bit_count = 8 * SERIAL_SIZE } },
+        { "hours", "h", { .data_type = MF4_UNSIGNED_LE, .bit_offset = HOURS_BIT_OFFSET, .byte_offset = HOURS_AT,
+                          .bit_count = 64 } },
+        { "temperature", "\xC2\xB0" "C", { .data_type = MF4_FLOAT_LE, .byte_offset = TEMPERATURE_AT, .bit_count = 32,
+                                           .flags = MF4_CHANNEL_INVALIDATION_BIT } },
+    };
+    uint64_t places[CHANNELS + 1] = { 0 };
+    int i;
+    for (i = 0; i < CHANNELS; i++)
+        places[i] = keep_room(file, MF4_CHANNEL_BLOCK_SIZE);
+    for (i = 0; i < CHANNELS; i++) {
+        mf4_channel_block block = { .next_ch_addr = places[i + 1], .channel = entries[i].channel };
+        block.name_addr = add_text(file, MF4_ID_TX, entries[i].name);
+        block.unit_addr = entries[i].unit != NULL ? add_text(file, MF4_ID_TX, entries[i].unit) : 0;
+        must_write(mf4_write_channel(block, file->bytes + places[i], MF4_CHANNEL_BLOCK_SIZE));
+    }
+    return places[0];
+}
+
+/* The lists stand in front of the blocks, so their room is kept first and they are written last; gives the first's place. */
+static uint64_t add_data_lists(new_file *file, const uint8_t *data)
 {
     const size_t first_size = MF4_HEADER_SIZE + 8 + 8 * BLOCKS_OF_FIRST_LIST + 8 + 8 * BLOCKS_OF_FIRST_LIST;
-    const size_t second_size = MF4_HEADER_SIZE + 8 + 8 * BLOCKS_OF_SECOND_LIST + 8 + 8;
-    const uint64_t second_list_at = FIRST_LIST_AT + first_size;
+    const size_t second_size = MF4_HEADER_SIZE + 8 + 8 * BLOCKS_OF_SECOND_LIST + 8 + 8 * BLOCKS_OF_SECOND_LIST;
+    const uint64_t first = keep_room(file, first_size), second = keep_room(file, second_size);
     uint64_t links[BLOCKS], offsets[BLOCKS], offset = 0;
     int i;
-    memcpy(file->bytes, "MDF     4.10    ", FIRST_LIST_AT);
-    file->length = FIRST_LIST_AT + first_size + second_size;
     for (i = 0; i < BLOCKS; i++) {
         offsets[i] = offset;
-        if (!add_data_block(file, data + offset, block_sizes[i], &links[i]))
-            return 0;
+        links[i] = add_data(file, data + offset, block_sizes[i]);
         offset += block_sizes[i];
     }
-    return is_written(mf4_write_list_variable(second_list_at, links, BLOCKS_OF_FIRST_LIST, offsets, BLOCKS_OF_FIRST_LIST,
-                                              file->bytes + FIRST_LIST_AT, first_size))
-        && is_written(mf4_write_list_equal(0, links + BLOCKS_OF_FIRST_LIST, BLOCKS_OF_SECOND_LIST,
-                                           block_sizes[BLOCKS_OF_FIRST_LIST], file->bytes + second_list_at, second_size));
+    must_write(mf4_write_list_variable(second, links, BLOCKS_OF_FIRST_LIST, offsets, BLOCKS_OF_FIRST_LIST,
+                                       file->bytes + first, first_size));
+    must_write(mf4_write_list_variable(0, links + BLOCKS_OF_FIRST_LIST, BLOCKS_OF_SECOND_LIST,
+                                       offsets + BLOCKS_OF_FIRST_LIST, BLOCKS_OF_SECOND_LIST, file->bytes + second,
+                                       second_size));
+    return first;
 }
 
-static int save(const log_file *file, const char *path)
+/* A data group with its one channel group, the channels and the data. */
+static uint64_t add_group(new_file *file, const uint8_t *data)
 {
-    FILE *out = fopen(path, "wb");
-    int is_saved = out != NULL && fwrite(file->bytes, 1, file->length, out) == file->length;
-    if (out != NULL && fclose(out) != 0)
-        is_saved = 0;
-    if (!is_saved)
-        perror(path);
-    return is_saved;
+    const uint64_t data_group = add_block(file, MF4_ID_DG, DG_LINKS, DG_FIELDS);
+    const uint64_t channel_group = add_block(file, MF4_ID_CG, CG_LINKS, CG_FIELDS);
+    set_link(file, data_group, DG_FIRST_CG, channel_group);
+    set_field(file, channel_group, CG_LINKS, CG_CYCLES, RECORDS, 8);
+    set_field(file, channel_group, CG_LINKS, CG_DATA_BYTES, DATA_BYTES, 4);
+    set_field(file, channel_group, CG_LINKS, CG_INVALIDATION_BYTES, RECORD_SIZE - DATA_BYTES, 4);
+    set_link(file, channel_group, CG_FIRST_CN, add_channels(file));
+    set_link(file, data_group, DG_DATA, add_data_lists(file, data));
+    return data_group;
+}
+
+static void make_log(new_file *file, const uint8_t *data)
+{
+    uint64_t header;
+    add_identification(file);
+    header = add_block(file, MF4_ID_HD, HD_LINKS, HD_FIELDS);
+    set_field(file, header, HD_LINKS, HD_TIME, START_TIME, 8);
+    set_link(file, header, HD_FIRST_FH, add_history(file));
+    set_link(file, header, HD_FIRST_DG, add_group(file, data));
 }
 
 int main(int count, char **words)
 {
-    static log_file file;
+    static new_file file;
     uint8_t data[DATA] = { 0 };
     if (count != 2) {
         fputs("use: make_log FILE\n", stderr);
         return 2;
     }
     make_records(data);
-    memcpy(data + RECORDS * RECORD_SIZE, "PX2\0" "47", TAIL);
-    if (!make_log(&file, data) || !save(&file, words[1]))
+    make_log(&file, data);
+    if (!save_file(&file, words[1]))
         return 1;
-    printf("%s: %u bytes, %d records of %d bytes and %d bytes of another in %d data blocks, first data list at %d\n",
-           words[1], (unsigned)file.length, RECORDS, RECORD_SIZE, TAIL, BLOCKS, FIRST_LIST_AT);
+    printf("%s: written, %u bytes: %d records of %d bytes and %d bytes of another, in %d data blocks\n", words[1],
+           (unsigned)file.length, RECORDS, RECORD_SIZE, TAIL, BLOCKS);
     return 0;
 }
