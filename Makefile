@@ -26,7 +26,7 @@ SONAME := libmf4.so.$(basename $(VERSION))
 SHARED := build/libmf4.so.$(VERSION)
 SOURCES := crates.txt $(shell find crates -name '*.rt' -o -name '*.antt')
 
-.PHONY: demo test quick archive shared install clean ctest installed check compare fuzz bench fmt kit tools
+.PHONY: demo test quick archive shared install clean demotest ctest installed check compare fuzz bench fmt kit tools
 
 # Writes a small pump log and reads it with the library.
 demo: build/make_log build/loader
@@ -39,7 +39,7 @@ test: kit
 
 # The C side alone: all that can be tried without the proofs of everything.
 quick: CASES := 2000
-quick: demo ctest check installed
+quick: demo demotest ctest check installed
 
 # The library, kept outside target/, which the gate removes. Only what has changed is proved again.
 archive: build/libmf4.a
@@ -81,6 +81,10 @@ install: build/libmf4.a $(SHARED)
 clean:
 	@rm -rf build target
 	@find tests -name __pycache__ -prune -exec rm -r {} +
+
+# The example programs: the log is legal, the loader prints what it should, and ends in order on that log damaged anywhere.
+demotest: build/make_log build/loader
+	@CC=$(CC) tests/demo/run build/libmf4.a build/demo
 
 # The header, and every call at its limits, between unreadable pages and under the address and undefined-behaviour checkers.
 ctest: archive | tools

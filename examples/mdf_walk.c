@@ -104,9 +104,12 @@ int mdf_read_group(mdf_file *file, uint64_t address, mdf_group *group)
 
 void mdf_make_printable(char *text)
 {
-    for (; *text != '\0'; text++)
-        if ((unsigned char)*text < ' ' || *text == 0x7F)
-            *text = '?';
+    unsigned char *at = (unsigned char *)text;
+    for (; *at != '\0'; at++)
+        if (*at < ' ' || *at == 0x7F)
+            *at = '?';
+        else if (at[0] == 0xC2 && at[1] >= 0x80 && at[1] < 0xA0)
+            at[0] = at[1] = '?';
 }
 
 /* A text block as UTF-8 with a NUL; "" for the link 0. What is no plain text, or too long, is told in brackets. */

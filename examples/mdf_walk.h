@@ -40,7 +40,7 @@ int mdf_read_group(mdf_file *file, uint64_t address, mdf_group *group);
 /* Fills a table with room for MDF_MOST_CHANNELS. */
 int mdf_read_channels(mdf_file *file, const mdf_group *group, mdf_channel *channels, size_t *count);
 
-/* A control character in a text would be obeyed by a terminal: each becomes a '?'. */
+/* A control character in a UTF-8 text would be obeyed by a terminal: each of its bytes becomes a '?'. */
 void mdf_make_printable(char *text);
 
 /* As mf4_data_length and mf4_read_record, for a chain, for a single ##DT block and for no data. */

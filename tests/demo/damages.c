@@ -1,0 +1,218 @@
+/*
+ * The loader over damaged logs: cut at every length, with every link led astray, with every byte changed, and with each
+ * thing in it that the loader must say something of.
+ *
+ *     damages LOG FOLDER
+ */
+#include <inttypes.h>
+#include <stdio.h>
+#include <string.h>
+
+#include "tried.h"
+
+static log_bytes good, bad;
+static char good_out[1 << 13];
+
+static void put(uint64_t at, uint64_t number, int size)
+{
+    for (; size > 0; size--, number >>= 8)
+        bad.bytes[at++] = (uint8_t)number;
+}
+
+/* The address of a block of the good log: of those with that id the one with that number, from 0. */
+static uint64_t block(const char *id, int number)
+{
+    size_t at;
+    for (at = 64; at + 24 <= good.length; at += 8)
+        if (memcmp(good.bytes + at, id, 4) == 0 && number-- == 0)
+            return at;
+    must_hold(0, id, 0);
+    return 0;
+}
+
+static uint64_t link_at(const char *id, int number, int link)
+{
+    return block(id, number) + 24 + 8 * (uint64_t)link;
+}
+
+/* The log with one number in it changed must end so, with such words. */
+static void changed(uint64_t at, uint64_t value, int size, int status, const char *words)
+{
+    bad = good;
+    put(at, value, size);
+    must_say(&bad, words, status, words);
+}
+
+/* ---- where anything may happen, in order ------------------------------------------------------------------------ */
+
+/* Every part of the log is needed, up to its last byte. */
+static void cut(void)
+{
+    bad = good;
+    for (bad.length = 0; bad.length < good.length; bad.length++)
+        must_hold(try_log(&bad, "cut at", bad.length) == 1, "cut at", bad.length);
+}
+
+static void change_bytes(void)
+{
+    static const uint8_t changes[] = { 0x01, 0x80, 0xFF };
+    size_t at, i;
+    for (at = 0; at < good.length; at++)
+        for (i = 0; i < sizeof changes; i++) {
+            bad = good;
+            bad.bytes[at] ^= changes[i];
+            try_log(&bad, "byte changed at", at);
+        }
+}
+
+/* ---- links ------------------------------------------------------------------------------------------------------ */
+
+/* A link that the loader follows: its message tells the address that leads nowhere, or what stands there instead. */
+static void lead_nowhere(uint64_t at)
+{
+    const uint64_t targets[] = { good.length, good.length - 23, UINT64_MAX, (uint64_t)1 << 63, 8 };
+    char words[40];
+    size_t i;
+    for (i = 0; i + 1 < sizeof targets / sizeof targets[0]; i++) {
+        snprintf(words, sizeof words, " at %" PRIu64 ": no block stands there", targets[i]);
+        changed(at, targets[i], 8, 1, words);
+    }
+    changed(at, targets[i], 8, 1, " at 8: 4.10 stands there");
+    changed(at, 64, 8, 1, " at 64: ##HD stands there");
+}
+
+/* A link of which the loader wants nothing may lead anywhere. */
+static void lead_anywhere(uint64_t at, int is_followed)
+{
+    const uint64_t last = good.length + 8;
+    uint64_t target;
+    for (target = 0; target <= last; target += 8) {
+        bad = good;
+        put(at, target, 8);
+        if (try_log(&bad, "link led to", target) == 1 || strcmp(tried_out, good_out) != 0)
+            must_hold(is_followed, "link led to", target);
+    }
+}
+
+/* For each link of a block: f where it is followed, c where it is looked at, a dot where it is neither. */
+static void lead_astray(const char *id, int number, const char *links)
+{
+    int i;
+    for (i = 0; links[i] != '\0'; i++) {
+        if (links[i] == 'f')
+            lead_nowhere(link_at(id, number, i));
+        lead_anywhere(link_at(id, number, i), links[i] != '.');
+    }
+}
+
+static void change_links(void)
+{
+    lead_astray("##HD", 0, "f.....");
+    lead_astray("##DG", 0, "fff.");
+    lead_astray("##CG", 0, "cf....");
+    lead_astray("##CN", 0, "f.f.c.f.");
+    lead_astray("##CN", 2, "f.f.c.f.");
+    changed(link_at("##HD", 0, 0), 0, 8, 1, "no data group: the link to it is 0");
+    changed(link_at("##DG", 0, 0), block("##DG", 0), 8, 1, "a list of groups that loops");
+    changed(link_at("##DG", 0, 1), 0, 8, 1, "no channel group: the link to it is 0");
+    changed(link_at("##DG", 0, 2), 0, 8, 0, "0 records of 20");
+    changed(link_at("##CG", 0, 0), block("##CG", 0), 8, 1, "another follows in its data group (unsorted data)");
+    changed(link_at("##CN", 2, 0), block("##CN", 0), 8, 1, "a list of channels that loops");
+    changed(link_at("##CN", 1, 0), block("##CN", 1), 8, 1, "a list of channels that loops");
+    changed(link_at("##CN", 1, 2), block("##MD", 0), 8, 0, "(XML)");
+    changed(link_at("##CN", 1, 4), 8, 8, 0, "hours [raw]");
+    must_hold(strstr(tried_out, "SERVICE DUE") == NULL && strstr(tried_out, "hours unknown") != NULL, "raw hours", 0);
+}
+
+/* ---- fields ----------------------------------------------------------------------------------------------------- */
+
+static void change_identification(void)
+{
+    changed(28, 330, 2, 1, "version 3.30");
+    changed(28, 399, 2, 1, "version 3.99");
+    changed(28, 400, 2, 0, "SERVICE DUE");
+    changed(28, 499, 2, 0, "SERVICE DUE");
+    changed(28, 500, 2, 1, "version 5.00");
+    changed(0, 'X', 1, 1, "does not begin with \"MDF     \"");
+    bad = good;
+    memcpy(bad.bytes, "UnFinMF ", 8);
+    must_say(&bad, "unfinished", 1, "not finished");
+}
+
+static void change_headers(void)
+{
+    changed(64 + 8, UINT64_MAX, 8, 1, "header at 64: its 18446744073709551615 bytes pass the file's end");
+    changed(64 + 8, 103, 8, 1, "header at 64: 103 bytes with 6 links are no ##HD block");
+    changed(64 + 16, 5, 8, 1, "header at 64: 104 bytes with 5 links are no ##HD block");
+    changed(64 + 16, (uint64_t)1 << 61, 8, 1, "are no ##HD block");
+    changed(block("##CN", 1) + 16, 7, 8, 1, "refused (17): the channel block has fewer than 8 links");
+    changed(block("##CN", 1) + 16, 9, 8, 1, "refused (2)");
+    changed(block("##CN", 1) + 8, 159, 8, 1, "refused (2)");
+    changed(block("##TX", 0) + 8, 23, 8, 1, "are no ##TX block");
+    changed(block("##DT", 1) + 8, 23, 8, 1, "refused (12)");
+}
+
+/* Fields of the channel group stand from 72 on, those of a channel from 88 on, a text from 24 on. */
+static void change_fields(void)
+{
+    changed(block("##CG", 0) + 72 + 8, 7, 8, 0, "; the file counts 7");
+    changed(block("##CG", 0) + 72 + 16, 1, 2, 1, "its records differ in length");
+    changed(block("##CG", 0) + 72 + 24, 0, 8, 1, "records of 0 bytes");
+    changed(block("##CG", 0) + 72 + 24, UINT64_MAX, 8, 1, "records of 8589934590 bytes");
+    changed(block("##CN", 1) + 88 + 2, 99, 1, 0, "unknown");
+    changed(block("##CN", 1) + 88 + 2, 3, 1, 0, "signed BE");
+    changed(block("##CN", 1) + 88 + 4, 1000, 4, 0, "refused (");
+    changed(block("##CN", 1) + 88 + 12, 1, 4, 0, "invalid  hours unknown");
+    changed(block("##CN", 1) + 88 + 12, 1, 4, 0, "all invalid");
+    changed(block("##TX", 1) + 24, 'H', 1, 0, "no channel is named hours");
+    changed(block("##TX", 1) + 24, 0xFF, 1, 0, "<Invalid UTF8>");
+    changed(block("##TX", 1) + 24, 0x1B, 1, 0, "?ours");
+    changed(block("##DT", 0) + 24 + 2, 0x9B, 1, 0, "     0  PX??");
+    changed(block("##TX", 2) + 24, UINT64_C(0x6868686868686868), 8, 0, "hours [hhhhhhhh] ");
+    bad = good;
+    put(block("##CN", 1) + 88, 1, 1);
+    put(link_at("##CN", 1, 5), 8, 8);
+    must_say(&bad, "values in other blocks", 0, "elsewhere");
+}
+
+/* A second data group behind the log's end, with a link more than it needs, over one data block with record 0. */
+static void add_group(void)
+{
+    const uint64_t group = (good.length + 7) / 8 * 8, data = group + 72;
+    bad = good;
+    bad.length = data + 24 + 20;
+    put(link_at("##DG", 0, 0), group, 8);
+    memcpy(bad.bytes + group, "##DG", 4);
+    put(group + 8, 72, 8);
+    put(group + 16, 5, 8);
+    put(group + 24 + 8, block("##CG", 0), 8);
+    put(group + 24 + 16, data, 8);
+    memcpy(bad.bytes + data, "##DT", 4);
+    put(data + 8, 24 + 20, 8);
+    memcpy(bad.bytes + data + 24, good.bytes + block("##DT", 0) + 24, 20);
+    must_say(&bad, "two groups", 0, "20 bytes, 1 records of 20; the file counts 6\n");
+    must_hold(strstr(strstr(tried_out, "20 bytes, 1"), "  PX1                      180              71.5\n") != NULL,
+              "a record in a single block", 0);
+    put(data + 8, 24 + 21, 8);
+    must_say(&bad, "a single block past the end", 1, "its 45 bytes pass the file's end");
+    put(data + 8, 23, 8);
+    must_say(&bad, "a single block without a header", 1, "are no ##DT block");
+}
+
+int main(int count, char **words)
+{
+    if (count != 3)
+        return 2;
+    begin_tries(words[1], words[2], &good);
+    must_hold(try_log(&good, "good log", 0) == 0 && strlen(tried_out) < sizeof good_out, "good log", 0);
+    strcpy(good_out, tried_out);
+    cut();
+    change_bytes();
+    change_links();
+    change_identification();
+    change_headers();
+    change_fields();
+    add_group();
+    report("demo: the loader ended in order on %u logs: cut, or with a link, a field or a byte changed\n", tried_count);
+    return 0;
+}

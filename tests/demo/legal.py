@@ -1,0 +1,141 @@
+"""Checks that a log is a legal MDF 4.1 file, by the block tables of ASAM MDF 4.1 and by nothing of the library's.
+
+    legal.py LOG
+
+Every block stands at a multiple of 8, has the links and the length of its kind, and follows the one before it with zeros
+between; every link leads to a block of the kind that it should; what the standard demands is there. Exit status: 0 if so, 1
+if not.
+"""
+
+import struct
+import sys
+import xml.etree.ElementTree
+
+# Of each kind: what its links may lead to, with a + where there must be something, and the bytes of its fields.
+TEXT = "TX MD"
+KINDS = {
+    "HD": (["DG", "+FH", "CH", "AT", "EV", "MD"], 32),
+    "FH": (["FH", "+MD"], 16),
+    "DG": (["DG", "CG", "DT DL HL DZ", TEXT], 8),
+    "CG": (["CG", "CN", "TX", "SI", "SR", TEXT], 32),
+    "CN": (["CN", "CN CA", "+TX", "SI", "CC", "SD DL HL CG DZ", TEXT, TEXT], 72),
+}
+# Where in its fields a kind has reserved bytes, which are 0.
+RESERVED = {"HD": slice(15, 16), "FH": slice(13, 16), "DG": slice(1, 8), "CG": slice(20, 24), "CN": slice(21, 22),
+            "DL": slice(1, 4)}
+NAMESPACE = "{http://www.asam.net/mdf/v4}"
+
+
+class Illegal(Exception):
+    pass
+
+
+def demand(holds, what):
+    if not holds:
+        raise Illegal(what)
+
+
+class Log:
+    def __init__(self, data):
+        self.data = data
+        self.blocks = {}  # address: kind, length, links, fields
+
+    def number(self, at, size):
+        demand(at + size <= len(self.data), f"{size} bytes at {at}")
+        return int.from_bytes(self.data[at:at + size], "little")
+
+    def visit(self, address, wanted):
+        """Reads the block there and all that it links; wanted: the kinds that may stand there."""
+        demand(address % 8 == 0, f"a multiple of 8 in place of {address}")
+        kind = self.data[address + 2:address + 4].decode("latin-1")
+        demand(self.data[address:address + 2] == b"##" and kind in wanted.split(), f"{wanted} at {address}, not {kind}")
+        if address in self.blocks:
+            return
+        length, count = self.number(address + 8, 8), self.number(address + 16, 8)
+        demand(self.number(address + 4, 4) == 0, f"a zero behind the id at {address}")
+        demand(24 + 8 * count <= length <= len(self.data) - address, f"a block of another length at {address}")
+        links = [self.number(address + 24 + 8 * i, 8) for i in range(count)]
+        self.blocks[address] = kind, length, links, self.data[address + 24 + 8 * count:address + length]
+        for link, target in zip(links, self.targets(address, kind, length, count)):
+            demand(link != 0 or "+" not in target, f"a link to {target} in the block at {address}")
+            if link != 0:
+                self.visit(link, target.strip("+"))
+
+    def targets(self, address, kind, length, count):
+        if kind == "DL":
+            return ["DL"] + ["DT SD RD DZ"] * (count - 1)
+        targets, fields = KINDS.get(kind, ([], length - 24))
+        demand(count == len(targets) and length == 24 + 8 * count + fields, f"the size of a {kind} block at {address}")
+        return targets
+
+    def of_kind(self, kind):
+        return [block for _, block in sorted(self.blocks.items()) if block[0] == kind]
+
+
+def check_identification(log):
+    demand(log.data[:16] == b"MDF     4.10    ", "the identification's texts")
+    demand(log.number(28, 2) == 410, "version 410")
+    demand(not any(log.data[24:28]) and not any(log.data[30:64]), "zeros in the identification")
+
+
+def check_places(log):
+    """No block overlaps another, nothing but zeros stands between them, and what is reserved is 0."""
+    end = 64
+    for address, (kind, length, _, fields) in sorted(log.blocks.items()):
+        demand(end <= address < end + 8 and not any(log.data[end:address]), f"{kind} at {address}, behind {end}")
+        demand(not any(fields[RESERVED.get(kind, slice(0))]), f"zeros where {kind} at {address} has reserved bytes")
+        end = address + length
+    demand(end == len(log.data), "a last block at the file's end")
+
+
+def check_texts(log):
+    for kind, length, _, fields in log.of_kind("TX") + log.of_kind("MD"):
+        text, nul, rest = fields.partition(b"\0")
+        demand(length % 8 == 0 and nul and not any(rest), f"the end of the text {text}")
+        text.decode("utf-8")
+    for _, _, links, _ in log.of_kind("FH"):
+        comment = xml.etree.ElementTree.fromstring(log.blocks[links[1]][3].rstrip(b"\0").decode())
+        tags = [child.tag.replace(NAMESPACE, "") for child in comment]
+        demand(comment.tag == NAMESPACE + "FHcomment", "a history's comment")
+        demand(tags == ["TX", "tool_id", "tool_vendor", "tool_version"], "what a history's comment must tell")
+
+
+def check_channels(log):
+    for _, _, _, fields in log.of_kind("CN"):
+        kind, _, data_type, bit, byte, bits, flags, invalid = struct.unpack_from("<BBBBIIII", fields)
+        data_bytes, invalidation_bytes = struct.unpack_from("<II", log.of_kind("CG")[0][3], 24)
+        demand(kind == 0 and data_type <= 16 and bit < 8 and 8 * byte + bit + bits <= 8 * data_bytes, "a channel's place")
+        demand(flags in (0, 2) and (flags == 0 or invalid < 8 * invalidation_bytes), "an invalidation bit")
+        demand(not any(fields[22:]), "no attachments and no limits")
+
+
+def check_data(log):
+    """The lists in turn: offsets in all of them, each true; as many whole records as are counted."""
+    place = 0
+    for _, length, links, fields in log.of_kind("DL"):
+        flags, count = struct.unpack_from("<B3xI", fields)
+        demand(flags == 0 and count == len(links) - 1 and len(fields) == 8 + 8 * count, "a list's count")
+        for link, offset in zip(links[1:], struct.unpack_from(f"<{count}Q", fields, 8)):
+            demand(offset == place, f"the offset {place}, not {offset}")
+            place += log.blocks[link][1] - 24
+    cycles, _, data_bytes, invalidation_bytes = struct.unpack_from("<QQII", log.of_kind("CG")[0][3], 8)
+    demand(cycles == place // (data_bytes + invalidation_bytes), f"the count of records, not {cycles}")
+
+
+def main():
+    with open(sys.argv[1], "rb") as file:
+        log = Log(file.read())
+    try:
+        check_identification(log)
+        log.visit(64, "HD")
+        for check in (check_places, check_texts, check_channels, check_data):
+            check(log)
+    except (Illegal, UnicodeDecodeError, xml.etree.ElementTree.ParseError) as problem:
+        print(f"demo: FAILED: the log is no legal file, which would have {problem}")
+        return 1
+    print(f"demo: the log is legal by the tables of MDF 4.1: {len(log.blocks)} blocks, all at multiples of 8")
+    return 0
+
+
+if __name__ == "__main__":
+    sys.exit(main())
