@@ -41,7 +41,13 @@ static const char *type_name(uint8_t data_type)
     return data_type < sizeof names / sizeof names[0] ? names[data_type] : "unknown";
 }
 
-/* Values that stand elsewhere are not read here, and no conversion is applied: that is said, since a unit would mislead. */
+/* The values of such a channel are payloads in other blocks, which are not read here. */
+static int is_elsewhere(const mf4_channel *channel)
+{
+    return channel->channel_type == MF4_CHANNEL_VARIABLE_LENGTH && channel->data != 0;
+}
+
+/* No conversion is applied here; where there is one, that is said, since the unit would mislead. */
 static void print_place(const mf4_channel_block *block)
 {
     printf("  byte %" PRIu32, block->channel.byte_offset);
@@ -51,6 +57,8 @@ static void print_place(const mf4_channel_block *block)
         printf("; all invalid");
     else if ((block->channel.flags & MF4_CHANNEL_INVALIDATION_BIT) != 0)
         printf("; invalid where invalidation bit %" PRIu32 " is set", block->channel.pos_invalidation_bit);
+    if (is_elsewhere(&block->channel))
+        printf("; its values stand elsewhere");
     if (block->conversion_addr != 0)
         printf("; raw, its conversion is not applied");
     printf("\n");
@@ -122,7 +130,7 @@ static void spell_value(const mdf_group *group, const mdf_channel *channel, cons
     const mf4_channel described = channel->block.channel;
     const mf4_valid_value value = mf4_decode_valid_value(record, (size_t)group->record_size, group->record_id_size,
                                                          group->data_bytes, described);
-    if (described.channel_type == MF4_CHANNEL_VARIABLE_LENGTH && described.data != 0)
+    if (is_elsewhere(&described))
         strcpy(cell, "elsewhere");
     else if (value.reply != MF4_ANSWER)
         snprintf(cell, CELL_ROOM, "refused (%" PRIu32 ")", value.reply);

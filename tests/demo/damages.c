@@ -169,10 +169,24 @@ static void change_fields(void)
     changed(block("##TX", 1) + 24, 0x1B, 1, 0, "?ours");
     changed(block("##DT", 0) + 24 + 2, 0x9B, 1, 0, "     0  PX??");
     changed(block("##TX", 2) + 24, UINT64_C(0x6868686868686868), 8, 0, "hours [hhhhhhhh] ");
+    changed(block("##DG", 0) + 56, 1, 1, 0, "6 records of 21 and a tail of 1 that is none");
     bad = good;
     put(block("##CN", 1) + 88, 1, 1);
     put(link_at("##CN", 1, 5), 8, 8);
     must_say(&bad, "values in other blocks", 0, "elsewhere");
+}
+
+/* A name of 100 bytes, behind the log's end. */
+static void lengthen_name(void)
+{
+    const uint64_t name = (good.length + 7) / 8 * 8;
+    bad = good;
+    bad.length = name + 24 + 104;
+    put(link_at("##CN", 1, 2), name, 8);
+    memcpy(bad.bytes + name, "##TX", 4);
+    put(name + 8, 24 + 104, 8);
+    memset(bad.bytes + name + 24, 'h', 100);
+    must_say(&bad, "a long name", 0, "  (100 bytes)  unsigned ");
 }
 
 /* A second data group behind the log's end, with a link more than it needs, over one data block with record 0. */
@@ -212,6 +226,7 @@ int main(int count, char **words)
     change_identification();
     change_headers();
     change_fields();
+    lengthen_name();
     add_group();
     report("demo: the loader ended in order on %u logs: cut, or with a link, a field or a byte changed\n", tried_count);
     return 0;
