@@ -70,18 +70,18 @@ static void change_bytes(void)
 /* A link that the loader follows: its message tells the address that leads nowhere, or what stands there instead. */
 static void lead_nowhere(uint64_t at)
 {
-    const uint64_t targets[] = { good.length, good.length - 23, UINT64_MAX, (uint64_t)1 << 63, 8 };
+    const uint64_t targets[] = { good.length, good.length - 23, UINT64_MAX, (uint64_t)1 << 63 };
     char words[40];
     size_t i;
-    for (i = 0; i + 1 < sizeof targets / sizeof targets[0]; i++) {
+    for (i = 0; i < sizeof targets / sizeof targets[0]; i++) {
         snprintf(words, sizeof words, " at %" PRIu64 ": no block stands there", targets[i]);
         changed(at, targets[i], 8, 1, words);
     }
-    changed(at, targets[i], 8, 1, " at 8: 4.10 stands there");
+    changed(at, 8, 8, 1, " at 8: 4.10 stands there");
     changed(at, 64, 8, 1, " at 64: ##HD stands there");
 }
 
-/* A link of which the loader wants nothing may lead anywhere. */
+/* Wherever a link leads, the loader ends in order; and it prints the same where it wants nothing of that link. */
 static void lead_anywhere(uint64_t at, int is_followed)
 {
     const uint64_t last = good.length + 8;
