@@ -71,7 +71,7 @@ static void change_bytes(void)
 static void lead_nowhere(uint64_t at)
 {
     const uint64_t targets[] = { good.length, good.length - 23, UINT64_MAX, (uint64_t)1 << 63 };
-    char words[40];
+    char words[64];
     size_t i;
     for (i = 0; i < sizeof targets / sizeof targets[0]; i++) {
         snprintf(words, sizeof words, " at %" PRIu64 ": no block stands there", targets[i]);
