@@ -56,6 +56,40 @@ pub struct Channel {
     pub data: u64,
 }
 
+#[repr(C)]
+#[derive(Clone, Copy)]
+pub struct ChannelBlock {
+    pub header: BlockHeader,
+    pub next_ch_addr: u64,
+    pub component_addr: u64,
+    pub name_addr: u64,
+    pub source_addr: u64,
+    pub conversion_addr: u64,
+    pub unit_addr: u64,
+    pub comment_addr: u64,
+    pub more_links_at: u64,
+    pub more_links: u64,
+    pub channel: Channel,
+    pub sync_type: u8,
+    pub precision: u8,
+    pub reserved1: u8,
+    pub attachment_nr: u16,
+    pub min_raw_value: u64,
+    pub max_raw_value: u64,
+    pub lower_limit: u64,
+    pub upper_limit: u64,
+    pub lower_ext_limit: u64,
+    pub upper_ext_limit: u64,
+}
+
+#[repr(C)]
+#[derive(Clone, Copy)]
+pub struct ChannelReply {
+    pub reply: u32,
+    pub told: u64,
+    pub block: ChannelBlock,
+}
+
 /// The codes of `data_type`, as far as they are named here.
 pub mod data_type {
     pub const UNSIGNED_LE: u8 = 0;
@@ -159,6 +193,8 @@ extern "C" {
         out: *mut u8,
         out_len: usize,
     ) -> Written;
+    pub fn mf4_read_channel(bytes: *const u8, bytes_len: usize) -> ChannelReply;
+    pub fn mf4_write_channel(block: ChannelBlock, out: *mut u8, out_len: usize) -> Written;
     pub fn mf4_decode_value(record: *const u8, record_len: usize, record_id_size: u64, channel: Channel) -> Value;
     pub fn mf4_check_validity(
         record: *const u8,
