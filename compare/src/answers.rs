@@ -1,5 +1,7 @@
 //! What both sides answer, in one vocabulary: the library's terms.
 
+use crate::cases::Channel;
+
 /// A numbered refusal, and what it tells beside its number (0 where it tells nothing).
 #[derive(Debug, Clone, Copy, PartialEq, Eq)]
 pub struct Refusal {
@@ -13,6 +15,7 @@ pub const NO_VALUE: Refusal = Refusal { number: 1, told: 0 };
 pub const OTHER_ID: Refusal = Refusal { number: 3, told: 0 };
 pub const NO_LINKS: Refusal = Refusal { number: 4, told: 0 };
 pub const UNWRITABLE_LIST: Refusal = Refusal { number: 5, told: 0 };
+pub const TOO_FEW_LINKS: Refusal = Refusal { number: 17, told: 0 };
 
 pub fn too_few_bytes(needed: u64) -> Refusal {
     Refusal { number: 2, told: needed }
@@ -24,6 +27,9 @@ pub fn no_room(needed: u64) -> Refusal {
 
 /// The one NaN for whatever is no number.
 pub const NAN_BITS: u64 = 0x7FF8_0000_0000_0000;
+
+/// The one code for every unknown type that is read.
+pub const UNKNOWN_TYPE: u8 = 255;
 
 #[derive(Debug, Clone, Copy, PartialEq, Eq)]
 pub struct Header {
@@ -44,6 +50,21 @@ pub struct List {
     pub data_block_nr: u32,
     pub rest_at: u64,
     pub rest: u64,
+}
+
+/// The links without that of the data, which the channel has, and the limits' 64-bit patterns, each in mf4.h's order.
+#[derive(Debug, Clone, Copy, PartialEq, Eq)]
+pub struct ChannelBlock {
+    pub header: Header,
+    pub links: [u64; 7],
+    pub more_links_at: u64,
+    pub more_links: u64,
+    pub channel: Channel,
+    pub sync_type: u8,
+    pub precision: u8,
+    pub reserved1: u8,
+    pub attachment_nr: u16,
+    pub limits: [u64; 6],
 }
 
 #[derive(Debug, Clone, Copy, PartialEq, Eq)]
@@ -94,6 +115,7 @@ pub enum Answer {
     Header(Reply<Header>),
     Written(Reply<Vec<u8>>),
     List(Reply<List>),
+    Channel(Reply<ChannelBlock>),
     Value(Reply<Value>),
     Validity(bool),
     Both(Reply<(Value, bool)>),

@@ -1,6 +1,6 @@
 //! Inputs, and their form as a line of text.
 
-use crate::answers::{Answer, Header};
+use crate::answers::{Answer, ChannelBlock, Header};
 
 /// A channel's description, as the library takes it.
 #[derive(Debug, Clone, Copy, PartialEq, Eq)]
@@ -118,6 +118,8 @@ pub enum Case {
     ListRead { bytes: Vec<u8> },
     ListWriteEqual { room: usize, next: u64, length: u64, links: Vec<u64> },
     ListWriteVariable { room: usize, next: u64, links: Vec<u64>, offsets: Vec<u64> },
+    ChannelRead { bytes: Vec<u8> },
+    ChannelWrite { block: ChannelBlock, room: usize },
     Value(Field),
     Validity(Field),
     Both(Field),
@@ -125,13 +127,15 @@ pub enum Case {
     Text { encoding: Encoding, bytes: Vec<u8>, room: usize },
 }
 
-pub const KINDS: [&str; 11] = [
+pub const KINDS: [&str; 13] = [
     "type",
     "header-read",
     "header-write",
     "list-read",
     "list-write-equal",
     "list-write-variable",
+    "channel-read",
+    "channel-write",
     "value",
     "validity",
     "both",
@@ -148,6 +152,8 @@ impl Case {
             Case::ListRead { .. } => "list-read",
             Case::ListWriteEqual { .. } => "list-write-equal",
             Case::ListWriteVariable { .. } => "list-write-variable",
+            Case::ChannelRead { .. } => "channel-read",
+            Case::ChannelWrite { .. } => "channel-write",
             Case::Value(_) => "value",
             Case::Validity(_) => "validity",
             Case::Both(_) => "both",
@@ -156,10 +162,14 @@ impl Case {
         }
     }
 
+    pub fn is_channel_block(&self) -> bool {
+        matches!(self, Case::ChannelRead { .. } | Case::ChannelWrite { .. })
+    }
+
     pub fn line(&self) -> String {
         let mut line = Line::new(self.kind());
         match self {
-            Case::HeaderRead { bytes } | Case::ListRead { bytes } => line.bytes(bytes),
+            Case::HeaderRead { bytes } | Case::ListRead { bytes } | Case::ChannelRead { bytes } => line.bytes(bytes),
             Case::HeaderWrite { header, room } => {
                 line.numbers(&header_words(header));
                 line.number(*room as u64);
@@ -173,6 +183,10 @@ impl Case {
                 line.numbers(&[*room as u64, *next]);
                 line.counted(links);
                 line.counted(offsets);
+            }
+            Case::ChannelWrite { block, room } => {
+                line.channel_block(block);
+                line.number(*room as u64);
             }
             Case::Value(field) | Case::Validity(field) | Case::Both(field) | Case::Double(field) => line.field(field),
             Case::Text { encoding, bytes, room } => {
@@ -205,6 +219,8 @@ impl Case {
                 links: words.counted()?,
                 offsets: words.counted()?,
             },
+            "channel-read" => Case::ChannelRead { bytes: words.bytes()? },
+            "channel-write" => Case::ChannelWrite { block: words.channel_block()?, room: words.small()? },
             "value" => Case::Value(words.field()?),
             "validity" => Case::Validity(words.field()?),
             "both" => Case::Both(words.field()?),
@@ -238,6 +254,10 @@ impl Answer {
                 line.numbers(&[u64::from(list.flags), u64::from(list.reserved1), u64::from(list.data_block_nr)]);
                 line.numbers(&[list.rest_at, list.rest]);
             }
+            Answer::Channel(Ok(block)) => {
+                line.numbers(&[0, 0]);
+                line.channel_block(block);
+            }
             Answer::Value(Ok(value)) => {
                 line.numbers(&[0, 0]);
                 line.numbers(&value.words());
@@ -256,6 +276,7 @@ impl Answer {
             Answer::Header(Err(refusal))
             | Answer::Written(Err(refusal))
             | Answer::List(Err(refusal))
+            | Answer::Channel(Err(refusal))
             | Answer::Value(Err(refusal))
             | Answer::Both(Err(refusal))
             | Answer::Text(Err(refusal)) => line.numbers(&[u64::from(refusal.number), refusal.told]),
@@ -299,13 +320,26 @@ impl Line {
     }
 
     fn field(&mut self, field: &Field) {
-        let channel = &field.channel;
         self.bytes(&field.record);
         self.numbers(&[field.id_size, u64::from(field.data_bytes)]);
+        self.channel(&field.channel);
+    }
+
+    fn channel(&mut self, channel: &Channel) {
         self.numbers(&[channel.data_type, channel.channel_type, channel.bit_offset].map(u64::from));
         self.numbers(&[channel.byte_offset, channel.bit_count].map(u64::from));
         self.numbers(&[channel.flags, channel.pos_invalidation_bit].map(u64::from));
         self.number(channel.data);
+    }
+
+    fn channel_block(&mut self, block: &ChannelBlock) {
+        self.numbers(&header_words(&block.header));
+        self.numbers(&block.links);
+        self.numbers(&[block.more_links_at, block.more_links]);
+        self.channel(&block.channel);
+        self.numbers(&[block.sync_type, block.precision, block.reserved1].map(u64::from));
+        self.number(u64::from(block.attachment_nr));
+        self.numbers(&block.limits);
     }
 }
 
@@ -327,6 +361,11 @@ impl<'a> Words<'a> {
     fn counted(&mut self) -> Option<Vec<u64>> {
         let count = self.number()?;
         (0..count).map(|_| self.number()).collect()
+    }
+
+    fn array<const N: usize>(&mut self) -> Option<[u64; N]> {
+        let numbers: Option<Vec<u64>> = (0..N).map(|_| self.number()).collect();
+        numbers?.try_into().ok()
     }
 
     fn bytes(&mut self) -> Option<Vec<u8>> {
@@ -352,16 +391,35 @@ impl<'a> Words<'a> {
             record: self.bytes()?,
             id_size: self.number()?,
             data_bytes: self.small()?,
-            channel: Channel {
-                data_type: self.small()?,
-                channel_type: self.small()?,
-                bit_offset: self.small()?,
-                byte_offset: self.small()?,
-                bit_count: self.small()?,
-                flags: self.small()?,
-                pos_invalidation_bit: self.small()?,
-                data: self.number()?,
-            },
+            channel: self.channel()?,
+        })
+    }
+
+    fn channel(&mut self) -> Option<Channel> {
+        Some(Channel {
+            data_type: self.small()?,
+            channel_type: self.small()?,
+            bit_offset: self.small()?,
+            byte_offset: self.small()?,
+            bit_count: self.small()?,
+            flags: self.small()?,
+            pos_invalidation_bit: self.small()?,
+            data: self.number()?,
+        })
+    }
+
+    fn channel_block(&mut self) -> Option<ChannelBlock> {
+        Some(ChannelBlock {
+            header: self.header()?,
+            links: self.array()?,
+            more_links_at: self.number()?,
+            more_links: self.number()?,
+            channel: self.channel()?,
+            sync_type: self.small()?,
+            precision: self.small()?,
+            reserved1: self.small()?,
+            attachment_nr: self.small()?,
+            limits: self.array()?,
         })
     }
 }

@@ -64,6 +64,8 @@ pub fn ask_library(case: &Case) -> Owed<Answer> {
         Case::ListWriteVariable { room, next, links, offsets } => {
             Answer::Written(library::write_list_variable(*room, *next, links, offsets)?)
         }
+        Case::ChannelRead { bytes } => Answer::Channel(library::read_channel(bytes)?),
+        Case::ChannelWrite { block, room } => Answer::Written(library::write_channel(block, *room)?),
         Case::Value(field) => Answer::Value(library::decode_value(field)?),
         Case::Validity(field) => Answer::Validity(library::check_validity(field)?),
         Case::Both(field) => Answer::Both(library::decode_valid_value(field)?),

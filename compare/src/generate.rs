@@ -1,6 +1,7 @@
 //! Inputs: shapes that are counted through, so that every combination has its turn, with contents from the dice.
 
 mod blocks;
+mod channels;
 mod fields;
 mod texts;
 
@@ -9,6 +10,7 @@ use crate::dice::Dice;
 
 pub struct Generator {
     dice: Dice,
+    channel_dice: Dice,
     values: u64,
     validities: u64,
     boths: u64,
@@ -22,7 +24,7 @@ impl Generator {
         // Where the counting starts hangs on the seed, so that short runs with different seeds see different shapes.
         let mut start = || dice.below(1 << 32);
         let (values, validities, boths, doubles, texts) = (start(), start(), start(), start(), start());
-        Generator { dice, values, validities, boths, doubles, texts }
+        Generator { dice, channel_dice: Dice::new(!seed), values, validities, boths, doubles, texts }
     }
 
     /// All inputs of a run: each type code once, then the other kinds by the dice.
@@ -31,7 +33,16 @@ impl Generator {
         types.chain(std::iter::repeat_with(move || self.next_case()))
     }
 
+    /// Channel blocks have dice of their own, so that the others are the same with them and without.
     fn next_case(&mut self) -> Case {
+        match self.channel_dice.below(40) {
+            0..=2 => channels::channel_read(&mut self.channel_dice),
+            3 => channels::channel_write(&mut self.channel_dice),
+            _ => self.next_other(),
+        }
+    }
+
+    fn next_other(&mut self) -> Case {
         let dice = &mut self.dice;
         match dice.below(100) {
             0..=3 => blocks::header_read(dice),

@@ -1,7 +1,7 @@
 //! The library's calls in safe forms that check what every call owes: a refusal leaves every lent byte and every field of
 //! its answer alone, and an answer writes no byte behind those it reports.
 
-use crate::answers::{Header, List, Place, Refusal, Reply, Text, Value};
+use crate::answers::{ChannelBlock, Header, List, Place, Refusal, Reply, Text, Value};
 use crate::c;
 use crate::cases::{Channel, Encoding, Field};
 
@@ -17,13 +17,7 @@ pub fn read_header(bytes: &[u8]) -> Owed<Reply<Header>> {
 }
 
 pub fn write_header(header: &Header, room: usize) -> Owed<Reply<Vec<u8>>> {
-    let header = c::BlockHeader {
-        id: u32::from_le_bytes(header.id),
-        reserved0: header.reserved0,
-        block_len: header.block_len,
-        links_nr: header.links_nr,
-    };
-    written(room, |out, len| unsafe { c::mf4_write_header(header, out, len) })
+    written(room, |out, len| unsafe { c::mf4_write_header(header_to(header), out, len) })
 }
 
 pub fn type_code(code: u8) -> u8 {
@@ -35,6 +29,15 @@ pub fn default_bits(code: u8) -> u32 {
 }
 
 const EMPTY_HEADER: Header = Header { id: [0; 4], reserved0: 0, block_len: 0, links_nr: 0 };
+
+fn header_to(header: &Header) -> c::BlockHeader {
+    c::BlockHeader {
+        id: u32::from_le_bytes(header.id),
+        reserved0: header.reserved0,
+        block_len: header.block_len,
+        links_nr: header.links_nr,
+    }
+}
 
 fn header_of(header: &c::BlockHeader) -> Header {
     Header {
@@ -85,18 +88,136 @@ pub fn write_list_variable(room: usize, next: u64, links: &[u64], offsets: &[u64
     })
 }
 
+// ---- channel blocks
+
+pub fn read_channel(bytes: &[u8]) -> Owed<Reply<ChannelBlock>> {
+    let answer = unsafe { c::mf4_read_channel(start(bytes), bytes.len()) };
+    let block = block_of(&answer.block);
+    reply(answer.reply, answer.told, block == EMPTY_BLOCK, block)
+}
+
+pub fn write_channel(block: &ChannelBlock, room: usize) -> Owed<Reply<Vec<u8>>> {
+    written(room, |out, len| unsafe { c::mf4_write_channel(block_to(block), out, len) })
+}
+
+const EMPTY_BLOCK: ChannelBlock = ChannelBlock {
+    header: EMPTY_HEADER,
+    links: [0; 7],
+    more_links_at: 0,
+    more_links: 0,
+    channel: Channel {
+        data_type: 0,
+        channel_type: 0,
+        bit_offset: 0,
+        byte_offset: 0,
+        bit_count: 0,
+        flags: 0,
+        pos_invalidation_bit: 0,
+        data: 0,
+    },
+    sync_type: 0,
+    precision: 0,
+    reserved1: 0,
+    attachment_nr: 0,
+    limits: [0; 6],
+};
+
+fn block_to(block: &ChannelBlock) -> c::ChannelBlock {
+    let [next_ch_addr, component_addr, name_addr, source_addr, conversion_addr, unit_addr, comment_addr] = block.links;
+    let [min_raw_value, max_raw_value, lower_limit, upper_limit, lower_ext_limit, upper_ext_limit] = block.limits;
+    c::ChannelBlock {
+        header: header_to(&block.header),
+        next_ch_addr,
+        component_addr,
+        name_addr,
+        source_addr,
+        conversion_addr,
+        unit_addr,
+        comment_addr,
+        more_links_at: block.more_links_at,
+        more_links: block.more_links,
+        channel: channel_to(&block.channel),
+        sync_type: block.sync_type,
+        precision: block.precision,
+        reserved1: block.reserved1,
+        attachment_nr: block.attachment_nr,
+        min_raw_value,
+        max_raw_value,
+        lower_limit,
+        upper_limit,
+        lower_ext_limit,
+        upper_ext_limit,
+    }
+}
+
+fn block_of(block: &c::ChannelBlock) -> ChannelBlock {
+    ChannelBlock {
+        header: header_of(&block.header),
+        links: [
+            block.next_ch_addr,
+            block.component_addr,
+            block.name_addr,
+            block.source_addr,
+            block.conversion_addr,
+            block.unit_addr,
+            block.comment_addr,
+        ],
+        more_links_at: block.more_links_at,
+        more_links: block.more_links,
+        channel: channel_of(&block.channel),
+        sync_type: block.sync_type,
+        precision: block.precision,
+        reserved1: block.reserved1,
+        attachment_nr: block.attachment_nr,
+        limits: [
+            block.min_raw_value,
+            block.max_raw_value,
+            block.lower_limit,
+            block.upper_limit,
+            block.lower_ext_limit,
+            block.upper_ext_limit,
+        ],
+    }
+}
+
+fn channel_to(channel: &Channel) -> c::Channel {
+    c::Channel {
+        data_type: channel.data_type,
+        channel_type: channel.channel_type,
+        bit_offset: channel.bit_offset,
+        byte_offset: channel.byte_offset,
+        bit_count: channel.bit_count,
+        flags: channel.flags,
+        pos_invalidation_bit: channel.pos_invalidation_bit,
+        data: channel.data,
+    }
+}
+
+fn channel_of(channel: &c::Channel) -> Channel {
+    Channel {
+        data_type: channel.data_type,
+        channel_type: channel.channel_type,
+        bit_offset: channel.bit_offset,
+        byte_offset: channel.byte_offset,
+        bit_count: channel.bit_count,
+        flags: channel.flags,
+        pos_invalidation_bit: channel.pos_invalidation_bit,
+        data: channel.data,
+    }
+}
+
 // ---- values
 
 pub fn decode_value(field: &Field) -> Owed<Reply<Value>> {
     let record = &field.record;
-    let answer = unsafe { c::mf4_decode_value(start(record), record.len(), field.id_size, channel_of(&field.channel)) };
+    let answer = unsafe { c::mf4_decode_value(start(record), record.len(), field.id_size, channel_to(&field.channel)) };
     value_reply(&answer)
 }
 
 pub fn check_validity(field: &Field) -> Owed<bool> {
     let record = &field.record;
     flag(unsafe {
-        c::mf4_check_validity(start(record), record.len(), field.id_size, field.data_bytes, channel_of(&field.channel))
+        c::mf4_check_validity(start(record), record.len(), field.id_size, field.data_bytes, channel_to(&field.channel))
     })
 }
 
@@ -108,7 +229,7 @@ pub fn decode_valid_value(field: &Field) -> Owed<Reply<(Value, bool)>> {
             record.len(),
             field.id_size,
             field.data_bytes,
-            channel_of(&field.channel),
+            channel_to(&field.channel),
         )
     };
     let is_valid = flag(answer.is_valid)?;
@@ -121,20 +242,7 @@ pub fn decode_valid_value(field: &Field) -> Owed<Reply<(Value, bool)>> {
 
 pub fn decode_double(field: &Field) -> u64 {
     let record = &field.record;
-    unsafe { c::mf4_decode_double(start(record), record.len(), field.id_size, channel_of(&field.channel)) }
-}
-
-fn channel_of(channel: &Channel) -> c::Channel {
-    c::Channel {
-        data_type: channel.data_type,
-        channel_type: channel.channel_type,
-        bit_offset: channel.bit_offset,
-        byte_offset: channel.byte_offset,
-        bit_count: channel.bit_count,
-        flags: channel.flags,
-        pos_invalidation_bit: channel.pos_invalidation_bit,
-        data: channel.data,
-    }
+    unsafe { c::mf4_decode_double(start(record), record.len(), field.id_size, channel_to(&field.channel)) }
 }
 
 fn value_reply(answer: &c::Value) -> Owed<Reply<Value>> {

@@ -21,21 +21,26 @@
 //!     list-read BYTES = REPLY TOLD [HEADER NEXT LINKS_AT LINKS FLAGS RESERVED1 DATA_BLOCK_NR REST_AT REST]
 //!     list-write-equal ROOM NEXT LENGTH LINKS* = REPLY TOLD [BYTES]
 //!     list-write-variable ROOM NEXT LINKS* OFFSETS* = REPLY TOLD [BYTES]
+//!     channel-read BYTES = REPLY TOLD [BLOCK]
+//!     channel-write BLOCK ROOM = REPLY TOLD [BYTES]
 //!     value FIELD = REPLY TOLD [VALUE]
 //!     validity FIELD = VALID
 //!     both FIELD = REPLY TOLD [VALUE VALID]
 //!     double FIELD = DOUBLE
 //!     text TYPE BYTES ROOM = REPLY TOLD [DAMAGED BYTES]
 //!
-//! HEADER is ID RESERVED0 BLOCK_LEN LINKS_NR, the id's first byte the lowest. FIELD is RECORD ID_SIZE DATA_BYTES
-//! DATA_TYPE CHANNEL_TYPE BIT_OFFSET BYTE_OFFSET BIT_COUNT FLAGS POS_INVALIDATION_BIT DATA, where RECORD is bytes;
-//! `value` and `double` do not use DATA_BYTES. VALUE is three numbers, the kind as in mf4.h and then the value and 0,
-//! or place and length, or 0 and 0. TYPE is the type code of the text's encoding. REPLY is 0 or the number of the
-//! refusal; what stands in brackets is there only where it is 0. VALID and DAMAGED are 0 or 1.
+//! HEADER is ID RESERVED0 BLOCK_LEN LINKS_NR, the id's first byte the lowest. CHANNEL is DATA_TYPE CHANNEL_TYPE
+//! BIT_OFFSET BYTE_OFFSET BIT_COUNT FLAGS POS_INVALIDATION_BIT DATA. BLOCK is the numbers of mf4_channel_block in their
+//! order: HEADER, the seven links, MORE_LINKS_AT MORE_LINKS, CHANNEL, SYNC_TYPE PRECISION RESERVED1 ATTACHMENT_NR, and
+//! the six limits. FIELD is RECORD ID_SIZE DATA_BYTES CHANNEL, where RECORD is bytes; `value` and `double` do not use
+//! DATA_BYTES. VALUE is three numbers, the kind as in mf4.h and then the value and 0, or place and length, or 0 and 0.
+//! TYPE is the type code of the text's encoding. REPLY is 0 or the number of the refusal; what stands in brackets is
+//! there only where it is 0. VALID and DAMAGED are 0 or 1.
 //!
-//! The answers in a sample are the crate's, so inputs outside the domain are left out. Where the crate has no such
-//! notion they are put into the library's terms: its errors as numbers, 6 where ROOM is too small for the bytes that it
-//! gives, places instead of copies, and the one NaN for every NaN but those of 64-bit fields.
+//! The answers in a sample are the crate's, so inputs outside the domain are left out, and so are channel blocks, whose
+//! measure is the standard alone. Where the crate has no such notion they are put into the library's terms: its errors
+//! as numbers, 6 where ROOM is too small for the bytes that it gives, places instead of copies, the one NaN for every
+//! NaN but those of 64-bit fields, and the one code for every unknown type that is read.
 
 mod answers;
 mod c;
@@ -160,7 +165,8 @@ const LONGEST_LINE: usize = 400;
 fn write_sample(count: u64, file: &str) -> io::Result<()> {
     let mut file = BufWriter::new(File::create(file)?);
     writeln!(file, "# {count} answers of mf4-rs 3.8.0; compare/src/main.rs describes the lines.")?;
-    let inside = Generator::new(DEFAULT_SEED).cases().filter(|case| outside::due(case).is_none());
+    let measured = Generator::new(DEFAULT_SEED).cases().filter(|case| !case.is_channel_block());
+    let inside = measured.filter(|case| outside::due(case).is_none());
     let lines = inside.map(|case| sample_line(&case));
     let is_short = |line: &io::Result<String>| line.as_ref().map_or(true, |line| line.len() <= LONGEST_LINE);
     for line in lines.filter(is_short).take(count as usize) {

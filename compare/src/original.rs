@@ -14,8 +14,8 @@ use mf4_rs::parsing::decoder::{
 };
 
 use crate::answers::{
-    into_room, too_few_bytes, Answer, Header, List, Place, Refusal, Reply, Text, Value, NAN_BITS, NO_LINKS, NO_VALUE,
-    OTHER_ID,
+    self, into_room, too_few_bytes, Answer, Header, List, Place, Refusal, Reply, Text, Value, NAN_BITS, NO_LINKS,
+    NO_VALUE, OTHER_ID, UNKNOWN_TYPE,
 };
 use crate::cases::{Case, Channel, Encoding, Field};
 
@@ -35,6 +35,8 @@ pub fn answer(case: &Case) -> Result<Answer, Stopped> {
         Case::ListWriteVariable { room, next, links, offsets } => {
             written(*room, || write_list(DataListBlock::new_variable(links.clone(), offsets.clone()), *next))
         }
+        Case::ChannelRead { bytes } => Ok(Answer::Channel(read_channel(bytes)?)),
+        Case::ChannelWrite { block, room } => write_channel(block, *room),
         Case::Value(field) => Ok(Answer::Value(value(field)?)),
         Case::Validity(field) => Ok(Answer::Validity(validity(field)?)),
         Case::Both(field) => Ok(Answer::Both(both(field)?)),
@@ -119,6 +121,93 @@ fn write_list(mut list: DataListBlock, next: u64) -> Result<Vec<u8>, MdfError> {
 fn written(room: usize, write: impl FnOnce() -> Result<Vec<u8>, MdfError>) -> Result<Answer, Stopped> {
     let bytes = guarded(write)?.map_err(|error| Stopped(format!("did not write: {error}")))?;
     Ok(Answer::Written(into_room(bytes, room)))
+}
+
+// ---- channel blocks
+
+pub fn read_channel(bytes: &[u8]) -> Result<Reply<answers::ChannelBlock>, Stopped> {
+    guarded(|| ChannelBlock::from_bytes(bytes).map(|block| block_in(&block)).map_err(refusal_of))
+}
+
+pub fn write_channel(block: &answers::ChannelBlock, room: usize) -> Result<Answer, Stopped> {
+    written(room, || block_of(block).to_bytes())
+}
+
+/// Where the crate finds the fields: it knows no links behind the eighth.
+const FIELDS_AT: u64 = 88;
+
+fn block_in(block: &ChannelBlock) -> answers::ChannelBlock {
+    answers::ChannelBlock {
+        header: header_in(&block.header),
+        links: [
+            block.next_ch_addr,
+            block.component_addr,
+            block.name_addr,
+            block.source_addr,
+            block.conversion_addr,
+            block.unit_addr,
+            block.comment_addr,
+        ],
+        more_links_at: FIELDS_AT,
+        more_links: 0,
+        channel: channel_in(block),
+        sync_type: block.sync_type,
+        precision: block.precision,
+        reserved1: block.reserved1,
+        attachment_nr: block.attachment_nr,
+        limits: [
+            block.min_raw_value,
+            block.max_raw_value,
+            block.lower_limit,
+            block.upper_limit,
+            block.lower_ext_limit,
+            block.upper_ext_limit,
+        ]
+        .map(f64::to_bits),
+    }
+}
+
+fn channel_in(block: &ChannelBlock) -> Channel {
+    Channel {
+        data_type: match &block.data_type {
+            DataType::Unknown(_) => UNKNOWN_TYPE,
+            known => known.to_u8(),
+        },
+        channel_type: block.channel_type,
+        bit_offset: block.bit_offset,
+        byte_offset: block.byte_offset,
+        bit_count: block.bit_count,
+        flags: block.flags,
+        pos_invalidation_bit: block.pos_invalidation_bit,
+        data: block.data,
+    }
+}
+
+fn block_of(block: &answers::ChannelBlock) -> ChannelBlock {
+    let [next_ch_addr, component_addr, name_addr, source_addr, conversion_addr, unit_addr, comment_addr] = block.links;
+    let limits = block.limits.map(f64::from_bits);
+    let [min_raw_value, max_raw_value, lower_limit, upper_limit, lower_ext_limit, upper_ext_limit] = limits;
+    ChannelBlock {
+        header: header_of(&block.header),
+        next_ch_addr,
+        component_addr,
+        name_addr,
+        source_addr,
+        conversion_addr,
+        unit_addr,
+        comment_addr,
+        sync_type: block.sync_type,
+        precision: block.precision,
+        reserved1: block.reserved1,
+        attachment_nr: block.attachment_nr,
+        min_raw_value,
+        max_raw_value,
+        lower_limit,
+        upper_limit,
+        lower_ext_limit,
+        upper_ext_limit,
+        ..channel_of(&block.channel)
+    }
 }
 
 // ---- values

@@ -1,7 +1,10 @@
 //! What lies outside the domain where the crate and the library must agree, and the answer that is due there. Each
 //! difference has a row in docs/DIFFERENCES.md.
 
-use crate::answers::{into_room, Answer, Header, Reply, Value, NAN_BITS, NO_VALUE, UNWRITABLE_LIST};
+use crate::answers::{
+    into_room, too_few_bytes, Answer, ChannelBlock, Header, Reply, Value, NAN_BITS, NO_VALUE, TOO_FEW_LINKS,
+    UNWRITABLE_LIST,
+};
 use crate::cases::{Case, Channel, Field};
 use crate::original;
 
@@ -12,6 +15,10 @@ pub enum Difference {
     WrappingSum,
     IdNotUtf8,
     UnwritableList,
+    FewLinks,
+    ManyLinks,
+    OtherHeader,
+    ReservedOrAttached,
 }
 
 impl Difference {
@@ -22,6 +29,10 @@ impl Difference {
             Difference::WrappingSum => "sum of sizes from 2^64 on",
             Difference::IdNotUtf8 => "header id that is not UTF-8",
             Difference::UnwritableList => "list refused with 5",
+            Difference::FewLinks => "channel block with fewer than 8 links",
+            Difference::ManyLinks => "channel block with more than 8 links",
+            Difference::OtherHeader => "channel block written with another header",
+            Difference::ReservedOrAttached => "channel block written with a reserved byte or attachments",
         }
     }
 }
@@ -36,6 +47,8 @@ pub fn due(case: &Case) -> Due<Answer> {
         Case::HeaderWrite { header, room } => raw_header_bytes(header, *room),
         Case::ListWriteEqual { links, .. } => unwritable(links.len(), links.len()),
         Case::ListWriteVariable { links, offsets, .. } => unwritable(links.len(), offsets.len()),
+        Case::ChannelRead { bytes } => answering(channel_by_links(bytes), Answer::Channel),
+        Case::ChannelWrite { block, room } => plain_channel(block, *room),
         Case::Value(field) => answering(value(field), Answer::Value),
         Case::Validity(field) => answering(validity(field), Answer::Validity),
         Case::Double(field) => answering(double(field), Answer::Double),
@@ -79,6 +92,49 @@ const MOST_LINKS: usize = 4096;
 fn unwritable(links: usize, offsets: usize) -> Due<Answer> {
     let refused = links != offsets || links > MOST_LINKS;
     refused.then_some((Difference::UnwritableList, Answer::Written(Err(UNWRITABLE_LIST))))
+}
+
+// ---- channel blocks
+
+const LINKS: u64 = 8;
+
+fn channel_by_links(bytes: &[u8]) -> Due<Reply<ChannelBlock>> {
+    let links = u64::from_le_bytes(bytes.get(16..24)?.try_into().ok()?);
+    if !bytes.starts_with(b"##CN") || links == LINKS {
+        return None;
+    }
+    if links < LINKS {
+        return Some((Difference::FewLinks, Err(TOO_FEW_LINKS)));
+    }
+    Some((Difference::ManyLinks, behind_all_links(bytes, links)?))
+}
+
+/// The fields behind all the links are those that the crate reads where the links behind the eighth are taken out.
+fn behind_all_links(bytes: &[u8], links: u64) -> Option<Reply<ChannelBlock>> {
+    let needed = 24 + 8 * u128::from(links) + 72;
+    if (bytes.len() as u128) < needed {
+        return Some(Err(too_few_bytes(u64::try_from(needed).unwrap_or(u64::MAX))));
+    }
+    let fields_at = 24 + 8 * links as usize;
+    let eight_links = [&bytes[..16], &LINKS.to_le_bytes(), &bytes[24..88], &bytes[fields_at..]].concat();
+    let read = original::read_channel(&eight_links).ok()?;
+    Some(read.map(|block| ChannelBlock {
+        header: Header { links_nr: links, ..block.header },
+        more_links: links - LINKS,
+        ..block
+    }))
+}
+
+/// What is written is what the crate writes with the one header, no reserved byte and no attachments.
+fn plain_channel(block: &ChannelBlock, room: usize) -> Due<Answer> {
+    let header = Header { id: *b"##CN", reserved0: 0, block_len: 160, links_nr: LINKS };
+    let plain = ChannelBlock { header, reserved1: 0, attachment_nr: 0, ..*block };
+    if *block == plain {
+        return None;
+    }
+    let has_header = block.header == header;
+    let difference = if has_header { Difference::ReservedOrAttached } else { Difference::OtherHeader };
+    Some((difference, original::write_channel(&plain, room).ok()?))
 }
 
 // ---- values

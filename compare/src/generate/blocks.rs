@@ -21,17 +21,17 @@ pub fn header_write(dice: &mut Dice) -> Case {
     Case::HeaderWrite { header, room: room(dice, 24) }
 }
 
-fn some_bytes(dice: &mut Dice, most: u64) -> Vec<u8> {
+pub fn some_bytes(dice: &mut Dice, most: u64) -> Vec<u8> {
     let count = dice.below(most + 1) as usize;
     dice.bytes(count)
 }
 
-fn header(dice: &mut Dice) -> Header {
+pub fn header(dice: &mut Dice) -> Header {
     Header { id: id(dice), reserved0: dice.word() as u32, block_len: number(dice), links_nr: number(dice) }
 }
 
 /// Known ids, other ASCII, UTF-8 of several bytes, and bytes that may be no UTF-8 at all.
-fn id(dice: &mut Dice) -> [u8; 4] {
+pub fn id(dice: &mut Dice) -> [u8; 4] {
     const KNOWN: [&[u8; 4]; 6] = [b"##DL", b"##DT", b"##CN", b"##SD", b"\0\0\0\0", b"##dl"];
     const WIDE: [&str; 5] = ["\u{E9}\u{E9}", "\u{20AC}A", "A\u{FFFD}", "\u{10FFFF}", "\u{7FF}\u{80}"];
     match dice.below(8) {
@@ -42,7 +42,7 @@ fn id(dice: &mut Dice) -> [u8; 4] {
     }
 }
 
-fn header_bytes(header: &Header) -> Vec<u8> {
+pub fn header_bytes(header: &Header) -> Vec<u8> {
     let mut bytes = header.id.to_vec();
     bytes.extend(header.reserved0.to_le_bytes());
     bytes.extend(header.block_len.to_le_bytes());
@@ -137,6 +137,6 @@ fn link_count(dice: &mut Dice) -> usize {
     }
 }
 
-fn numbers(dice: &mut Dice, count: usize) -> Vec<u64> {
+pub fn numbers(dice: &mut Dice, count: usize) -> Vec<u64> {
     (0..count).map(|_| number(dice)).collect()
 }

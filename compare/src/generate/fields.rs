@@ -241,7 +241,7 @@ fn telling_single(dice: &mut Dice) -> u32 {
     }
 }
 
-fn telling_double(dice: &mut Dice) -> u64 {
+pub fn telling_double(dice: &mut Dice) -> u64 {
     const DOUBLES: [u64; 12] = [
         0,
         1,
