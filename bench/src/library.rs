@@ -80,6 +80,26 @@ pub fn headers_written(headers: &[c::BlockHeader], count: usize) -> u64 {
     }))
 }
 
+/// The whole block counts as used, so that no side can leave a field unread.
+pub fn channels_read(blocks: Pieces) -> u64 {
+    blocks.sum(|bytes| {
+        let answer = unsafe { c::mf4_read_channel(bytes.as_ptr(), bytes.len()) };
+        let block = black_box(&answer.block);
+        let channel = &block.channel;
+        let description = u64::from(channel.byte_offset) + u64::from(channel.bit_count) + u64::from(channel.data_type);
+        digest::sum([block.name_addr, channel.data, description, block.upper_limit].into_iter())
+    })
+}
+
+pub fn channels_written(blocks: &[c::ChannelBlock], count: usize) -> u64 {
+    let blocks = black_box(blocks);
+    let mut out = vec![0; 160];
+    digest::sum(blocks.iter().cycle().take(count).map(|block| {
+        let answer = unsafe { c::mf4_write_channel(*block, out.as_mut_ptr(), out.len()) };
+        digest::of_bytes(&out[..answer.count as usize])
+    }))
+}
+
 /// The library tells where the numbers stand; they are read there.
 pub fn lists_read(lists: Pieces) -> u64 {
     lists.sum(|bytes| {

@@ -99,6 +99,47 @@ fn header_of(given: &c::BlockHeader) -> BlockHeader {
     }
 }
 
+/// The whole block counts as used here too.
+pub fn channels_read(blocks: Pieces) -> u64 {
+    blocks.sum(|bytes| match ChannelBlock::from_bytes(bytes) {
+        Ok(block) => {
+            let block = black_box(&block);
+            let code = u64::from(block.data_type.to_u8());
+            let description = u64::from(block.byte_offset) + u64::from(block.bit_count) + code;
+            digest::sum([block.name_addr, block.data, description, block.upper_limit.to_bits()].into_iter())
+        }
+        Err(_) => 0,
+    })
+}
+
+pub fn channels_written(given: &[c::ChannelBlock], count: usize) -> u64 {
+    let blocks: Vec<ChannelBlock> = given.iter().map(block_of).collect();
+    let blocks = black_box(&blocks[..]);
+    let written = blocks.iter().cycle().take(count).map(|block| block.to_bytes());
+    digest::sum(written.map(|bytes| bytes.map_or(0, |bytes| digest::of_bytes(&bytes))))
+}
+
+fn block_of(given: &c::ChannelBlock) -> ChannelBlock {
+    ChannelBlock {
+        next_ch_addr: given.next_ch_addr,
+        component_addr: given.component_addr,
+        name_addr: given.name_addr,
+        source_addr: given.source_addr,
+        conversion_addr: given.conversion_addr,
+        unit_addr: given.unit_addr,
+        comment_addr: given.comment_addr,
+        sync_type: given.sync_type,
+        precision: given.precision,
+        min_raw_value: f64::from_bits(given.min_raw_value),
+        max_raw_value: f64::from_bits(given.max_raw_value),
+        lower_limit: f64::from_bits(given.lower_limit),
+        upper_limit: f64::from_bits(given.upper_limit),
+        lower_ext_limit: f64::from_bits(given.lower_ext_limit),
+        upper_ext_limit: f64::from_bits(given.upper_ext_limit),
+        ..channel_of(&given.channel)
+    }
+}
+
 pub fn lists_read(lists: Pieces) -> u64 {
     lists.sum(|bytes| match DataListBlock::from_bytes(bytes) {
         Ok(list) => {

@@ -5,7 +5,7 @@ use std::ops::Range;
 
 use crate::digest;
 
-/// Pieces of one size behind each other: records, texts, headers or lists.
+/// Pieces of one size behind each other: records, texts, headers, channel blocks or lists.
 #[derive(Clone, Copy)]
 pub struct Pieces<'a> {
     pub bytes: &'a [u8],

@@ -1,6 +1,7 @@
 //! The rows of the table.
 
 mod chains;
+mod channels;
 mod lists;
 mod mixes;
 mod numbers;
@@ -16,7 +17,7 @@ use crate::pieces::Pieces;
 use crate::row::{Pass, Plan, Row};
 
 pub fn all() -> Vec<Plan> {
-    let rows = [numbers::plans(), mixes::plans(), texts::plans(), lists::plans(), chains::plans()];
+    let rows = [numbers::plans(), mixes::plans(), texts::plans(), lists::plans(), channels::plans(), chains::plans()];
     rows.into_iter().flatten().collect()
 }
 

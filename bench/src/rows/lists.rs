@@ -45,7 +45,7 @@ fn headers_written(count: usize) -> Row {
 }
 
 /// A row that writes the same given things again and again.
-fn writing<T: 'static>(given: T, sides: [fn(&T, usize) -> u64; 3], copy: Pass) -> Row {
+pub fn writing<T: 'static>(given: T, sides: [fn(&T, usize) -> u64; 3], copy: Pass) -> Row {
     let given = Rc::new(given);
     let [ours, border, inlined] = sides.map(|side| {
         let given = given.clone();
