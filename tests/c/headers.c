@@ -70,9 +70,9 @@ static void check_reply_texts(void)
 {
     uint32_t reply;
     name_case("replies in words");
-    for (reply = 0; reply <= 16; reply++)
-        CHECK(strcmp(mf4_reply_text(reply), mf4_reply_text(17)) != 0);
-    CHECK(strcmp(mf4_reply_text(UINT32_MAX), mf4_reply_text(17)) == 0);
+    for (reply = 0; reply <= 17; reply++)
+        CHECK(strcmp(mf4_reply_text(reply), mf4_reply_text(18)) != 0);
+    CHECK(strcmp(mf4_reply_text(UINT32_MAX), mf4_reply_text(18)) == 0);
 }
 
 void check_headers(void)

@@ -55,10 +55,17 @@ static void check_text_room(void)
     CHECK(mf4_text_room(SIZE_MAX / 2 + 1) == SIZE_MAX && mf4_text_room(SIZE_MAX) == SIZE_MAX);
 }
 
+static void check_channel_names(void)
+{
+    name_case("names of a channel block");
+    CHECK(MF4_TOO_FEW_LINKS == 17 && strcmp(mf4_reply_text(17), "the channel block has fewer than 8 links") == 0);
+    CHECK(MF4_UNKNOWN_TYPE == 255 && MF4_CHANNEL_BLOCK_SIZE == 160);
+}
+
 static void check_reply_of_helpers(void)
 {
     name_case("the helpers' own reply");
-    CHECK(MF4_NO_TEXT_TYPE == 256 && strcmp(mf4_reply_text(MF4_NO_TEXT_TYPE), mf4_reply_text(17)) != 0);
+    CHECK(MF4_NO_TEXT_TYPE == 256 && strcmp(mf4_reply_text(MF4_NO_TEXT_TYPE), mf4_reply_text(18)) != 0);
 }
 
 void check_helpers(void)
@@ -67,5 +74,6 @@ void check_helpers(void)
     check_ids();
     check_numbers();
     check_text_room();
+    check_channel_names();
     check_reply_of_helpers();
 }

@@ -24,6 +24,11 @@ void name_row(const char *table, size_t index)
     snprintf(case_name, sizeof case_name, "%s, row %u", table, (unsigned)(index + 1));
 }
 
+void name_number(const char *what, uint64_t number)
+{
+    snprintf(case_name, sizeof case_name, "%s %llu", what, (unsigned long long)number);
+}
+
 void check(int holds, const char *claim, const char *file, int line)
 {
     checks++;
@@ -94,6 +99,8 @@ static void check_everything(void)
     check_helpers();
     check_lists();
     check_list_writing();
+    check_channels();
+    check_channel_writing();
     check_values();
     check_doubles();
     check_texts();

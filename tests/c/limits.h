@@ -12,6 +12,7 @@
 /* The name under which the checks that follow are reported. */
 void name_case(const char *name);
 void name_row(const char *table, size_t index);
+void name_number(const char *what, uint64_t number);
 
 void check(int holds, const char *claim, const char *file, int line);
 #define CHECK(claim) check((claim) != 0, #claim, __FILE__, __LINE__)
@@ -39,6 +40,8 @@ void check_headers(void);
 void check_helpers(void);
 void check_lists(void);
 void check_list_writing(void);
+void check_channels(void);
+void check_channel_writing(void);
 void check_values(void);
 void check_doubles(void);
 void check_texts(void);
