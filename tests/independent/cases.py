@@ -5,10 +5,13 @@ A case is (call, arguments), with the arguments as reference.py takes them.
 
 import itertools
 import random
+import struct
 
 from protocol import LongFile
-from reference import Channel, Header
+from reference import Channel, ChannelBlock, Header
 
+U8 = 2**8 - 1
+U16 = 2**16 - 1
 U32 = 2**32 - 1
 U64 = 2**64 - 1
 
@@ -380,6 +383,157 @@ def random_value_case(rng):
     if call in ("decode_value", "decode_double"):
         return call, (record, id_size, channel)
     return call, (record, id_size, data_bytes, channel)
+
+
+# ---- channel blocks ----------------------------------------------------------------------------------------------------
+
+# Behind all the links, 72 bytes; the last six numbers are doubles, as bits.
+CHANNEL_FIELDS = struct.Struct("<4B 4I 2B H 6Q")
+LIMITS_FROM = 11
+TYPE_PLACE, RESERVED_PLACE, ATTACHMENTS_PLACE = 2, 9, 10
+
+
+def channel_block(fields):
+    """The bytes of a channel block from its fields, however wrong they are."""
+    header = struct.pack("<4s I 2Q", fields["id"], fields["reserved0"], fields["block_len"], fields["links_nr"])
+    links = struct.pack(f"<{len(fields['links'])}Q", *fields["links"])
+    return header + links + CHANNEL_FIELDS.pack(*fields["rest"])
+
+
+def hard_limit(rng):
+    """A double's bits, often a NaN of some kind."""
+    return rng.choice([rng.getrandbits(64), hard_float(rng, 64), rng.choice([0x7FF, 0xFFF]) << 52 | rng.getrandbits(52)])
+
+
+def channel_fields(rng, links_count):
+    """A block in which everything agrees."""
+    kinds = [rng.choice([0, 1, edge_number(rng, U8)]), edge_number(rng, U8), rng.choice(TYPE_CODES), edge_number(rng, U8)]
+    places = [edge_number(rng, U32) for _ in range(4)]
+    behind = [edge_number(rng, U8), 0, links_count - 8]
+    return {"id": b"##CN", "reserved0": 0, "block_len": 96 + 8 * links_count, "links_nr": links_count,
+            "links": [edge_number(rng, U64) for _ in range(links_count)],
+            "rest": kinds + places + behind + [hard_limit(rng) for _ in range(6)]}
+
+
+def random_channel_fields(rng, links_count):
+    fields = channel_fields(rng, links_count)
+    if rng.random() < 0.5:
+        fields.update(reserved0=edge_number(rng, U32), block_len=edge_number(rng, U64))
+        fields["rest"][RESERVED_PLACE] = edge_number(rng, U8)
+        fields["rest"][ATTACHMENTS_PLACE] = edge_number(rng, U16)
+        fields["rest"][TYPE_PLACE] = rng.getrandbits(8)
+    return fields
+
+
+def random_channel_block(rng):
+    links = [edge_number(rng, U64) for _ in range(9)]
+    kinds = [edge_number(rng, U8), edge_number(rng, U8), edge_number(rng, U8), edge_number(rng, U16)]
+    channel = Channel(rng.choice(TYPE_CODES + [rng.getrandbits(8)]), edge_number(rng, U8), edge_number(rng, U8),
+                      *(edge_number(rng, U32) for _ in range(4)), edge_number(rng, U64))
+    return ChannelBlock(random_header(rng), *links, channel, *kinds, *(hard_limit(rng) for _ in range(6)))
+
+
+def counting_channel_block():
+    """Each byte of each field another one, so that two which change places show."""
+    numbers = itertools.count(1)
+
+    def field(size):
+        return int.from_bytes(bytes(next(numbers) % 256 for _ in range(size)), "little")
+
+    header = Header(field(4), field(4), field(8), field(8))
+    links = [field(8) for _ in range(9)]
+    channel = Channel(*map(field, (1, 1, 1, 4, 4, 4, 4, 8)))._replace(data_type=5)
+    return ChannelBlock(header, *links, channel, *map(field, (1, 1, 1, 2, 8, 8, 8, 8, 8, 8)))
+
+
+def channel_read_boundaries(rng):
+    """Blocks of 8 links and more, cut at each length or around each border."""
+    for links_count in (8, 9, 10, 12, 20, 40):
+        size = 96 + 8 * links_count
+        block = channel_block(random_channel_fields(rng, links_count)) + rng.randbytes(12)
+        borders = (0, 24, 88, 88 + 72, 24 + 8 * links_count, size - 48, size, size + 10)
+        near = {border + i for border in borders for i in range(-2, 3)}
+        for length in range(size + 11) if links_count < 10 else sorted(near):
+            if 0 <= length <= len(block):
+                yield "read_channel", (block[:length],)
+    for links_count, block_len, attachments in itertools.product((8, 9, 11), (0, 1, 24, 159, 160, 168, U64), (0, 1, 3, U16)):
+        fields = channel_fields(rng, links_count)
+        fields["block_len"] = block_len
+        fields["rest"][ATTACHMENTS_PLACE] = attachments
+        yield "read_channel", (channel_block(fields),)
+    for fill in (0x00, 0xFF):
+        header = channel_block(channel_fields(rng, 8))[:24]
+        yield "read_channel", (header + bytes([fill]) * 136,)
+
+
+def channel_id_and_link_boundaries(rng):
+    for wrong in (b"##CG", b"##cn", b"CN##", bytes(4), b"\xff\xff\xff\xff", b"#\xc3CN", b" #CN", b"# CN", b"##DN", b"##CM",
+                  b"##DL"):
+        for links_nr in (0, 7, 8, 9, 2**61 + 8, U64):
+            fields = random_channel_fields(rng, 8)
+            fields.update(id=wrong, links_nr=links_nr)
+            for length in (160, 24, 23):  # too few bytes for a header comes before another id, and that before its links
+                yield "read_channel", (channel_block(fields)[:length],)
+    # 8 bytes a link pass 2^64 from 2^61 - 12 links on, and would wrap to the sizes of a few links.
+    around_wrapping = [2**61 * turns + i for turns in range(1, 8) for i in range(-14, 13)]
+    others = [2**32 - 1, 2**32, 2**32 + 7, 2**32 + 8, 2**32 + 9, 2**60, 2**61 - 100, U64 - 12, U64 - 11, U64 - 1, U64]
+    for links_nr in list(range(20)) + around_wrapping + others:
+        for length in (23, 24, 31, 88, 96, 152, 159, 160, 168, 200):
+            fields = random_channel_fields(rng, 13)
+            fields["links_nr"] = links_nr
+            yield "read_channel", (channel_block(fields)[:length],)
+
+
+def channel_type_boundaries(rng):
+    for code in range(256):
+        fields = channel_fields(rng, rng.choice([8, 8, 9]))
+        fields["rest"][TYPE_PLACE] = code
+        yield "read_channel", (channel_block(fields),)
+        block = random_channel_block(rng)
+        yield "write_channel", (block._replace(channel=block.channel._replace(data_type=code)), out_buffer(rng, 160))
+
+
+def channel_limit_boundaries(rng):
+    """NaNs, infinities and zeros in each of the six limits."""
+    for place, pattern, sign in itertools.product(range(6), HARD_DOUBLES, (0, 2**63)):
+        fields = channel_fields(rng, 8)
+        fields["rest"][LIMITS_FROM + place] = sign | pattern
+        yield "read_channel", (channel_block(fields),)
+        name = ChannelBlock._fields[-6 + place]
+        yield "write_channel", (random_channel_block(rng)._replace(**{name: sign | pattern}), out_buffer(rng, 160))
+
+
+def channel_write_boundaries(rng):
+    counting = counting_channel_block()
+    for size in list(range(170)) + [200, 1000]:
+        yield "write_channel", (counting, out_buffer(rng, size))
+        yield "write_channel", (random_channel_block(rng), out_buffer(rng, size))
+    for number in (0, 1, U8, U16, U32, U64):  # what is not looked at
+        unseen = counting._replace(header=Header(number % 2**32, number % 2**32, number, number), more_links_at=number,
+                                   more_links=number, reserved1=number % 2**8, attachment_nr=number % 2**16)
+        for size in out_sizes(160):
+            yield "write_channel", (unseen, out_buffer(rng, size))
+    for name in ChannelBlock._fields:  # one field alone
+        if name not in ("header", "channel"):
+            most = {"sync_type": U8, "precision": U8, "reserved1": U8, "attachment_nr": U16}.get(name, U64)
+            yield "write_channel", (ChannelBlock()._replace(**{name: most}), bytes(160))
+    for name, most in zip(Channel._fields, (U8, U8, U8, U32, U32, U32, U32, U64)):
+        yield "write_channel", (ChannelBlock(channel=Channel()._replace(**{name: most})), bytes(160))
+
+
+def random_channel_block_case(rng):
+    if rng.random() < 0.4:
+        return "write_channel", (random_channel_block(rng), out_buffer(rng, rng.choice(out_sizes(160) + [160, 161])))
+    links_count = rng.choice([8, 8, 8, 9, 10, 12, rng.randint(0, 30)])
+    fields = random_channel_fields(rng, max(8, links_count))
+    if rng.random() < 0.2:
+        fields["links_nr"] = rng.choice([links_count, edge_number(rng, U64), rng.randint(0, 30),
+                                         2**61 * rng.randint(1, 7) + rng.randint(-20, 20)])
+    if rng.random() < 0.1:
+        fields["id"] = rng.choice([b"##CG", b"##DL", rng.randbytes(4)])
+    block = channel_block(fields)
+    cut = rng.choice([len(block), len(block), len(block), len(block) - 1, rng.randint(0, len(block))])
+    return "read_channel", (block[:cut] + rng.randbytes(rng.choice([0, 0, 3])),)
 
 
 # ---- texts -------------------------------------------------------------------------------------------------------------
@@ -871,14 +1025,15 @@ def asked_by_every_call(chain_cases):
 # ---- all of them -------------------------------------------------------------------------------------------------------
 
 BOUNDARIES = (header_boundaries, type_boundaries, list_read_boundaries, list_id_and_link_boundaries, list_write_boundaries,
-              field_boundaries, place_boundaries, payload_boundaries, text_field_boundaries, validity_boundaries,
-              number_boundaries, text_boundaries, text_helper_boundaries)
+              channel_read_boundaries, channel_id_and_link_boundaries, channel_type_boundaries, channel_limit_boundaries,
+              channel_write_boundaries, field_boundaries, place_boundaries, payload_boundaries, text_field_boundaries,
+              validity_boundaries, number_boundaries, text_boundaries, text_helper_boundaries)
 
 CHAIN_BOUNDARIES = (cut_boundaries, query_boundaries, long_file_boundaries, loop_boundaries, order_boundaries,
                     limit_boundaries, large_record_boundaries, record_value_boundaries)
 
-RANDOM_CASES = ([random_header_case] + [random_list_case] * 2 + [random_value_case] * 6 + [random_text_case] * 4
-                + [random_chain_case] * 5)
+RANDOM_CASES = ([random_header_case] + [random_list_case] * 2 + [random_channel_block_case] * 2 + [random_value_case] * 6
+                + [random_text_case] * 4 + [random_chain_case] * 5)
 
 # The replies of each call that has any, which the boundary cases reach. Reply 14 has no case: 4,096 fragments of at most
 # 2^40 bytes never pass 2^63-1.
@@ -889,6 +1044,8 @@ REPLIES = {
     "read_list": {0, 2, 3, 4},
     "write_list_equal": {0, 5, 6},
     "write_list_variable": {0, 5, 6},
+    "read_channel": {0, 2, 3, 17},
+    "write_channel": {0, 6},
     "decode_value": {0, 1},
     "decode_valid_value": {0, 1},
     **{call: {0, 6} for call in TEXT_CALLS},

@@ -143,6 +143,7 @@ static uint64_t next_number(uint64_t most)
 
 static uint64_t next_u64(void) { return next_number(UINT64_MAX); }
 static uint32_t next_u32(void) { return (uint32_t)next_number(UINT32_MAX); }
+static uint16_t next_u16(void) { return (uint16_t)next_number(UINT16_MAX); }
 static uint8_t next_u8(void) { return (uint8_t)next_number(UINT8_MAX); }
 
 static int hex_digit(char digit)
@@ -271,6 +272,33 @@ static mf4_channel next_channel(void)
     return channel;
 }
 
+static mf4_channel_block next_channel_block(void)
+{
+    mf4_channel_block block;
+    block.header = next_header();
+    block.next_ch_addr = next_u64();
+    block.component_addr = next_u64();
+    block.name_addr = next_u64();
+    block.source_addr = next_u64();
+    block.conversion_addr = next_u64();
+    block.unit_addr = next_u64();
+    block.comment_addr = next_u64();
+    block.more_links_at = next_u64();
+    block.more_links = next_u64();
+    block.channel = next_channel();
+    block.sync_type = next_u8();
+    block.precision = next_u8();
+    block.reserved1 = next_u8();
+    block.attachment_nr = next_u16();
+    block.min_raw_value = next_u64();
+    block.max_raw_value = next_u64();
+    block.lower_limit = next_u64();
+    block.upper_limit = next_u64();
+    block.lower_ext_limit = next_u64();
+    block.upper_ext_limit = next_u64();
+    return block;
+}
+
 /* ---- words of a result ------------------------------------------------------------------------------------------ */
 
 static const char *separator;
@@ -293,6 +321,43 @@ static void print_header(mf4_block_header header)
     print_number("reserved0", header.reserved0);
     print_number("block_len", header.block_len);
     print_number("links_nr", header.links_nr);
+}
+
+static void print_channel(mf4_channel channel)
+{
+    print_number("data_type", channel.data_type);
+    print_number("channel_type", channel.channel_type);
+    print_number("bit_offset", channel.bit_offset);
+    print_number("byte_offset", channel.byte_offset);
+    print_number("bit_count", channel.bit_count);
+    print_number("flags", channel.flags);
+    print_number("pos_invalidation_bit", channel.pos_invalidation_bit);
+    print_number("data", channel.data);
+}
+
+static void print_channel_block(mf4_channel_block block)
+{
+    print_header(block.header);
+    print_number("next_ch_addr", block.next_ch_addr);
+    print_number("component_addr", block.component_addr);
+    print_number("name_addr", block.name_addr);
+    print_number("source_addr", block.source_addr);
+    print_number("conversion_addr", block.conversion_addr);
+    print_number("unit_addr", block.unit_addr);
+    print_number("comment_addr", block.comment_addr);
+    print_number("more_links_at", block.more_links_at);
+    print_number("more_links", block.more_links);
+    print_channel(block.channel);
+    print_number("sync_type", block.sync_type);
+    print_number("precision", block.precision);
+    print_number("reserved1", block.reserved1);
+    print_number("attachment_nr", block.attachment_nr);
+    print_number("min_raw_value", block.min_raw_value);
+    print_number("max_raw_value", block.max_raw_value);
+    print_number("lower_limit", block.lower_limit);
+    print_number("upper_limit", block.upper_limit);
+    print_number("lower_ext_limit", block.lower_ext_limit);
+    print_number("upper_ext_limit", block.upper_ext_limit);
 }
 
 static void print_out(const slice *out)
@@ -418,6 +483,26 @@ static void write_list_variable(void)
     print_written(mf4_write_list_variable(next, numbers_of(links), count_of_numbers(links), numbers_of(offsets),
                                           count_of_numbers(offsets), out->bytes, out->length),
                   out);
+}
+
+static void read_channel(void)
+{
+    slice *bytes = next_input();
+    mf4_channel_reply answer;
+    if (is_malformed)
+        return;
+    answer = mf4_read_channel(bytes->bytes, bytes->length);
+    print_reply(answer.reply, answer.told);
+    print_channel_block(answer.block);
+}
+
+static void write_channel(void)
+{
+    mf4_channel_block block = next_channel_block();
+    slice *out = next_output();
+    if (is_malformed)
+        return;
+    print_written(mf4_write_channel(block, out->bytes, out->length), out);
 }
 
 static void decode_value(void)
@@ -549,6 +634,8 @@ static const struct {
     {"read_list", read_list},
     {"write_list_equal", write_list_equal},
     {"write_list_variable", write_list_variable},
+    {"read_channel", read_channel},
+    {"write_channel", write_channel},
     {"decode_value", decode_value},
     {"check_validity", check_validity},
     {"decode_valid_value", decode_valid_value},

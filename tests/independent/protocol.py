@@ -7,14 +7,14 @@ A case is a call's name and its arguments in the order of reference.py. As words
                 an empty slice is "x", or "-" for a NULL pointer with the count 0
     long file   z and a length: a file of that length, of which no byte may be looked at
     numbers     u and decimals with commas between:  u1,2,3   (empty: "u", or "-" for NULL)
-    header      4 numbers, channel: 8 numbers, in the order of their C structs
+    header      4 numbers, channel: 8 numbers, channel block: 31 numbers, in the order of their C structs
 
 A result is the fields of the C struct as name=number words in the order of mf4.h, a plain answer as answer=number, and
 the output buffer afterwards as out=x and hex digits.
 """
 
 import reference
-from reference import Channel, Header
+from reference import Channel, ChannelBlock, Header
 
 SHORTEST_REPEAT = 16
 
@@ -32,7 +32,10 @@ class LongFile:
         return isinstance(other, LongFile) and self.length == other.length
 
 
-NUMBER, BYTES, NUMBERS, HEADER, CHANNEL = "number", "bytes", "numbers", "header", "channel"
+NUMBER, BYTES, NUMBERS = "number", "bytes", "numbers"
+
+# The form of a struct is an empty one, whose fields tell how many numbers it takes.
+HEADER, CHANNEL, CHANNEL_BLOCK = Header(), Channel(), ChannelBlock()
 
 ON_RECORD = (BYTES, NUMBER, CHANNEL)
 ON_RECORD_WITH_VALIDITY = (BYTES, NUMBER, NUMBER, CHANNEL)
@@ -46,6 +49,8 @@ CALLS = {
     "read_list": (reference.read_list, (BYTES,)),
     "write_list_equal": (reference.write_list_equal, (NUMBER, NUMBERS, NUMBER, BYTES)),
     "write_list_variable": (reference.write_list_variable, (NUMBER, NUMBERS, NUMBERS, BYTES)),
+    "read_channel": (reference.read_channel, (BYTES,)),
+    "write_channel": (reference.write_channel, (CHANNEL_BLOCK, BYTES)),
     "decode_value": (reference.decode_value, ON_RECORD),
     "check_validity": (reference.check_validity, ON_RECORD_WITH_VALIDITY),
     "decode_valid_value": (reference.decode_valid_value, ON_RECORD_WITH_VALIDITY),
@@ -97,6 +102,15 @@ def numbers_of_word(word):
     return [int(digits) for digits in word[1:].split(",") if digits]
 
 
+def struct_words(struct):
+    return [word for field in struct for word in (struct_words(field) if isinstance(field, tuple) else [str(field)])]
+
+
+def struct_of_words(form, words):
+    """A struct like the form, of the first words, which it takes away."""
+    return type(form)(*(struct_of_words(field, words) if isinstance(field, tuple) else int(words.pop(0)) for field in form))
+
+
 def case_line(call, arguments, null_if_empty=False):
     words = [call]
     for form, argument in zip(CALLS[call][1], arguments):
@@ -104,8 +118,8 @@ def case_line(call, arguments, null_if_empty=False):
             words.append(bytes_word(argument, null_if_empty))
         elif form == NUMBERS:
             words.append(numbers_word(argument, null_if_empty))
-        elif form in (HEADER, CHANNEL):
-            words.extend(map(str, argument))
+        elif isinstance(form, tuple):
+            words.extend(struct_words(argument))
         else:
             words.append(str(argument))
     return " ".join(words)
@@ -115,10 +129,8 @@ def case_of_line(line):
     call, *words = line.split()
     arguments = []
     for form in CALLS[call][1]:
-        if form == HEADER:
-            arguments.append(Header(*(int(words.pop(0)) for _ in range(4))))
-        elif form == CHANNEL:
-            arguments.append(Channel(*(int(words.pop(0)) for _ in range(8))))
+        if isinstance(form, tuple):
+            arguments.append(struct_of_words(form, words))
         elif form == BYTES:
             arguments.append(bytes_of_word(words.pop(0)))
         elif form == NUMBERS:

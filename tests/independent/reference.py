@@ -15,6 +15,7 @@ NAN = 0x7FF8000000000000
 HEADER_SIZE = 24
 LIST_ID = b"##DL"
 DATA_ID = b"##DT"
+CHANNEL_ID = b"##CN"
 MOST_FILE_BYTES = 2**40
 MOST_LISTS = 256
 MOST_FRAGMENTS = 4096
@@ -40,6 +41,7 @@ UNTRUE_DECLARATION = 13
 DATA_TOO_LONG = 14
 BAD_RECORD_SIZE = 15
 NO_SUCH_RECORD = 16
+TOO_FEW_LINKS = 17
 NO_TEXT_TYPE = 256  # of a helper of mf4.h, not of the library
 
 
@@ -100,6 +102,37 @@ class Channel(NamedTuple):
     flags: int = 0
     pos_invalidation_bit: int = 0
     data: int = 0
+
+
+class ChannelBlock(NamedTuple):
+    """The six limits are the bits of doubles."""
+    header: Header = Header()
+    next_ch_addr: int = 0
+    component_addr: int = 0
+    name_addr: int = 0
+    source_addr: int = 0
+    conversion_addr: int = 0
+    unit_addr: int = 0
+    comment_addr: int = 0
+    more_links_at: int = 0
+    more_links: int = 0
+    channel: Channel = Channel()
+    sync_type: int = 0
+    precision: int = 0
+    reserved1: int = 0
+    attachment_nr: int = 0
+    min_raw_value: int = 0
+    max_raw_value: int = 0
+    lower_limit: int = 0
+    upper_limit: int = 0
+    lower_ext_limit: int = 0
+    upper_ext_limit: int = 0
+
+
+class ChannelReply(NamedTuple):
+    reply: int = ANSWER
+    told: int = 0
+    block: ChannelBlock = ChannelBlock()
 
 
 class Value(NamedTuple):
@@ -191,6 +224,7 @@ LATIN1, UTF8, UTF16_LE, UTF16_BE = range(6, 10)
 BYTE_ARRAY, MIME_SAMPLE, MIME_STREAM = range(10, 13)
 CANOPEN_DATE, CANOPEN_TIME = range(13, 15)
 COMPLEX_LE, COMPLEX_BE = range(15, 17)
+UNKNOWN_TYPE = 255
 
 INTEGERS = (UNSIGNED_LE, UNSIGNED_BE, SIGNED_LE, SIGNED_BE)
 FLOATS = (FLOAT_LE, FLOAT_BE)
@@ -269,6 +303,78 @@ def write_list_equal(next_list, links, length, out):
 def write_list_variable(next_list, links, offsets, out):
     unwritable = len(links) > MOST_FRAGMENTS or len(links) != len(offsets)
     return write_list(unwritable, next_list, links, 0, offsets, out)
+
+
+# ---- channel blocks ----------------------------------------------------------------------------------------------------
+
+# What stands behind the header, and behind the last link, in turn: the name in the C struct and the bytes.
+CHANNEL_LINKS = tuple((name, 8) for name in (
+    "next_ch_addr", "component_addr", "name_addr", "source_addr", "conversion_addr", "data", "unit_addr", "comment_addr"))
+CHANNEL_FIELDS = (
+    ("channel_type", 1), ("sync_type", 1), ("data_type", 1), ("bit_offset", 1),
+    ("byte_offset", 4), ("bit_count", 4), ("flags", 4), ("pos_invalidation_bit", 4),
+    ("precision", 1), ("reserved1", 1), ("attachment_nr", 2),
+    ("min_raw_value", 8), ("max_raw_value", 8), ("lower_limit", 8), ("upper_limit", 8),
+    ("lower_ext_limit", 8), ("upper_ext_limit", 8))
+
+
+def size_of(row):
+    return sum(size for _, size in row)
+
+
+def row_at(block, place, row):
+    """The numbers of a row by name."""
+    numbers = {}
+    for name, size in row:
+        numbers[name] = little(block, place, size)
+        place += size
+    return numbers
+
+
+def row_bytes(numbers, row):
+    return b"".join(little_bytes(numbers[name], size) for name, size in row)
+
+
+def channel_block_of(block):
+    header = header_of(block)
+    refuse_if(little_bytes(header.id, 4) != CHANNEL_ID, OTHER_ID)
+    refuse_if(header.links_nr < len(CHANNEL_LINKS), TOO_FEW_LINKS)
+    fields_at = HEADER_SIZE + 8 * header.links_nr
+    size = fields_at + size_of(CHANNEL_FIELDS)
+    refuse_if(len(block) < size, TOO_FEW_BYTES, size)
+    numbers = row_at(block, HEADER_SIZE, CHANNEL_LINKS) | row_at(block, fields_at, CHANNEL_FIELDS)
+    if numbers["data_type"] > COMPLEX_BE:
+        numbers["data_type"] = UNKNOWN_TYPE
+    channel = Channel(**{name: numbers.pop(name) for name in Channel._fields})
+    return ChannelBlock(
+        header=header,
+        more_links_at=HEADER_SIZE + size_of(CHANNEL_LINKS),
+        more_links=header.links_nr - len(CHANNEL_LINKS),
+        channel=channel,
+        **numbers)
+
+
+def read_channel(block):
+    try:
+        return ChannelReply(block=channel_block_of(block))
+    except Refusal as refusal:
+        return ChannelReply(refusal.number, refusal.told)
+
+
+def channel_block_bytes(block):
+    numbers = block._asdict() | block.channel._asdict()
+    numbers.update(data_type=type_code(block.channel.data_type), reserved1=0, attachment_nr=0)
+    behind_header = row_bytes(numbers, CHANNEL_LINKS) + row_bytes(numbers, CHANNEL_FIELDS)
+    size = HEADER_SIZE + len(behind_header)
+    return header_bytes(Header(int.from_bytes(CHANNEL_ID, "little"), 0, size, len(CHANNEL_LINKS))) + behind_header
+
+
+def write_channel(block, out):
+    try:
+        content = channel_block_bytes(block)
+        return Written(count=len(content)), placed(content, out)
+    except Refusal as refusal:
+        return Written(refusal.number, refusal.told), out
 
 
 # ---- doubles -----------------------------------------------------------------------------------------------------------

@@ -134,6 +134,40 @@ def example_lists():
                 "00 000000 02000000 0000000000000000 0500000000000000"))
 
 
+LINKS_IN_HEX = ("1000000000000000 2000000000000000 3000000000000000 4000000000000000"
+                "5000000000000000 6000000000000000 7000000000000000 8000000000000000")
+FIELDS_IN_HEX = ("01 02 03 04 05000000 06000000 07000000 08000000 09 0a 0b0c"
+                 "0d00000000000000 0e00000000000000 0f00000000000000 000000000000f07f 000000000000f8ff 010000000000f07f")
+CHANNEL_IN_NUMBERS = r.ChannelBlock(
+    header=Header(int.from_bytes(b"##CN", "little"), 0x99, 1, 8), next_ch_addr=0x10, component_addr=0x20, name_addr=0x30,
+    source_addr=0x40, conversion_addr=0x50, unit_addr=0x70, comment_addr=0x80, more_links_at=88, more_links=0,
+    channel=Channel(data_type=3, channel_type=1, bit_offset=4, byte_offset=5, bit_count=6, flags=7, pos_invalidation_bit=8,
+                    data=0x60),
+    sync_type=2, precision=9, reserved1=10, attachment_nr=0x0C0B, min_raw_value=13, max_raw_value=14, lower_limit=15,
+    upper_limit=0x7FF0000000000000, lower_ext_limit=0xFFF8000000000000, upper_ext_limit=0x7FF0000000000001)
+
+
+def channel_in_hex(links_nr=8, more_links="", start="23 23 43 4e 99000000 0100000000000000"):
+    return hexed(start) + links_nr.to_bytes(8, "little") + hexed(LINKS_IN_HEX + more_links + FIELDS_IN_HEX)
+
+
+def example_channels():
+    block = channel_in_hex()
+    check("a block of 160 bytes", len(block), 160)
+    check("block length 1 in 160 bytes", r.read_channel(block), r.ChannelReply(block=CHANNEL_IN_NUMBERS))
+    check("bytes behind", r.read_channel(block + b"\7"), r.ChannelReply(block=CHANNEL_IN_NUMBERS))
+    nine = CHANNEL_IN_NUMBERS._replace(header=CHANNEL_IN_NUMBERS.header._replace(links_nr=9), more_links=1)
+    check("9 links in 168 bytes", r.read_channel(channel_in_hex(9, "ffffffffffffffff")), r.ChannelReply(block=nine))
+    check("9 links in 160 bytes", r.read_channel(channel_in_hex(9)), r.ChannelReply(2, 168))
+    check("8 links in 159 bytes", r.read_channel(block[:159]), r.ChannelReply(2, 160))
+    check("7 links", r.read_channel(channel_in_hex(7)), r.ChannelReply(17))
+    check("very many links", r.read_channel(channel_in_hex(2**64 - 1)), r.ChannelReply(2, 18446744073709551615))
+    check("written", r.write_channel(CHANNEL_IN_NUMBERS, bytes(163)),
+          (r.Written(count=160), hexed("23 23 43 4e 00000000 a000000000000000 0800000000000000") + hexed(LINKS_IN_HEX)
+           + hexed(FIELDS_IN_HEX.replace("0a 0b0c", "00 0000")) + bytes(3)))
+    check("no room", r.write_channel(CHANNEL_IN_NUMBERS, b"\7" * 159), (r.Written(6, 160), b"\7" * 159))
+
+
 def example_chain():
     data = hexed("01 02 03 04 05 06")
     rng = random.Random(1)
@@ -181,6 +215,27 @@ def rules_of_writing():
               (0, next_list, 0, len(links), written.count))
         check("its links", r.numbers_at(out, read.links_at, read.links), links)
         check("its offsets", r.numbers_at(out, read.rest_at, read.rest), offsets)
+
+
+def rules_of_channels():
+    block = channel_in_hex()
+    for length in range(160):
+        check(f"{length} bytes", r.read_channel(block[:length]), r.ChannelReply(2, 24 if length < 24 else 160))
+    for links_nr in range(8):
+        check("too few links", r.read_channel(channel_in_hex(links_nr)[:24]), r.ChannelReply(17))
+    for links_nr, told in ((9, 168), (2**61 - 13, 2**64 - 8), (2**61 - 12, 2**64 - 1), (2**61 + 8, 2**64 - 1)):
+        check(f"{links_nr} links", r.read_channel(channel_in_hex(links_nr)), r.ChannelReply(2, told))
+    other = "23 23 43 47 99000000 0100000000000000"
+    check("another id before too few links", r.read_channel(channel_in_hex(0, start=other)), r.ChannelReply(3))
+    check("too few bytes before another id", r.read_channel(channel_in_hex(0, start=other)[:23]), r.ChannelReply(2, 24))
+    for code in range(256):
+        coded = block[:90] + bytes([code]) + block[91:]
+        read = r.read_channel(coded).block
+        check(f"type {code} read", read.channel.data_type, code if code <= 16 else 255)
+        described = CHANNEL_IN_NUMBERS.channel._replace(data_type=code)
+        written = r.write_channel(CHANNEL_IN_NUMBERS._replace(channel=described), bytes(160))[1]
+        check(f"type {code} written", written[90], code if code <= 16 else 0)
+        check(f"type {code} decoded", *(r.decode_value(bytes(6), 0, channel) for channel in (read.channel, described)))
 
 
 def rules_of_values():
@@ -342,6 +397,28 @@ def python_integers():
               wanted)
 
 
+def python_structs():
+    """Channel blocks as the struct module packs them, and packs them again from what was read."""
+    rng = random.Random(11)
+    for _ in range(3000):
+        links_count = rng.choice([8, 9, 12])
+        fields = cases.random_channel_fields(rng, links_count)
+        read = r.read_channel(cases.channel_block(fields)).block
+        c = read.channel
+        links = [read.next_ch_addr, read.component_addr, read.name_addr, read.source_addr, read.conversion_addr, c.data,
+                 read.unit_addr, read.comment_addr]
+        check("links", links, fields["links"][:8])
+        check("more links", (read.more_links_at, read.more_links), (88, links_count - 8))
+        row = [c.channel_type, read.sync_type, c.data_type, c.bit_offset, c.byte_offset, c.bit_count, c.flags,
+               c.pos_invalidation_bit, read.precision, read.reserved1, read.attachment_nr, *read[-6:]]
+        code = fields["rest"][2]
+        check("fields", row, fields["rest"][:2] + [code if code <= 16 else 255] + fields["rest"][3:])
+        again = struct.pack("<4sIQQ8Q4B4I2BH6Q", b"##CN", 0, 160, 8, *links, *row[:2], code if code <= 16 else 0, *row[3:9],
+                            0, 0, *row[11:])
+        check("written again", r.write_channel(read, bytes(161)), (r.Written(count=160), again + bytes(1)))
+        check("read again", r.read_channel(again).block.channel, c._replace(data_type=code if code <= 16 else 0))
+
+
 def python_text(text, call):
     """The same rules with Python's strict codecs."""
     encoding, placeholder = {
@@ -403,10 +480,12 @@ def main():
     section("example: texts", example_texts)
     section("example: validity", example_validity)
     section("example: lists", example_lists)
+    section("example: channels", example_channels)
     section("example: chain", example_chain)
     section("rules of types", rules_of_types)
     section("rules of headers", rules_of_headers)
     section("rules of writing lists", rules_of_writing)
+    section("rules of channels", rules_of_channels)
     section("rules of values", rules_of_values)
     section("rules of the helpers for texts", rules_of_text_helpers)
     section("rules of chains", rules_of_chains)
@@ -414,6 +493,7 @@ def main():
     section("Unicode vectors", outside_unicode)
     section("against float() and struct", python_floats)
     section("against bit strings", python_integers)
+    section("against packed structs", python_structs)
     section("against Python's codecs", python_codecs)
     section("chains with the same joined bytes", joined_equal_chains)
     section("lines read back", lines_read_back)
