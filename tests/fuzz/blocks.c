@@ -3,7 +3,7 @@
 
 #include <string.h>
 
-static int same_block_header(mf4_block_header a, mf4_block_header b)
+int same_block_header(mf4_block_header a, mf4_block_header b)
 {
     return a.id == b.id && a.reserved0 == b.reserved0 && a.block_len == b.block_len && a.links_nr == b.links_nr;
 }
@@ -15,12 +15,12 @@ static int same_list(mf4_list a, mf4_list b)
         && a.data_block_nr == b.data_block_nr && a.rest_at == b.rest_at && a.rest == b.rest;
 }
 
-static int same_written(mf4_written a, mf4_written b)
+int same_written(mf4_written a, mf4_written b)
 {
     return a.reply == b.reply && a.told == b.told && a.count == b.count;
 }
 
-static void check_written(enum call call, mf4_written answer, lent out, uint32_t allowed)
+void check_written(enum call call, mf4_written answer, lent out, uint32_t allowed)
 {
     check_reply(call, answer.reply, answer.told, allowed);
     MUST(answer.reply == MF4_ANSWER ? answer.count <= out.length : answer.count == 0);

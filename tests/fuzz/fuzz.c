@@ -28,7 +28,7 @@ void note(enum call call, unsigned what) { seen[call][what % 64] = 1; }
 void check_reply(enum call call, uint32_t reply, uint64_t told, uint32_t allowed)
 {
     note(call, reply);
-    MUST(reply <= MF4_NO_SUCH_RECORD && (allowed >> reply & 1) == 1);
+    MUST(reply <= MF4_TOO_FEW_LINKS && (allowed >> reply & 1) == 1);
     MUST(told == 0 || reply == MF4_TOO_FEW_BYTES || reply == MF4_NO_ROOM);
     MUST(strcmp(mf4_reply_text(reply), "no reply of this library") != 0);
 }
@@ -45,6 +45,7 @@ static void exercise_part(const log_file *log, reading how)
     lent part = part_from(log, choose_byte() % 4 == 3 ? choose_number() : log->start);
     exercise_header(part);
     exercise_list(part);
+    exercise_channel(part, how);
     exercise_value(part, how);
     exercise_texts(part);
 }
@@ -65,5 +66,7 @@ int LLVMFuzzerTestOneInput(const uint8_t *data, size_t size)
     exercise_writer(0);
     exercise_writer(1);
     exercise_texts(choose_text());
+    exercise_channel(choose_channel_block(), how);
+    exercise_channel_writer(how.channel);
     return 0;
 }

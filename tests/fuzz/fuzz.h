@@ -11,8 +11,9 @@ void fail(const char *claim, const char *file, int line);
 #define MUST(claim) ((claim) ? (void)0 : fail(#claim, __FILE__, __LINE__))
 
 enum call {
-    READ_HEADER, WRITE_HEADER, READ_LIST, WRITE_EQUAL, WRITE_VARIABLE, DECODE, VALIDITY, DECODE_VALID, DECODE_DOUBLE,
-    TEXT_LATIN1, TEXT_UTF8, TEXT_UTF16_LE, TEXT_UTF16_BE, DATA_LENGTH, READ_RECORD, RECORD_VALUE, CALLS
+    READ_HEADER, WRITE_HEADER, READ_LIST, WRITE_EQUAL, WRITE_VARIABLE, READ_CHANNEL, WRITE_CHANNEL, DECODE, VALIDITY,
+    DECODE_VALID, DECODE_DOUBLE, TEXT_LATIN1, TEXT_UTF8, TEXT_UTF16_LE, TEXT_UTF16_BE, DATA_LENGTH, READ_RECORD,
+    RECORD_VALUE, CALLS
 };
 
 /* Counts what a call answered, so that an input with a new answer is kept. */
@@ -42,11 +43,19 @@ typedef struct reading {
 reading choose_reading(void);
 
 int same_valid_value(mf4_valid_value a, mf4_valid_value b);
+int same_block_header(mf4_block_header a, mf4_block_header b);
+int same_written(mf4_written a, mf4_written b);
+
+/* The reply is one of those allowed, and nothing behind the count has changed. */
+void check_written(enum call call, mf4_written answer, lent out, uint32_t allowed);
 
 void exercise_types(uint8_t code);
 void exercise_header(lent input);
 void exercise_list(lent input);
 void exercise_writer(int equal);
+void exercise_channel(lent input, reading how);
+void exercise_channel_writer(mf4_channel channel);
+lent choose_channel_block(void);
 void exercise_value(lent record, reading how);
 void exercise_texts(lent input);
 lent choose_text(void);
