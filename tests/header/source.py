@@ -3,8 +3,8 @@
 import re
 from pathlib import Path
 
-NUMBERS = {"u8": "uint8_t", "u32": "uint32_t", "u64": "uint64_t", "i64": "int64_t"}
-SIZES = {"uint8_t": 1, "uint32_t": 4, "uint64_t": 8, "int64_t": 8}
+NUMBERS = {"u8": "uint8_t", "u16": "uint16_t", "u32": "uint32_t", "u64": "uint64_t", "i64": "int64_t"}
+SIZES = {"uint8_t": 1, "uint16_t": 2, "uint32_t": 4, "uint64_t": 8, "int64_t": 8}
 
 STRUCT = re.compile(r"#\[repr\(C\)\]\s*pub struct (\w+) \{(.*?)\}", re.S)
 CALL = re.compile(r'#\[no_mangle\]\s*pub extern "C" fn (\w+)\((.*?)\) -> (\w+)', re.S)
