@@ -40,6 +40,10 @@ class Words:
     def channel(self):
         return reference.Channel(*(self.number() for _ in reference.Channel._fields))
 
+    def channel_block(self):
+        parts = {"header": self.header, "channel": self.channel}
+        return reference.ChannelBlock(*(parts.get(name, self.number)() for name in reference.ChannelBlock._fields))
+
 
 def bytes_word(content):
     return content.hex() or "-"
@@ -102,6 +106,18 @@ def list_write_variable_answer(words):
     return written_words(reference.write_list_variable(next_list, links, words.numbers(), out))
 
 
+def channel_read_answer(words):
+    def fields(r):
+        return [word for part in r.block for word in number_words(*(part if isinstance(part, tuple) else [part]))]
+
+    return reply_words(reference.read_channel(words.bytes()), fields)
+
+
+def channel_write_answer(words):
+    block = words.channel_block()
+    return written_words(reference.write_channel(block, words.buffer()))
+
+
 def field(words):
     return words.bytes(), words.number(), words.number(), words.channel()
 
@@ -154,6 +170,8 @@ ANSWERS = {
     "list-read": list_read_answer,
     "list-write-equal": list_write_equal_answer,
     "list-write-variable": list_write_variable_answer,
+    "channel-read": channel_read_answer,
+    "channel-write": channel_write_answer,
     "value": value_answer,
     "validity": validity_answer,
     "both": both_answer,
