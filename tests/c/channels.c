@@ -3,6 +3,7 @@
 
 #include <string.h>
 
+#include "same_channel.h"
 #include "values.h"
 
 enum { HEADER = 24, FIELDS = 72, MOST_LINKS = 20, MOST_BEHIND = 10 };
@@ -48,43 +49,15 @@ mf4_channel_block written_block(void)
     return block;
 }
 
-static int same_links(mf4_channel_block a, mf4_channel_block b)
-{
-    return a.next_ch_addr == b.next_ch_addr && a.component_addr == b.component_addr && a.name_addr == b.name_addr
-        && a.source_addr == b.source_addr && a.conversion_addr == b.conversion_addr && a.unit_addr == b.unit_addr
-        && a.comment_addr == b.comment_addr && a.more_links_at == b.more_links_at && a.more_links == b.more_links;
-}
-
-static int same_description(mf4_channel a, mf4_channel b)
-{
-    return a.data_type == b.data_type && a.channel_type == b.channel_type && a.bit_offset == b.bit_offset
-        && a.byte_offset == b.byte_offset && a.bit_count == b.bit_count && a.flags == b.flags
-        && a.pos_invalidation_bit == b.pos_invalidation_bit && a.data == b.data;
-}
-
-static int same_rest(mf4_channel_block a, mf4_channel_block b)
-{
-    return a.sync_type == b.sync_type && a.precision == b.precision && a.reserved1 == b.reserved1
-        && a.attachment_nr == b.attachment_nr && a.min_raw_value == b.min_raw_value && a.max_raw_value == b.max_raw_value
-        && a.lower_limit == b.lower_limit && a.upper_limit == b.upper_limit && a.lower_ext_limit == b.lower_ext_limit
-        && a.upper_ext_limit == b.upper_ext_limit;
-}
-
-static int same_block(mf4_channel_block a, mf4_channel_block b)
-{
-    return is_header(a.header, b.header.id, b.header.reserved0, b.header.block_len, b.header.links_nr) && same_links(a, b)
-        && same_description(a.channel, b.channel) && same_rest(a, b);
-}
-
 int channel_is(mf4_channel_reply a, mf4_channel_block block)
 {
-    return a.reply == 0 && a.told == 0 && same_block(a.block, block);
+    return a.reply == 0 && a.told == 0 && same_channel_block(a.block, block);
 }
 
 static int channel_refused(mf4_channel_reply a, uint32_t reply, uint64_t told)
 {
     static const mf4_channel_block nothing;
-    return a.reply == reply && a.told == told && same_block(a.block, nothing);
+    return a.reply == reply && a.told == told && same_channel_block(a.block, nothing);
 }
 
 static void put_little(uint8_t *place, uint64_t number, int size)

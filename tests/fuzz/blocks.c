@@ -3,7 +3,7 @@
 
 #include <string.h>
 
-int same_block_header(mf4_block_header a, mf4_block_header b)
+static int same_block_header(mf4_block_header a, mf4_block_header b)
 {
     return a.id == b.id && a.reserved0 == b.reserved0 && a.block_len == b.block_len && a.links_nr == b.links_nr;
 }

@@ -3,6 +3,8 @@
 
 #include <string.h>
 
+#include "same_channel.h"
+
 enum { LEAST_LINKS = 8, MOST_LINKS = 12, FIELDS_SIZE = 72, MOST_BEHIND = 2 };
 enum { MOST_BLOCK = 24 + 8 * MOST_LINKS + FIELDS_SIZE + MOST_BEHIND };
 
@@ -14,28 +16,9 @@ static uint64_t little(const uint8_t *place, int size)
     return number;
 }
 
-static int same_description(mf4_channel a, mf4_channel b)
-{
-    return a.data_type == b.data_type && a.channel_type == b.channel_type && a.bit_offset == b.bit_offset
-        && a.byte_offset == b.byte_offset && a.bit_count == b.bit_count && a.flags == b.flags
-        && a.pos_invalidation_bit == b.pos_invalidation_bit && a.data == b.data;
-}
-
-static int same_links(mf4_channel_block a, mf4_channel_block b)
-{
-    return a.next_ch_addr == b.next_ch_addr && a.component_addr == b.component_addr && a.name_addr == b.name_addr
-        && a.source_addr == b.source_addr && a.conversion_addr == b.conversion_addr && a.unit_addr == b.unit_addr
-        && a.comment_addr == b.comment_addr && a.more_links_at == b.more_links_at && a.more_links == b.more_links;
-}
-
 static int same_channel(mf4_channel_reply a, mf4_channel_reply b)
 {
-    mf4_channel_block x = a.block, y = b.block;
-    return a.reply == b.reply && a.told == b.told && same_block_header(x.header, y.header) && same_links(x, y)
-        && same_description(x.channel, y.channel) && x.sync_type == y.sync_type && x.precision == y.precision
-        && x.reserved1 == y.reserved1 && x.attachment_nr == y.attachment_nr && x.min_raw_value == y.min_raw_value
-        && x.max_raw_value == y.max_raw_value && x.lower_limit == y.lower_limit && x.upper_limit == y.upper_limit
-        && x.lower_ext_limit == y.lower_ext_limit && x.upper_ext_limit == y.upper_ext_limit;
+    return a.reply == b.reply && a.told == b.told && same_channel_block(a.block, b.block);
 }
 
 static mf4_channel description_due(const uint8_t *block, const uint8_t *fields)

@@ -43,7 +43,6 @@ typedef struct reading {
 reading choose_reading(void);
 
 int same_valid_value(mf4_valid_value a, mf4_valid_value b);
-int same_block_header(mf4_block_header a, mf4_block_header b);
 int same_written(mf4_written a, mf4_written b);
 
 /* The reply is one of those allowed, and nothing behind the count has changed. */
