@@ -45,7 +45,7 @@ extern "C" {
 enum mf4_reply {
     MF4_ANSWER = 0,              /* the answer's fields hold                                                      */
     MF4_NO_VALUE = 1,            /* a field that cannot be decoded                                                */
-    MF4_TOO_FEW_BYTES = 2,       /* a block that ends too early; told: the size that it needs                     */
+    MF4_TOO_FEW_BYTES = 2,       /* a block that ends too early; told: the size that it needs, at most 2^64-1     */
     MF4_OTHER_ID = 3,            /* a block, but not the kind that was asked for                                  */
     MF4_NO_LINKS = 4,            /* a data list whose link count is 0                                             */
     MF4_UNWRITABLE_LIST = 5,     /* a list that is not written: too many links, or not one offset for each        */
@@ -176,7 +176,7 @@ typedef struct mf4_list {
     uint64_t rest;
 } mf4_list;
 
-/* Refuses with 2, 3, 4. */
+/* Refuses with 2, 3, 4, 2. */
 mf4_list mf4_read_list(const uint8_t *bytes, size_t bytes_len);
 
 /* A list whose fragments all have one length, but for its last, which may be shorter. Refuses with 5, then 6. */
@@ -199,7 +199,7 @@ enum mf4_channel_flag {
     MF4_CHANNEL_INVALIDATION_BIT = 2 /* a bit of each record tells if it is so   */
 };
 
-/* A channel's description, as its ##CN block has it. In C99, name the fields that you set, { .bit_offset = 4, .. }: the
+/* A channel's description, as mf4_read_channel gives it of a ##CN block. In C99, name the fields that you set, { .bit_offset = 4, .. }: the
  * others are then 0, and none slips into another's place. */
 typedef struct mf4_channel {
     uint8_t data_type;             /* a code of enum mf4_data_type                                                   */
@@ -217,8 +217,8 @@ typedef struct mf4_channel {
 #define MF4_CHANNEL_BLOCK_SIZE 160 /* of a block that is written */
 
 /* A ##CN block: its eight links, of which the sixth is channel.data, and its fields. more_links_at, more_links: where the
- * links behind the eighth stand in the bytes given, and how many; 8 bytes each, little-endian. The six limits are 64-bit
- * patterns, so that a NaN keeps its bits; mf4_double_of gives the value. */
+ * links behind the eighth stand in the bytes given, or would stand, and how many; 8 bytes each, little-endian. The last six
+ * fields are 64-bit patterns of doubles, so that a NaN keeps its bits; mf4_double_of gives the value. */
 typedef struct mf4_channel_block {
     mf4_block_header header;
     uint64_t next_ch_addr;
@@ -253,9 +253,9 @@ typedef struct mf4_channel_reply {
  * counts. Refuses with 2, 3, 17, 2. */
 mf4_channel_reply mf4_read_channel(const uint8_t *bytes, size_t bytes_len);
 
-/* Writes 160 bytes: the eight links and the fields, with a header of its own (links_nr 8, block_len 160), and with 0 for
- * reserved1, attachment_nr and an unknown type. The block's header, more_links and more_links_at are not looked at. Refuses
- * with 6. */
+/* Writes 160 bytes: the eight links and the fields, with a header of its own (links_nr 8, block_len 160) and with 0 for
+ * reserved1 and attachment_nr. The block's header and its links behind the eighth are not looked at, and so are lost. An
+ * unknown type is written as 0, and will be read as MF4_UNSIGNED_LE. Refuses with 6. */
 mf4_written mf4_write_channel(mf4_channel_block block, uint8_t *out, size_t out_len);
 
 /* ---- values ----------------------------------------------------------------------------------------------------- */
@@ -301,7 +301,7 @@ static inline int64_t mf4_signed_of(uint64_t number)
     return value;
 }
 
-/* The value of a number of MF4_KIND_DOUBLE, or of what mf4_decode_double gives. */
+/* The value of a number of MF4_KIND_DOUBLE, of what mf4_decode_double gives, or of a limit in a channel block. */
 static inline double mf4_double_of(uint64_t number)
 {
     double value;

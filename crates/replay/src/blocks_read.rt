@@ -11,7 +11,7 @@ use mf4::Mf4List;
 use mf4::mf4_read_header;
 use mf4::mf4_read_list;
 
-fn same_header(line: &[u8], at: usize, given: Mf4BlockHeader) -> usize {
+pub(crate) fn same_header(line: &[u8], at: usize, given: Mf4BlockHeader) -> usize {
     let next = same_number(line, at, given.id as u64);
     let next = same_number(line, next, given.reserved0 as u64);
     let next = same_number(line, next, given.block_len);

@@ -11,12 +11,12 @@ use mf4::mf4_write_header;
 use mf4::mf4_write_list_equal;
 use mf4::mf4_write_list_variable;
 
-struct HeaderWords {
-    header: Mf4BlockHeader,
-    next: usize,
+pub(crate) struct HeaderWords {
+    pub header: Mf4BlockHeader,
+    pub next: usize,
 }
 
-fn header_words(line: &[u8], at: usize) -> HeaderWords {
+pub(crate) fn header_words(line: &[u8], at: usize) -> HeaderWords {
     let id = small(line, at);
     let reserved0 = small(line, id.next);
     let block_len = number(line, reserved0.next);

@@ -27,10 +27,13 @@ pub(crate) struct FieldWords {
     pub next: usize,
 }
 
-pub(crate) fn field_words(line: &[u8], at: usize) -> FieldWords {
-    let id_size = number(line, at);
-    let data_bytes = small(line, id_size.next);
-    let data_type = byte(line, data_bytes.next);
+pub(crate) struct ChannelWords {
+    pub channel: Mf4Channel,
+    pub next: usize,
+}
+
+pub(crate) fn channel_words(line: &[u8], at: usize) -> ChannelWords {
+    let data_type = byte(line, at);
     let channel_type = byte(line, data_type.next);
     let bit_offset = byte(line, channel_type.next);
     let byte_offset = small(line, bit_offset.next);
@@ -48,11 +51,22 @@ pub(crate) fn field_words(line: &[u8], at: usize) -> FieldWords {
         pos_invalidation_bit: pos_invalidation_bit.value,
         data: data.value,
     };
+    ChannelWords {
+        channel,
+        next: data.next,
+    }
+}
+
+pub(crate) fn field_words(line: &[u8], at: usize) -> FieldWords {
+    let id_size = number(line, at);
+    let data_bytes = small(line, id_size.next);
+    let words = channel_words(line, data_bytes.next);
+    let channel = words.channel;
     FieldWords {
         id_size: id_size.value,
         data_bytes: data_bytes.value,
         channel,
-        next: sign(line, data.next, b'='),
+        next: sign(line, words.next, b'='),
     }
 }
 

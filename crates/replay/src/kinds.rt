@@ -5,6 +5,8 @@ use crate::blocks_written::replay_list_write_equal;
 use crate::blocks_written::replay_list_write_variable;
 use crate::chains::replay_record;
 use crate::chains::replay_record_value;
+use crate::channels::replay_channel_read;
+use crate::channels::replay_channel_write;
 use crate::fields::replay_field;
 use crate::texts::replay_text;
 use crate::types::replay_type;
@@ -39,11 +41,15 @@ pub(crate) const RECORD: usize = 11;
 
 pub(crate) const RECORD_VALUE: usize = 12;
 
-pub(crate) const UNKNOWN: usize = 13;
+pub(crate) const CHANNEL_READ: usize = 13;
+
+pub(crate) const CHANNEL_WRITE: usize = 14;
+
+pub(crate) const UNKNOWN: usize = 15;
 
 // One string, each name with a blank behind it: checking a string for each name takes far longer
-const NAMES: [u8; 137] =
-    *b"type header-read header-write list-read list-write-equal list-write-variable value validity both double text record record-value unknown ";
+const NAMES: [u8; 164] =
+    *b"type header-read header-write list-read list-write-equal list-write-variable value validity both double text record record-value channel-read channel-write unknown ";
 
 // Whether the line's first word is the name that begins at `from`
 fn begins(line: &[u8], names: &[u8], from: usize) -> bool {
@@ -122,6 +128,8 @@ pub(crate) fn replay(line: &[u8], kind: usize, at: usize) -> usize {
         TEXT => replay_text(line, at),
         RECORD => replay_record(line, at),
         RECORD_VALUE => replay_record_value(line, at),
+        CHANNEL_READ => replay_channel_read(line, at),
+        CHANNEL_WRITE => replay_channel_write(line, at),
         _ => WRONG,
     }
 }

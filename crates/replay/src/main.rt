@@ -17,6 +17,7 @@ mod answers;
 mod blocks_read;
 mod blocks_written;
 mod chains;
+mod channels;
 mod fields;
 mod kinds;
 mod lines;

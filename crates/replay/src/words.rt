@@ -17,6 +17,11 @@ pub(crate) struct SmallRead {
     pub next: usize,
 }
 
+pub(crate) struct ShortRead {
+    pub value: u16,
+    pub next: usize,
+}
+
 pub(crate) struct ByteRead {
     pub value: u8,
     pub next: usize,
@@ -141,6 +146,14 @@ pub(crate) fn small(line: &[u8], at: usize) -> SmallRead {
     let read = up_to(line, at, 0xffffffff);
     SmallRead {
         value: read.value as u32,
+        next: read.next,
+    }
+}
+
+pub(crate) fn short(line: &[u8], at: usize) -> ShortRead {
+    let read = up_to(line, at, 0xffff);
+    ShortRead {
+        value: read.value as u16,
         next: read.next,
     }
 }
