@@ -199,8 +199,8 @@ enum mf4_channel_flag {
     MF4_CHANNEL_INVALIDATION_BIT = 2 /* a bit of each record tells if it is so   */
 };
 
-/* A channel's description, as mf4_read_channel gives it of a ##CN block. In C99, name the fields that you set, { .bit_offset = 4, .. }: the
- * others are then 0, and none slips into another's place. */
+/* A channel's description, as mf4_read_channel gives it of a ##CN block. In C99, name the fields that you set,
+ * { .bit_offset = 4, .. }: the others are then 0, and none slips into another's place. */
 typedef struct mf4_channel {
     uint8_t data_type;             /* a code of enum mf4_data_type                                                   */
     uint8_t channel_type;          /* a code of enum mf4_channel_type, or another, which reads as a fixed length     */
