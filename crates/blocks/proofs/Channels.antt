@@ -2,7 +2,7 @@
 use mathlib.Core.Path.{_≡_, refl, sym, ap, ap₂, _∙_}
 use mathlib.Core.List.{List, [], _∷_, _++_}
 use mathlib.Core.Bool.{true, false}
-use Prim.Native.Nat.{ℕ, zero, suc, _+_, _-_, _≤_, _<_}
+use Prim.Native.Nat.{ℕ, zero, suc, _+_, _-_, _*_, _≤_, _<_}
 use native.Mathlib.Omega.{arith}
 use lib.ListN.{length, getD, drop}
 use lib.Seq.{sets}
@@ -35,9 +35,11 @@ module _ (s : List ℕ) where
       channel-few l = rw (h, i, lt-ltb _ _ l)
 
       module _ (enough : 8 ≤ x .linkCount) where
-        pub channel-cut : length s < fieldsAt (x .linkCount) + 72 → channelBlockOf s ≡ refusal 2 (told (fieldsAt (x .linkCount) + 72))
+        pub channel-cut : length s < 96 + x .linkCount * 8 → channelBlockOf s ≡ refusal 2 (told (96 + x .linkCount * 8))
         unfolding channelBlockOf fieldsOf
-        channel-cut l = rw (h, i, le-ltb _ _ enough) (needing-short s _ _ l)
+        channel-cut l =
+            let e : fieldsAt (x .linkCount) + 72 ≡ 96 + x .linkCount * 8 = omega arith in
+            rw (h, i, le-ltb _ _ enough, e) (needing-short s _ _ l)
 
         pub channel-whole : fieldsAt (x .linkCount) + 72 ≤ length s → channelBlockOf s ≡ answer (blockIn s x (drop (fieldsAt (x .linkCount)) s))
         unfolding channelBlockOf fieldsOf

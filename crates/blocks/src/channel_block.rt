@@ -4,7 +4,6 @@ ghost use mathlib.Core.List.{[], _∷_};
 ghost use Prim.Native.Nat.{_+_, _*_, _≤_};
 ghost use lib.ListN.{length, drop};
 ghost use lib.Seq.{sets};
-ghost use Rattle.definitions.specs.Reply.{told};
 ghost use Rattle.definitions.specs.Bytes.{le};
 ghost use Rattle.definitions.specs.ChannelBlock.{fieldsAt, blockIn, channelBlockOf, channelHeader, formatBytes, channelBytes, channelWritten};
 ghost use Rattle.blocks.specs.Meaning.{headerMeant, channelBlockMeant, channelBlockReply, wrote};
@@ -12,6 +11,7 @@ use crate::data_type::DataType;
 use crate::header::BlockHeader;
 use crate::header::HeaderRead;
 use crate::header::put_header;
+use crate::header::size_with_links;
 use crate::written::Written;
 use refusals::Refusal;
 use words::id_at;
@@ -57,17 +57,6 @@ pub struct ChannelBlock {
 pub enum ChannelRead {
     Block(ChannelBlock),
     Refused(Refusal),
-}
-
-// The bytes that the header, the links and the fields take
-fn whole_need(links: u64) -> u64
-    ensures { λ r. ⌜ r ≡ told (fieldsAt links + 72) ⌝ }
-{
-    if links < 2305843009213693940 {
-        96 + links * 8
-    } else {
-        18446744073709551615
-    }
 }
 
 // The block behind its header, where all of it is there
@@ -128,7 +117,7 @@ impl ChannelBlock {
         if header.links_nr < 8 {
             return ChannelRead::Refused(Refusal::TooFewLinks);
         }
-        let need = whole_need(header.links_nr);
+        let need = size_with_links(96, header.links_nr);
         if (bytes.len() as u64) < need {
             return ChannelRead::Refused(Refusal::TooFewBytes(need));
         }
@@ -160,7 +149,7 @@ fn channel_header() -> BlockHeader
 }
 
 // Four bytes as a word, the first the lowest
-fn word_of(first: u8, second: u8, third: u8, fourth: u8) -> u32
+fn four_bytes(first: u8, second: u8, third: u8, fourth: u8) -> u32
     ensures { λ r. ⌜ le 4 r ≡ first ∷ second ∷ third ∷ fourth ∷ [] ⌝ }
 {
     let bytes = [first, second, third, fourth];
@@ -177,13 +166,13 @@ fn put_format(out: &mut [u8], block: ChannelBlock)
     put_u32_le(
         out,
         88,
-        word_of(block.channel_type, block.sync_type, code, block.bit_offset),
+        four_bytes(block.channel_type, block.sync_type, code, block.bit_offset),
     );
     put_u32_le(out, 92, block.byte_offset);
     put_u32_le(out, 96, block.bit_count);
     put_u32_le(out, 100, block.flags);
     put_u32_le(out, 104, block.pos_invalidation_bit);
-    put_u32_le(out, 108, word_of(block.precision, 0, 0, 0));
+    put_u32_le(out, 108, four_bytes(block.precision, 0, 0, 0));
 }
 
 // The 160 bytes, where there is room for them

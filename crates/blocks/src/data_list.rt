@@ -3,12 +3,13 @@ ghost use mathlib.Core.Path.{_≡_};
 ghost use Prim.Native.Nat.{_+_, _*_, _≤_, _<_};
 ghost use lib.ListN.{length};
 ghost use lib.Seq.{sets};
-ghost use Rattle.definitions.specs.Reply.{told, writing};
+ghost use Rattle.definitions.specs.Reply.{writing};
 ghost use Rattle.definitions.specs.DataList.{linkLimit, listOf, restOf, restCount, headerFor, listBytes, listSize, listWritten, equal, variable};
 ghost use Rattle.blocks.specs.Meaning.{headerMeant, listReply, wrote};
 use crate::header::BlockHeader;
 use crate::header::HeaderRead;
 use crate::header::put_header;
+use crate::header::size_with_links;
 use crate::written::Written;
 use refusals::Refusal;
 use words::id_at;
@@ -40,17 +41,6 @@ pub struct DataListBlock {
 pub enum ListRead {
     List(DataListBlock),
     Refused(Refusal),
-}
-
-// The bytes that the header, the links and the fixed fields take
-fn links_need(links: u64) -> u64
-    ensures { λ r. ⌜ r ≡ told (32 + links * 8) ⌝ }
-{
-    if links < 2305843009213693948 {
-        32 + links * 8
-    } else {
-        18446744073709551615
-    }
 }
 
 // How many numbers stand after the count
@@ -103,7 +93,7 @@ impl DataListBlock {
         if header.links_nr == 0 {
             return ListRead::Refused(Refusal::NoLinks);
         }
-        let need = links_need(header.links_nr);
+        let need = size_with_links(32, header.links_nr);
         if (bytes.len() as u64) < need {
             return ListRead::Refused(Refusal::TooFewBytes(need));
         }

@@ -1,8 +1,9 @@
 // The header of a block.
 ghost use mathlib.Core.Path.{_≡_};
-ghost use Prim.Native.Nat.{_≤_};
+ghost use Prim.Native.Nat.{_+_, _*_, _≤_, _<_};
 ghost use lib.ListN.{length};
 ghost use lib.Seq.{sets};
+ghost use Rattle.definitions.specs.Reply.{told};
 ghost use Rattle.definitions.specs.Header.{headerOf, headerBytes, headerWritten};
 ghost use Rattle.blocks.specs.Meaning.{headerMeant, headerReply, wrote};
 use crate::written::Written;
@@ -48,6 +49,18 @@ impl BlockHeader {
         }
         put_header(out, self);
         Written::Bytes(24)
+    }
+}
+
+// The bytes that fixed ones and so many links take, or the largest number where that is larger
+pub(crate) fn size_with_links(fixed: u64, links: u64) -> u64
+    requires { ⌜ fixed < 256 ⌝ }
+    ensures { λ r. ⌜ r ≡ told (fixed + links * 8) ⌝ }
+{
+    if links <= (18446744073709551615 - fixed) / 8 {
+        fixed + links * 8
+    } else {
+        18446744073709551615
     }
 }
 

@@ -1,6 +1,7 @@
 -- The data types of channels, and their codes.
 use Prim.Native.Nat.{ℕ}
 use mathlib.Core.List.{List, [], _∷_}
+use mathlib.Core.Bool.{Bool, true, false}
 use lib.ListN.{getD}
 use Rattle.definitions.specs.Bytes.{Order, little, big}
 use Rattle.definitions.specs.Unicode.{Encoding, latin1, utf8, utf16}
@@ -20,6 +21,19 @@ coded =
 -- any other code is unknown
 abbrev pub typeOf : ℕ → DataType
 typeOf code = getD coded code unknown
+
+abbrev pub isKnown : DataType → Bool
+isKnown (unsignedInteger o) = true
+isKnown (signedInteger o) = true
+isKnown (float o) = true
+isKnown (complex o) = true
+isKnown (string e) = true
+isKnown byteArray = true
+isKnown mimeSample = true
+isKnown mimeStream = true
+isKnown canOpenDate = true
+isKnown canOpenTime = true
+isKnown unknown = false
 
 -- back to the code; unknown gives 0
 abbrev pub codeOf : DataType → ℕ

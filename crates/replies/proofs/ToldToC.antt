@@ -1,22 +1,23 @@
 -- What C is told is all that the definition gives: from each struct the definition's reply comes back.
-use mathlib.Core.Path.{_≡_, refl, sym, ap, ap₂, _∙_}
+use mathlib.Core.Path.{_≡_, refl, sym, ap, ap₂}
 use mathlib.Core.Bool.{Bool, true, false}
-use mathlib.Core.List.{List, [], _∷_}
+use mathlib.Core.List.{[], _∷_}
 use Prim.Native.Nat.{ℕ, suc, _-_, _^_, _≤_, _<_}
 use native.Mathlib.Omega.{arith}
-use lib.IntN.{ℤ, pos, negsuc}
+use lib.IntN.{pos, negsuc}
 use lib.ListN.{getD}
-use lib.Dec.{ltb, eqb}
+use lib.Dec.{eqb}
 use lib.Ieee.{binary64, ofBits}
 use borrow.Author.Tests.{lt-ltb, le-ltb, ne-eqb}
 use Rattle.definitions.specs.Reply.{Reply, answer, refusal, if_then_else_}
-use Rattle.definitions.specs.Bytes.{little, big, twosComplement}
-use Rattle.definitions.specs.Unicode.{TextWritten, latin1, utf8, utf16}
+use Rattle.definitions.specs.Bytes.{twosComplement}
+use Rattle.definitions.specs.Unicode.{TextWritten}
 use Rattle.definitions.specs.Header.{Header}
 use Rattle.definitions.specs.DataList.{DataList}
-use Rattle.definitions.specs.DataType.{DataType, unsignedInteger, signedInteger, float, complex, string, byteArray, mimeSample, mimeStream, canOpenDate, canOpenTime, unknown, typeOf}
+use Rattle.definitions.specs.DataType.{DataType, typeOf, isKnown, codeOf}
 use Rattle.definitions.specs.ChannelBlock.{ChannelBlock}
 use Rattle.definitions.specs.Channel.{Channel, Value, ValidValue, unsigned, signed, double, text, bytes, sample, stream, unknownValue, doubleValue}
+use Rattle.definitions.proofs.Types.{known-back, not-known}
 use Rattle.replies.specs.Replies.{flagC, writtenC, headerC, headerGiven, listC, textC}
 use Rattle.replies.specs.Channels.{typeC, descriptionC, blockC, blockGiven, channelC}
 use Rattle.replies.specs.Values.{channelGiven, wordOf, decodedC, valueC, validValueC, lengthC, fetchedC}
@@ -100,26 +101,13 @@ listAgain s =
 pub list-told : (r : Reply DataList) → Tellable Any r → listAgain (listC r) ≡ r
 list-told = told-by Any listC listAgain (λ a h. refl) (again-refused _)
 
--- a type comes back from the code that tells it, an unknown one too
-pub type-back : (t : DataType) → typeOf (typeC t) ≡ t
-type-back (unsignedInteger little) = refl
-type-back (unsignedInteger big) = refl
-type-back (signedInteger little) = refl
-type-back (signedInteger big) = refl
-type-back (float little) = refl
-type-back (float big) = refl
-type-back (complex little) = refl
-type-back (complex big) = refl
-type-back (string latin1) = refl
-type-back (string utf8) = refl
-type-back (string (utf16 little)) = refl
-type-back (string (utf16 big)) = refl
-type-back byteArray = refl
-type-back mimeSample = refl
-type-back mimeStream = refl
-type-back canOpenDate = refl
-type-back canOpenTime = refl
-type-back unknown = refl
+-- a type comes back from the code that tells it, the unknown one too
+type-back : (t : DataType) → typeOf (typeC t) ≡ t
+type-back t = go (isKnown t) refl
+  where
+    go : (b : Bool) → isKnown t ≡ b → typeOf (if b then codeOf t else 255) ≡ t
+    go true e = known-back t e
+    go false e = not-known t e
 
 -- and so does a description, when C gives it to another call
 pub description-back : (c : Channel) → channelGiven (descriptionC c) ≡ c

@@ -1,7 +1,7 @@
 -- Channel blocks as C sees them.
 use Prim.Native.Nat.{ℕ}
-use Rattle.definitions.specs.Reply.{Reply, answer, refusal}
-use Rattle.definitions.specs.DataType.{DataType, unsignedInteger, signedInteger, float, complex, string, byteArray, mimeSample, mimeStream, canOpenDate, canOpenTime, unknown, typeOf, codeOf}
+use Rattle.definitions.specs.Reply.{Reply, answer, refusal, if_then_else_}
+use Rattle.definitions.specs.DataType.{DataType, typeOf, isKnown, codeOf}
 use Rattle.definitions.specs.Channel.{Channel}
 use Rattle.definitions.specs.ChannelBlock.{ChannelBlock, described}
 use Rattle.replies.specs.Replies.{headerFields, noHeader, headerGiven}
@@ -9,19 +9,9 @@ use Rattle.replies.specs.declared.channel.Mf4Channel.{Mf4Channel}
 use Rattle.replies.specs.declared.channel_block.Mf4ChannelBlock.{Mf4ChannelBlock}
 use Rattle.replies.specs.declared.channel_block.Mf4ChannelReply.{Mf4ChannelReply}
 
--- a type by its code; an unknown one by 255, which no type has
+-- a type by its code; the unknown one by 255, which no type has
 abbrev pub typeC : DataType → ℕ
-typeC (unsignedInteger o) = codeOf (unsignedInteger o)
-typeC (signedInteger o) = codeOf (signedInteger o)
-typeC (float o) = codeOf (float o)
-typeC (complex o) = codeOf (complex o)
-typeC (string e) = codeOf (string e)
-typeC byteArray = codeOf byteArray
-typeC mimeSample = codeOf mimeSample
-typeC mimeStream = codeOf mimeStream
-typeC canOpenDate = codeOf canOpenDate
-typeC canOpenTime = codeOf canOpenTime
-typeC unknown = 255
+typeC t = if isKnown t then codeOf t else 255
 
 -- a description, as the calls that decode take it
 abbrev pub descriptionC : Channel → Mf4Channel

@@ -1,17 +1,17 @@
 -- Reading gives what a channel block was written from, whatever bytes come after it: every field, but for a type that is unknown.
-use mathlib.Core.Path.{_≡_, refl, ap, _∙_}
-use mathlib.Core.Bool.{true}
+use mathlib.Core.Path.{_≡_, refl, sym, ap, _∙_}
+use mathlib.Core.Bool.{Bool, true, false}
 use mathlib.Core.List.{List, _++_}
-use Prim.Native.Nat.{ℕ, _+_, _*_, _^_, _≤_, _<_}
+use Prim.Native.Nat.{ℕ, _+_, _*_, _^_, _<_}
 use native.Mathlib.Nat.{mod-eq-of-lt}
 use native.Mathlib.Omega.{arith}
 use lib.ListN.{length, drop, length-append}
-use Rattle.definitions.specs.Reply.{answer}
-use Rattle.definitions.specs.Bytes.{little, big, leOf, le, les, u64At, idAt}
-use Rattle.definitions.specs.Unicode.{latin1, utf8, utf16}
+use Rattle.definitions.specs.Reply.{answer, if_then_else_}
+use Rattle.definitions.specs.Bytes.{little, leOf, le, les, u64At, idAt}
 use Rattle.definitions.specs.Header.{Header, headerIn, headerBytes}
-use Rattle.definitions.specs.DataType.{DataType, unsignedInteger, signedInteger, float, complex, string, byteArray, mimeSample, mimeStream, canOpenDate, canOpenTime, unknown, typeOf, codeOf}
-use Rattle.definitions.specs.ChannelBlock.{ChannelBlock, idCN, fieldsAt, blockIn, channelBlockOf, channelHeader, channelBytes}
+use Rattle.definitions.specs.DataType.{DataType, unsignedInteger, typeOf, isKnown, codeOf}
+use Rattle.definitions.specs.ChannelBlock.{ChannelBlock, idCN, blockIn, channelBlockOf, channelHeader, channelBytes}
+use Rattle.definitions.proofs.Types.{known-back, not-known}
 use Rattle.words.proofs.Numbers.{le-back}
 use Rattle.blocks.proofs.Channels.{length-channel}
 use Rattle.theorems.specs.Exactly.{ChannelStands}
@@ -38,39 +38,16 @@ pub record BlockFits (b : ChannelBlock) : Type 0 where
   pub lowerExtended : b .lowerExtended < 2 ^ 64
   pub upperExtended : b .upperExtended < 2 ^ 64
 
--- the exception: an unknown type is written as code 0, and so read as an unsigned integer
+-- the exception: the unknown type is written as code 0, and so read as an unsigned integer
 abbrev pub typeWritten : DataType → DataType
-typeWritten (unsignedInteger o) = unsignedInteger o
-typeWritten (signedInteger o) = signedInteger o
-typeWritten (float o) = float o
-typeWritten (complex o) = complex o
-typeWritten (string e) = string e
-typeWritten byteArray = byteArray
-typeWritten mimeSample = mimeSample
-typeWritten mimeStream = mimeStream
-typeWritten canOpenDate = canOpenDate
-typeWritten canOpenTime = canOpenTime
-typeWritten unknown = unsignedInteger little
+typeWritten t = if isKnown t then t else unsignedInteger little
 
 type-written : (t : DataType) → typeOf (codeOf t) ≡ typeWritten t
-type-written (unsignedInteger little) = refl
-type-written (unsignedInteger big) = refl
-type-written (signedInteger little) = refl
-type-written (signedInteger big) = refl
-type-written (float little) = refl
-type-written (float big) = refl
-type-written (complex little) = refl
-type-written (complex big) = refl
-type-written (string latin1) = refl
-type-written (string utf8) = refl
-type-written (string (utf16 little)) = refl
-type-written (string (utf16 big)) = refl
-type-written byteArray = refl
-type-written mimeSample = refl
-type-written mimeStream = refl
-type-written canOpenDate = refl
-type-written canOpenTime = refl
-type-written unknown = refl
+type-written t = go (isKnown t) refl
+  where
+    go : (b : Bool) → isKnown t ≡ b → typeOf (codeOf t) ≡ (if b then t else unsignedInteger little)
+    go true e = known-back t e
+    go false e = ap (λ (u : DataType). typeOf (codeOf u)) (sym (not-known t e))
 
 -- the block that reading such bytes gives: what the writer fixes, and else what it was given
 abbrev pub blockWritten : ChannelBlock → ChannelBlock

@@ -4,14 +4,14 @@ use mathlib.Core.Path.{_≡_, refl, sym, ap, ap₂, _∙_, subst}
 use mathlib.Core.Logic.{_⊎_, inl, inr}
 use mathlib.Core.Bool.{true, false}
 use mathlib.Core.List.{List, [], _∷_, _++_}
-use Prim.Native.Nat.{ℕ, zero, suc, _+_, _-_, _*_, _≤_, _<_}
+use Prim.Native.Nat.{ℕ, _+_, _-_, _*_, _≤_, _<_}
 use native.Mathlib.Omega.{arith}
 use lib.ListN.{length, getD, take}
-use borrow.Author.Tests.{le-ltb, eq-eqb, eqb-true}
+use borrow.Author.Tests.{le-ltb, eq-eqb}
 use Rattle.definitions.specs.Reply.{answer, if_then_else_}
-use Rattle.definitions.specs.Bytes.{leOf, le, span, u32At, u64At, u64sAt, idAt}
-use Rattle.definitions.specs.Header.{Header, headerIn, headerBytes}
-use Rattle.definitions.specs.DataList.{DataList, idDL, linkLimit, oneLength, listOf, listIn, restIn, restCount, flagsAt, listSize, headerFor, listBytes, Lengths, equal, variable, flagsFor, restFor, unwritable}
+use Rattle.definitions.specs.Bytes.{leOf, le, span, u32At, u64At, u64sAt}
+use Rattle.definitions.specs.Header.{headerIn, headerBytes}
+use Rattle.definitions.specs.DataList.{DataList, linkLimit, oneLength, listOf, listIn, restIn, restCount, flagsAt, listSize, headerFor, listBytes, Lengths, equal, variable, flagsFor, restFor, unwritable}
 use Rattle.words.proofs.Numbers.{Bytes, length-u64s}
 use Rattle.words.proofs.Spans.{span-one, span-split}
 use Rattle.theorems.proofs.Rewritten.{glue, number-written, numbers-written}

@@ -12,7 +12,6 @@ use Rattle.definitions.specs.Unicode.{latin1}
 use Rattle.definitions.specs.DataType.{DataType, unsignedInteger, signedInteger, float, string}
 use Rattle.definitions.specs.Channel.{Channel, Value, unsigned, signed, double, text, valueOf, recordDouble, validOf}
 use Rattle.definitions.specs.DataList.{DataList, idDL, listOf, listBytes}
-use Rattle.definitions.specs.Header.{Header}
 use Rattle.definitions.specs.ChannelBlock.{ChannelBlock, idCN, channelBlockOf}
 use Rattle.definitions.specs.Chain.{idDT, fetched}
 

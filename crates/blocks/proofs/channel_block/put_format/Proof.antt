@@ -15,7 +15,7 @@ returns c =
     let first = second .before .before .before .before in
     let kinds = first .before in
     let a = kinds .before .before .before .before .args in
-    format-stored (channelBlockMeant (a .block)) _ (kinds .before .before .to-u8 .ensures) (kinds .word-of .ensures) (last .word-of2 .ensures)
+    format-stored (channelBlockMeant (a .block)) _ (kinds .before .before .to-u8 .ensures) (kinds .four-bytes .ensures) (last .four-bytes2 .ensures)
     (first .put-u32-le .ensures) (second .put-u32-le2 .ensures) (third .put-u32-le3 .ensures) (fourth .put-u32-le4 .ensures)
     (fifth .put-u32-le5 .ensures) (sixth .put-u32-le6 .ensures)
 

@@ -1,5 +1,3 @@
-use mathlib.Core.Path.{ap}
-use Prim.Native.Nat.{ℕ}
 use borrow.Author.Needs.{needs}
 use Rattle.replies.proofs.channel_block.description_told.Statement.{statement}
 use Rattle.replies.proofs.channel_block.description_told.Tie as tie

@@ -40,7 +40,7 @@ returns-3 c =
 returns-4 : tie.Need-returns-4
 returns-4 c =
     let at = c .before .before .before .before in
-    ap (refusal 2) (c .before .whole-need .ensures)
+    ap (refusal 2) (c .before .size-with-links .ensures)
     ∙ sym (channel-cut _ _ (headed (at .before .before .before)) (named at) (c .before .before .if2 .left) (omega arith))
 
 returns-5 : tie.Need-returns-5
