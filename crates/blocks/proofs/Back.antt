@@ -7,10 +7,9 @@ use Rattle.definitions.specs.Unicode.{latin1, utf8, utf16}
 use Rattle.definitions.specs.DataType as types
 use Rattle.definitions.specs.Header.{Header}
 use Rattle.definitions.specs.DataList.{DataList}
-use Rattle.definitions.specs.ChannelBlock as channels
 use Rattle.definitions.proofs.Replies.{one-by}
 use Rattle.refusals.proofs.Back.{refusalOf, back}
-use Rattle.blocks.specs.Meaning.{writtenReply, headerReply, typeMeant, listReply, channelBlockMeant, channelBlockReply}
+use Rattle.blocks.specs.Meaning.{writtenReply, headerReply, typeMeant, listReply}
 use Rattle.blocks.specs.declared.written.Written.{Written}
 use Rattle.blocks.specs.declared.written.Written.the-variants.{Bytes, Refused as NotWritten}
 use Rattle.blocks.specs.declared.header.BlockHeader.{BlockHeader}
@@ -20,9 +19,6 @@ use Rattle.blocks.specs.declared.data_type.DataType.{DataType}
 use Rattle.blocks.specs.declared.data_type.DataType.the-variants.{UnsignedIntegerLE, UnsignedIntegerBE, SignedIntegerLE, SignedIntegerBE, FloatLE, FloatBE, StringLatin1, StringUtf8, StringUtf16LE, StringUtf16BE, ByteArray, MimeSample, MimeStream, CanOpenDate, CanOpenTime, ComplexLE, ComplexBE, Unknown}
 use Rattle.blocks.specs.declared.data_list.ListRead.{ListRead}
 use Rattle.blocks.specs.declared.data_list.ListRead.the-variants.{List as Listed, Refused as NoList}
-use Rattle.blocks.specs.declared.channel_block.ChannelBlock.{ChannelBlock}
-use Rattle.blocks.specs.declared.channel_block.ChannelRead.{ChannelRead}
-use Rattle.blocks.specs.declared.channel_block.ChannelRead.the-variants.{Block, Refused as NoChannel}
 
 abbrev writtenBack : Reply ℕ → Written
 writtenBack (answer n) = Bytes n
@@ -35,7 +31,7 @@ written-back (NotWritten r) = ap NotWritten (back r)
 pub written-one : (a b : Written) → writtenReply a ≡ writtenReply b → a ≡ b
 written-one = one-by writtenReply writtenBack written-back
 
-abbrev headerBack : Header → BlockHeader
+abbrev pub headerBack : Header → BlockHeader
 headerBack h = record { id = h .id; reserved0 = h .reserved; «block_len» = h .blockLength; «links_nr» = h .linkCount }
 
 abbrev headerReadBack : Reply Header → HeaderRead
@@ -112,47 +108,3 @@ list-back (NoList r) = ap NoList (back r)
 
 pub list-one : (a b : ListRead) → listReply a ≡ listReply b → a ≡ b
 list-one = one-by listReply listReadBack list-back
-
--- the block with its type already given back
-abbrev channelBack : DataType → channels.ChannelBlock → ChannelBlock
-channelBack t b = record {
-  header = headerBack (b .header);
-  «next_ch_addr» = b .nextChannel;
-  «component_addr» = b .component;
-  «name_addr» = b .name;
-  «source_addr» = b .source;
-  «conversion_addr» = b .conversion;
-  «data» = b .dataLink;
-  «unit_addr» = b .unit;
-  «comment_addr» = b .comment;
-  «more_links_at» = b .moreAt;
-  «more_links» = b .more;
-  «channel_type» = b .channelType;
-  «sync_type» = b .syncType;
-  «data_type» = t;
-  «bit_offset» = b .bitOffset;
-  «byte_offset» = b .byteOffset;
-  «bit_count» = b .bitCount;
-  flags = b .flags;
-  «pos_invalidation_bit» = b .invalidationBit;
-  precision = b .precision;
-  reserved1 = b .reserved;
-  «attachment_nr» = b .attachments;
-  «min_raw_value» = b .minRaw;
-  «max_raw_value» = b .maxRaw;
-  «lower_limit» = b .lowerLimit;
-  «upper_limit» = b .upperLimit;
-  «lower_ext_limit» = b .lowerExtended;
-  «upper_ext_limit» = b .upperExtended;
-}
-
-abbrev channelReadBack : Reply channels.ChannelBlock → ChannelRead
-channelReadBack (answer b) = Block (channelBack (typeBack (b .dataType)) b)
-channelReadBack (refusal n t) = NoChannel (refusalOf n t)
-
-channel-back : (r : ChannelRead) → channelReadBack (channelBlockReply r) ≡ r
-channel-back (Block b) = ap (λ (t : DataType). Block (channelBack t (channelBlockMeant b))) (type-back (b .«data_type»))
-channel-back (NoChannel r) = ap NoChannel (back r)
-
-pub channel-one : (a b : ChannelRead) → channelBlockReply a ≡ channelBlockReply b → a ≡ b
-channel-one = one-by channelBlockReply channelReadBack channel-back

@@ -7,7 +7,6 @@ use Rattle.definitions.specs.Unicode.{latin1, utf8, utf16}
 use Rattle.definitions.specs.DataType as types
 use Rattle.definitions.specs.Header.{Header}
 use Rattle.definitions.specs.DataList.{DataList}
-use Rattle.definitions.specs.ChannelBlock as channels
 use Rattle.refusals.specs.Meaning.{refused}
 use Rattle.blocks.specs.declared.written.Written.{Written}
 use Rattle.blocks.specs.declared.written.Written.the-variants.{Bytes, Refused as NotWritten}
@@ -19,9 +18,6 @@ use Rattle.blocks.specs.declared.data_type.DataType.the-variants.{Unsign
 use Rattle.blocks.specs.declared.data_list.DataListBlock.{DataListBlock}
 use Rattle.blocks.specs.declared.data_list.ListRead.{ListRead}
 use Rattle.blocks.specs.declared.data_list.ListRead.the-variants.{List as Listed, Refused as NoList}
-use Rattle.blocks.specs.declared.channel_block.ChannelBlock.{ChannelBlock}
-use Rattle.blocks.specs.declared.channel_block.ChannelRead.{ChannelRead}
-use Rattle.blocks.specs.declared.channel_block.ChannelRead.the-variants.{Block, Refused as NoChannel}
 
 -- ---- written
 
@@ -82,41 +78,3 @@ listMeant d = record {
 abbrev pub listReply : ListRead → Reply DataList
 listReply (Listed d) = answer (listMeant d)
 listReply (NoList r) = refused r
-
--- ---- channel block
-
-abbrev pub channelBlockMeant : ChannelBlock → channels.ChannelBlock
-channelBlockMeant b = record {
-  header = headerMeant (b .header);
-  nextChannel = b .«next_ch_addr»;
-  component = b .«component_addr»;
-  name = b .«name_addr»;
-  source = b .«source_addr»;
-  conversion = b .«conversion_addr»;
-  dataLink = b .data;
-  unit = b .«unit_addr»;
-  comment = b .«comment_addr»;
-  moreAt = b .«more_links_at»;
-  more = b .«more_links»;
-  channelType = b .«channel_type»;
-  syncType = b .«sync_type»;
-  dataType = typeMeant (b .«data_type»);
-  bitOffset = b .«bit_offset»;
-  byteOffset = b .«byte_offset»;
-  bitCount = b .«bit_count»;
-  flags = b .flags;
-  invalidationBit = b .«pos_invalidation_bit»;
-  precision = b .precision;
-  reserved = b .reserved1;
-  attachments = b .«attachment_nr»;
-  minRaw = b .«min_raw_value»;
-  maxRaw = b .«max_raw_value»;
-  lowerLimit = b .«lower_limit»;
-  upperLimit = b .«upper_limit»;
-  lowerExtended = b .«lower_ext_limit»;
-  upperExtended = b .«upper_ext_limit»;
-}
-
-abbrev pub channelBlockReply : ChannelRead → Reply channels.ChannelBlock
-channelBlockReply (Block b) = answer (channelBlockMeant b)
-channelBlockReply (NoChannel r) = refused r

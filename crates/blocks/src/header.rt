@@ -53,7 +53,7 @@ impl BlockHeader {
 }
 
 // The bytes that fixed ones and so many links take, or the largest number where that is larger
-pub(crate) fn size_with_links(fixed: u64, links: u64) -> u64
+pub fn size_with_links(fixed: u64, links: u64) -> u64
     requires { ⌜ fixed < 256 ⌝ }
     ensures { λ r. ⌜ r ≡ told (fixed + links * 8) ⌝ }
 {
@@ -65,7 +65,7 @@ pub(crate) fn size_with_links(fixed: u64, links: u64) -> u64
 }
 
 // The 24 bytes, where there is room for them
-pub(crate) fn put_header(out: &mut [u8], header: BlockHeader)
+pub fn put_header(out: &mut [u8], header: BlockHeader)
     requires { ⌜ 24 ≤ length (now out) ⌝ }
     ensures { λ _. ⌜ now (out .exit) ≡ sets (now (out .entry)) 0 (headerBytes (headerMeant header)) ⌝ }
 {

@@ -1,10 +1,7 @@
 // What is known of a channel.
 ghost use mathlib.Core.Path.{_≡_};
 ghost use Rattle.definitions.specs.Channel.{variableLength};
-ghost use Rattle.definitions.specs.ChannelBlock.{described};
-ghost use Rattle.blocks.specs.Meaning.{channelBlockMeant};
 ghost use Rattle.fields.specs.Meaning.{channelMeant};
-use blocks::ChannelBlock;
 use blocks::DataType;
 
 // What tells of the field, and then of its validity: a copy of the first part then loads no piece that was stored as two.
@@ -20,23 +17,6 @@ pub struct Channel {
 }
 
 impl Channel {
-    // What a channel block tells: nobody else copies its fields.
-    pub fn from_block(block: ChannelBlock) -> Channel
-        ensures { λ r. ⌜ channelMeant r ≡ described (channelBlockMeant block) ⌝ }
-    {
-        let data_type = block.data_type;
-        Channel {
-            data_type,
-            channel_type: block.channel_type,
-            bit_offset: block.bit_offset,
-            byte_offset: block.byte_offset,
-            bit_count: block.bit_count,
-            data: block.data,
-            flags: block.flags,
-            pos_invalidation_bit: block.pos_invalidation_bit,
-        }
-    }
-
     // The slice given is then the payload, and no record.
     pub fn is_variable_length(self) -> bool
         ensures { λ r. ⌜ r ≡ variableLength (channelMeant self) ⌝ }

@@ -3,7 +3,7 @@ ghost use mathlib.Core.Path.{_≡_};
 ghost use Rattle.definitions.specs.ChannelBlock.{channelBlockOf, channelWritten};
 ghost use Rattle.replies.specs.Replies.{writtenC, returned, returnedBy};
 ghost use Rattle.replies.specs.Channels.{channelC, blockGiven};
-use blocks::ChannelBlock;
+use channels::ChannelBlock;
 use replies::Mf4ChannelBlock;
 use replies::Mf4ChannelReply;
 use replies::Mf4Written;

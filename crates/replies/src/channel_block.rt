@@ -1,6 +1,7 @@
 // Channel blocks.
 ghost use mathlib.Core.Path.{_≡_};
-ghost use Rattle.blocks.specs.Meaning.{typeMeant, channelBlockMeant, channelBlockReply};
+ghost use Rattle.blocks.specs.Meaning.{typeMeant};
+ghost use Rattle.channels.specs.Meaning.{channelBlockMeant, channelBlockReply};
 ghost use Rattle.fields.specs.Meaning.{channelMeant};
 ghost use Rattle.replies.specs.Channels.{typeC, descriptionC, noDescription, blockC, noBlock, blockGiven, channelC};
 use crate::channel::Mf4Channel;
@@ -9,9 +10,9 @@ use crate::header::Mf4BlockHeader;
 use crate::header::header_of;
 use crate::header::header_told;
 use crate::header::no_header;
-use blocks::ChannelBlock;
-use blocks::ChannelRead;
 use blocks::DataType;
+use channels::ChannelBlock;
+use channels::ChannelRead;
 use decoder::Channel;
 
 #[repr(C)]
@@ -130,7 +131,7 @@ fn block_told(b: ChannelBlock) -> Mf4ChannelBlock
         comment_addr: b.comment_addr,
         more_links_at: b.more_links_at,
         more_links: b.more_links,
-        channel: description_told(Channel::from_block(b)),
+        channel: description_told(b.channel()),
         sync_type: b.sync_type,
         precision: b.precision,
         reserved1: b.reserved1,

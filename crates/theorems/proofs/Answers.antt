@@ -21,7 +21,7 @@ use Rattle.definitions.specs.Accepted.{Accepted}
 use Rattle.definitions.proofs.Replies.{not-answered}
 use Rattle.blocks.proofs.Headers.{length-header}
 use Rattle.blocks.proofs.Writes.{length-list}
-use Rattle.blocks.proofs.Channels.{length-channel}
+use Rattle.channels.proofs.Channels.{length-channel}
 use Rattle.words.proofs.Spans.{length-span}
 use Rattle.chain.proofs.Answers.{answered, followed}
 use Rattle.theorems.proofs.Rewritten.{front-of}

@@ -14,12 +14,13 @@ use Rattle.mf4.specs.Clauses.{Slice}
 use Rattle.theorems.specs.Exactly.{Exactly, ListStands, ChannelStands, ListFits, FieldStands, Joinable, Fetchable, ValueFetchable}
 use Rattle.theorems.specs.Clauses.{ReadsHeader, WritesHeader, ReadsList, WritesEqual, WritesVariable, ReadsChannel, WritesChannel, WritesText, ReadsValue, ReadsValidValue, AcceptsChain, ReadsLength, ReadsRecord, ReadsRecordValue}
 use Rattle.theorems.proofs.Answers.{header-exactly, list-exactly, channel-exactly, header-written-exactly, channel-written-exactly, list-written-exactly, text-written-exactly, value-exactly, valid-value-exactly, total-exactly, length-exactly, fetched-exactly, value-fetched-exactly}
-use Rattle.blocks.specs.Meaning.{headerReply, headerMeant, writtenReply, listReply, channelBlockReply, channelBlockMeant}
+use Rattle.blocks.specs.Meaning.{headerReply, headerMeant, writtenReply, listReply}
+use Rattle.channels.specs.Meaning.{channelBlockReply, channelBlockMeant}
 use Rattle.blocks.specs.declared.header.BlockHeader.{BlockHeader}
 use Rattle.blocks.specs.declared.header.HeaderRead.{HeaderRead}
 use Rattle.blocks.specs.declared.data_list.ListRead.{ListRead}
-use Rattle.blocks.specs.declared.channel_block.ChannelBlock.{ChannelBlock}
-use Rattle.blocks.specs.declared.channel_block.ChannelRead.{ChannelRead}
+use Rattle.channels.specs.declared.channel_block.ChannelBlock.{ChannelBlock}
+use Rattle.channels.specs.declared.channel_block.ChannelRead.{ChannelRead}
 use Rattle.blocks.specs.declared.written.Written.{Written}
 use Rattle.text.specs.Meaning.{encodingOf, textReply}
 use Rattle.text.specs.declared.encoding.Encoding.{Encoding}

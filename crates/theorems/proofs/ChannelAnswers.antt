@@ -14,7 +14,7 @@ use Rattle.definitions.specs.ChannelBlock.{ChannelBlock, idCN, fieldsAt, blockI
 use Rattle.theorems.specs.Exactly.{ChannelStands}
 use Rattle.theorems.proofs.HeaderAnswers.{headed}
 use Rattle.blocks.proofs.Headers.{needed, header-met}
-use Rattle.blocks.proofs.Channels.{channel-whole}
+use Rattle.channels.proofs.Channels.{channel-whole}
 use Rattle.definitions.proofs.Replies.{not-answered}
 
 module _ (s : List ℕ) where

@@ -13,7 +13,7 @@ use Rattle.definitions.specs.DataType.{DataType, unsignedInteger, typeOf, isKno
 use Rattle.definitions.specs.ChannelBlock.{ChannelBlock, idCN, blockIn, channelBlockOf, channelHeader, channelBytes}
 use Rattle.definitions.proofs.Types.{known-back, not-known}
 use Rattle.words.proofs.Numbers.{le-back}
-use Rattle.blocks.proofs.Channels.{length-channel}
+use Rattle.channels.proofs.Channels.{length-channel}
 use Rattle.theorems.specs.Exactly.{ChannelStands}
 use Rattle.theorems.proofs.ChannelAnswers.{standing, channel-answered}
 

@@ -9,11 +9,10 @@ use borrow.Author.Tests.{eqb-true}
 use Rattle.definitions.specs.Reply.{answer}
 use Rattle.definitions.specs.Bytes.{leOf, le, span, u32At, u64At, idAt}
 use Rattle.definitions.specs.Header.{Header, headerIn, headerOf, headerBytes}
-use Rattle.words.proofs.Numbers.{Bytes, length-le}
+use Rattle.words.proofs.Numbers.{Bytes, length-le, bytes-four}
 use Rattle.words.proofs.Spans.{span-split}
 use Rattle.words.proofs.Ids.{id-words}
 use Rattle.blocks.proofs.Headers.{header-met, header-answered, length-header}
-use Rattle.blocks.proofs.Channels.{four-below}
 use Rattle.theorems.proofs.Rewritten.{number-read, number-written}
 
 -- the fields fit in their bytes
@@ -73,6 +72,6 @@ pub named-header : (s : List ℕ) (h : Header) (x y z t : ℕ) → Bytes s → x
     → h .linkCount ≡ u64At s 16 → headerBytes h ≡ span s 0 24
 named-header s h x y z t b hx hy hz ht l named ei er eb ek =
     let id : List ℕ = x ∷ y ∷ z ∷ t ∷ [] in
-    let same : u32At s 0 ≡ leOf id = eqb-true (u32At s 0) (u32At id 0) (id-words s id 0 (omega arith) (omega arith) b (four-below x y z t hx hy hz ht) refl refl ∙ named) in
+    let same : u32At s 0 ≡ leOf id = eqb-true (u32At s 0) (u32At id 0) (id-words s id 0 (omega arith) (omega arith) b (bytes-four x y z t hx hy hz ht) refl refl ∙ named) in
     let e : h ≡ headerIn s = λ i. record { id = (ei ∙ sym same) i; reserved = er i; blockLength = eb i; linkCount = ek i } in
     ap headerBytes e ∙ header-read-written s (headerIn s) b (header-met s l)

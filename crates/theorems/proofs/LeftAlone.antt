@@ -21,7 +21,7 @@ use Rattle.definitions.proofs.Replies.{not-answered}
 use Rattle.words.proofs.Spans.{length-span}
 use Rattle.blocks.proofs.Headers.{length-header}
 use Rattle.blocks.proofs.Writes.{length-list}
-use Rattle.blocks.proofs.Channels.{length-channel}
+use Rattle.channels.proofs.Channels.{length-channel}
 use Rattle.chain.proofs.Answers.{answered}
 use Rattle.theorems.proofs.RefusalNumbers.{OfField, field-of-fetched, other-of-fetch}
 use Rattle.theorems.proofs.Answers.{size-fits, fetched-exactly, fetched-record}

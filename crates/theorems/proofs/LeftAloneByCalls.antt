@@ -14,9 +14,10 @@ use Rattle.theorems.specs.Exactly.{Fetchable}
 use Rattle.theorems.specs.Clauses.{WritesHeader, WritesChannel, WritesEqual, WritesVariable, WritesText, ReadsRecord, ReadsRecordValue}
 use Rattle.theorems.proofs.LeftAlone.{SameBehind, untouched, Leaves, itself, countOf, header-leaves, channel-leaves, list-leaves, text-leaves, fetch-leaves, value-spares, value-behind, value-holds}
 use Rattle.theorems.proofs.RefusalNumbers.{OfField}
-use Rattle.blocks.specs.Meaning.{headerMeant, channelBlockMeant, writtenReply}
+use Rattle.blocks.specs.Meaning.{headerMeant, writtenReply}
+use Rattle.channels.specs.Meaning.{channelBlockMeant}
 use Rattle.blocks.specs.declared.header.BlockHeader.{BlockHeader}
-use Rattle.blocks.specs.declared.channel_block.ChannelBlock.{ChannelBlock}
+use Rattle.channels.specs.declared.channel_block.ChannelBlock.{ChannelBlock}
 use Rattle.text.specs.Meaning.{encodingOf, textReply}
 use Rattle.text.specs.declared.encoding.Encoding.{Encoding}
 use Rattle.records.specs.Meaning.{recordReply}

@@ -14,7 +14,8 @@ use Rattle.blocks.specs.Meaning.{writtenReply}
 use Rattle.text.specs.Meaning.{textReply}
 use Rattle.fields.specs.Meaning.{validValueReply}
 use Rattle.records.specs.Meaning.{recordReply}
-use Rattle.blocks.proofs.Back.{written-one, header-one, type-one, list-one, channel-one}
+use Rattle.blocks.proofs.Back.{written-one, header-one, type-one, list-one}
+use Rattle.channels.proofs.Back.{channel-one}
 use Rattle.text.proofs.Back.{text-one}
 use Rattle.fields.proofs.Back.{description-one, field-one, value-one, valid-value-one}
 use Rattle.chain.proofs.Back.{chain-one}
@@ -49,16 +50,16 @@ use Rattle.blocks.proofs.data_list.DataListBlock.write_equal.Kinds as list-equa
 use Rattle.blocks.proofs.data_list.DataListBlock.write_equal.Reads as list-equal
 use Rattle.blocks.proofs.data_list.DataListBlock.write_variable.Kinds as list-variable-kinds
 use Rattle.blocks.proofs.data_list.DataListBlock.write_variable.Reads as list-variable
-use Rattle.blocks.proofs.channel_block.ChannelBlock.from_bytes.Kinds as channel-read-kinds
-use Rattle.blocks.proofs.channel_block.ChannelBlock.from_bytes.Reads as channel-read
-use Rattle.blocks.proofs.channel_block.ChannelBlock.to_bytes.Kinds as channel-write-kinds
-use Rattle.blocks.proofs.channel_block.ChannelBlock.to_bytes.Reads as channel-write
+use Rattle.channels.proofs.channel_block.ChannelBlock.from_bytes.Kinds as channel-read-kinds
+use Rattle.channels.proofs.channel_block.ChannelBlock.from_bytes.Reads as channel-read
+use Rattle.channels.proofs.channel_block.ChannelBlock.to_bytes.Kinds as channel-write-kinds
+use Rattle.channels.proofs.channel_block.ChannelBlock.to_bytes.Reads as channel-write
 use Rattle.text.proofs.text_end.Kinds as text-end-kinds
 use Rattle.text.proofs.text_end.Reads as text-end
 use Rattle.text.proofs.write_text.Kinds as text-write-kinds
 use Rattle.text.proofs.write_text.Reads as text-write
-use Rattle.fields.proofs.channel.Channel.from_block.Kinds as channel-describe-kinds
-use Rattle.fields.proofs.channel.Channel.from_block.Reads as channel-describe
+use Rattle.channels.proofs.channel_block.ChannelBlock.channel.Kinds as channel-describe-kinds
+use Rattle.channels.proofs.channel_block.ChannelBlock.channel.Reads as channel-describe
 use Rattle.fields.proofs.channel.Channel.is_variable_length.Kinds as variable-length-kinds
 use Rattle.fields.proofs.channel.Channel.is_variable_length.Reads as variable-length
 use Rattle.fields.proofs.form_of.Kinds as form-of-type-kinds

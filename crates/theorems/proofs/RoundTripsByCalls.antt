@@ -8,12 +8,13 @@ use Rattle.definitions.specs.Reply.{Outcome, answer}
 use Rattle.definitions.specs.ChannelBlock as channels
 use Rattle.definitions.specs.DataList.{DataList, Lengths, equal, variable, flagsFor, restFor, listWritten}
 use Rattle.words.proofs.Numbers.{Bytes}
-use Rattle.blocks.specs.Meaning.{headerReply, headerMeant, writtenReply, listReply, channelBlockMeant, channelBlockReply}
+use Rattle.blocks.specs.Meaning.{headerReply, headerMeant, writtenReply, listReply}
+use Rattle.channels.specs.Meaning.{channelBlockMeant, channelBlockReply}
 use Rattle.blocks.specs.declared.header.BlockHeader.{BlockHeader}
 use Rattle.blocks.specs.declared.header.HeaderRead.{HeaderRead}
 use Rattle.blocks.specs.declared.data_list.ListRead.{ListRead}
-use Rattle.blocks.specs.declared.channel_block.ChannelBlock.{ChannelBlock}
-use Rattle.blocks.specs.declared.channel_block.ChannelRead.{ChannelRead}
+use Rattle.channels.specs.declared.channel_block.ChannelBlock.{ChannelBlock}
+use Rattle.channels.specs.declared.channel_block.ChannelRead.{ChannelRead}
 use Rattle.blocks.specs.declared.written.Written.{Written}
 use Rattle.mf4.specs.Clauses.{Slice}
 use Rattle.theorems.specs.Clauses.{ReadsHeader, WritesHeader, ReadsChannel, WritesChannel, ReadsList, WritesEqual, WritesVariable}

@@ -15,7 +15,7 @@ use Rattle.definitions.specs.ChannelBlock.{ChannelBlock, channelBlockOf, channe
 use Rattle.definitions.proofs.Replies.{not-answered}
 use Rattle.words.proofs.Numbers.{Bytes}
 use Rattle.blocks.proofs.Headers.{length-header}
-use Rattle.blocks.proofs.Channels.{length-channel}
+use Rattle.channels.proofs.Channels.{length-channel}
 use Rattle.theorems.specs.Exactly.{ListFits}
 use Rattle.theorems.proofs.Rewritten.{Words, front-of}
 use Rattle.theorems.proofs.Answers.{list-written-exactly}

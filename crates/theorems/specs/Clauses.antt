@@ -8,8 +8,8 @@ use Rattle.mf4.specs.Clauses.{Slice, Allows}
 use Rattle.blocks.specs.declared.header.BlockHeader.{BlockHeader}
 use Rattle.blocks.specs.declared.header.HeaderRead.{HeaderRead}
 use Rattle.blocks.specs.declared.data_list.ListRead.{ListRead}
-use Rattle.blocks.specs.declared.channel_block.ChannelBlock.{ChannelBlock}
-use Rattle.blocks.specs.declared.channel_block.ChannelRead.{ChannelRead}
+use Rattle.channels.specs.declared.channel_block.ChannelBlock.{ChannelBlock}
+use Rattle.channels.specs.declared.channel_block.ChannelRead.{ChannelRead}
 use Rattle.blocks.specs.declared.written.Written.{Written}
 use Rattle.text.specs.declared.encoding.Encoding.{Encoding}
 use Rattle.text.specs.declared.answer.TextWrite.{TextWrite}
@@ -29,12 +29,12 @@ use Rattle.blocks.proofs.data_list.DataListBlock.write_equal.Kinds as list-equa
 use Rattle.blocks.proofs.data_list.DataListBlock.write_equal.Reads as list-equal
 use Rattle.blocks.proofs.data_list.DataListBlock.write_variable.Kinds as list-variable-kinds
 use Rattle.blocks.proofs.data_list.DataListBlock.write_variable.Reads as list-variable
-use Rattle.blocks.proofs.channel_block.ChannelBlock.from_bytes.Kinds as channel-read-kinds
-use Rattle.blocks.proofs.channel_block.ChannelBlock.from_bytes.Reads as channel-read
-use Rattle.blocks.proofs.channel_block.ChannelBlock.to_bytes.Kinds as channel-write-kinds
-use Rattle.blocks.proofs.channel_block.ChannelBlock.to_bytes.Reads as channel-write
-use Rattle.fields.proofs.channel.Channel.from_block.Kinds as channel-describe-kinds
-use Rattle.fields.proofs.channel.Channel.from_block.Reads as channel-describe
+use Rattle.channels.proofs.channel_block.ChannelBlock.from_bytes.Kinds as channel-read-kinds
+use Rattle.channels.proofs.channel_block.ChannelBlock.from_bytes.Reads as channel-read
+use Rattle.channels.proofs.channel_block.ChannelBlock.to_bytes.Kinds as channel-write-kinds
+use Rattle.channels.proofs.channel_block.ChannelBlock.to_bytes.Reads as channel-write
+use Rattle.channels.proofs.channel_block.ChannelBlock.channel.Kinds as channel-describe-kinds
+use Rattle.channels.proofs.channel_block.ChannelBlock.channel.Reads as channel-describe
 use Rattle.text.proofs.write_text.Kinds as text-write-kinds
 use Rattle.text.proofs.write_text.Reads as text-write
 use Rattle.decoder.proofs.decode_channel_value.Kinds as value-read-kinds

@@ -46,6 +46,13 @@ bytes-cons : (x : ℕ) (xs : List ℕ) → x < 256 → Bytes xs → Bytes (x ∷
 bytes-cons x xs h b zero = h
 bytes-cons x xs h b (suc i) = b i
 
+pub bytes-four : (x y z t : ℕ) → x < 256 → y < 256 → z < 256 → t < 256 → Bytes (x ∷ y ∷ z ∷ t ∷ [])
+bytes-four x y z t hx hy hz ht zero = hx
+bytes-four x y z t hx hy hz ht (suc zero) = hy
+bytes-four x y z t hx hy hz ht (suc (suc zero)) = hz
+bytes-four x y z t hx hy hz ht (suc (suc (suc zero))) = ht
+bytes-four x y z t hx hy hz ht (suc (suc (suc (suc i)))) = omega arith
+
 pub bytes-reverse : (xs : List ℕ) → Bytes xs → Bytes (reverse xs)
 bytes-reverse [] h = h
 bytes-reverse (x ∷ xs) h =

@@ -1,4 +1,4 @@
-use Rattle.blocks.specs.Meaning.{channelBlockReply}
+use Rattle.channels.specs.Meaning.{channelBlockReply}
 use Rattle.replies.specs.Channels.{channelC}
 use Rattle.replies.proofs.Handed.{handed}
 use borrow.Author.Needs.{needs}

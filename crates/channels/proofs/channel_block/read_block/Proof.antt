@@ -4,11 +4,11 @@ use lib.ListN.{length}
 use Rattle.definitions.specs.Bytes.{span}
 use Rattle.definitions.specs.ChannelBlock.{blockIn}
 use Rattle.words.proofs.Spans.{span-rest}
 use Rattle.blocks.specs.Meaning.{headerMeant}
-use Rattle.blocks.proofs.Channels.{block-read}
+use Rattle.channels.proofs.Channels.{block-read}
 use borrow.Author.Needs.{needs}
-use Rattle.blocks.proofs.channel_block.read_block.Statement.{statement}
-use Rattle.blocks.proofs.channel_block.read_block.Tie as tie
+use Rattle.channels.proofs.channel_block.read_block.Statement.{statement}
+use Rattle.channels.proofs.channel_block.read_block.Tie as tie
 
 returns : tie.Need-returns
 returns c =

@@ -1,8 +1,8 @@
-use Rattle.blocks.specs.Meaning.{channelBlockMeant}
-use Rattle.blocks.proofs.Channels.{format-stored}
+use Rattle.channels.specs.Meaning.{channelBlockMeant}
+use Rattle.channels.proofs.Channels.{format-stored}
 use borrow.Author.Needs.{needs}
-use Rattle.blocks.proofs.channel_block.put_format.Statement.{statement}
-use Rattle.blocks.proofs.channel_block.put_format.Tie as tie
+use Rattle.channels.proofs.channel_block.put_format.Statement.{statement}
+use Rattle.channels.proofs.channel_block.put_format.Tie as tie
 
 returns : tie.Need-returns
 returns c =

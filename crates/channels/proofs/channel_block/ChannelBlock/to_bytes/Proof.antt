@@ -1,7 +1,7 @@
-use Rattle.blocks.proofs.Channels.{channel-small, channel-fits}
+use Rattle.channels.proofs.Channels.{channel-small, channel-fits}
 use borrow.Author.Needs.{needs}
-use Rattle.blocks.proofs.channel_block.ChannelBlock.to_bytes.Statement.{statement}
-use Rattle.blocks.proofs.channel_block.ChannelBlock.to_bytes.Tie as tie
+use Rattle.channels.proofs.channel_block.ChannelBlock.to_bytes.Statement.{statement}
+use Rattle.channels.proofs.channel_block.ChannelBlock.to_bytes.Tie as tie
 
 returns : tie.Need-returns
 returns c = channel-small _ _ (c .if1 .taken)

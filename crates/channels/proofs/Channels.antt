@@ -2,7 +2,7 @@
 use mathlib.Core.Path.{_≡_, refl, sym, ap, ap₂, _∙_}
 use mathlib.Core.List.{List, [], _∷_, _++_}
 use mathlib.Core.Bool.{true, false}
-use Prim.Native.Nat.{ℕ, zero, suc, _+_, _-_, _*_, _≤_, _<_}
+use Prim.Native.Nat.{ℕ, _+_, _-_, _*_, _≤_, _<_}
 use native.Mathlib.Omega.{arith}
 use lib.ListN.{length, getD, drop}
 use lib.Seq.{sets}
@@ -14,7 +14,7 @@ use Rattle.definitions.specs.DataType.{DataType, typeOf, codeOf}
 use Rattle.definitions.specs.ChannelBlock.{ChannelBlock, idCN, fieldsAt, blockIn, fieldsOf, channelBlockOf, channelHeader, eightLinks, sixLimits, formatBytes, channelBytes, channelWritten}
 use Rattle.definitions.proofs.Replies.{needing-short, needing-met, writing-short, writing-met}
 use Rattle.definitions.proofs.Stores.{sets-then, stored-then}
-use Rattle.words.proofs.Numbers.{Bytes, back-le}
+use Rattle.words.proofs.Numbers.{bytes-four, back-le}
 
 -- ---- read
 
@@ -86,17 +86,9 @@ block-read s f h links limits type byte count flags position attached =
 
 -- ---- written
 
-module _ (x y z t : ℕ) (hx : x < 256) (hy : y < 256) (hz : z < 256) (ht : t < 256) where
-  pub four-below : Bytes (x ∷ y ∷ z ∷ t ∷ [])
-  four-below zero = hx
-  four-below (suc zero) = hy
-  four-below (suc (suc zero)) = hz
-  four-below (suc (suc (suc zero))) = ht
-  four-below (suc (suc (suc (suc i)))) = omega arith
-
-  -- the word of four bytes has these
-  pub four-bytes : (w : ℕ) → w ≡ u32At (x ∷ y ∷ z ∷ t ∷ []) 0 → le 4 w ≡ x ∷ y ∷ z ∷ t ∷ []
-  four-bytes w e = ap (le 4) e ∙ back-le (x ∷ y ∷ z ∷ t ∷ []) four-below
+-- the word of four bytes has these
+pub word-bytes : (x y z t w : ℕ) → x < 256 → y < 256 → z < 256 → t < 256 → w ≡ u32At (x ∷ y ∷ z ∷ t ∷ []) 0 → le 4 w ≡ x ∷ y ∷ z ∷ t ∷ []
+word-bytes x y z t w hx hy hz ht e = ap (le 4) e ∙ back-le (x ∷ y ∷ z ∷ t ∷ []) (bytes-four x y z t hx hy hz ht)
 
 -- one store more, of bytes as another law names them
 store-then : (l : List ℕ) (i k : ℕ) (xs ys : List ℕ) {a b stored : List ℕ} → stored ≡ ys → a ≡ sets l i xs → b ≡ sets a k stored → k ≡ i + length xs

@@ -7,12 +7,12 @@ use Rattle.definitions.specs.Reply.{answer, refusal}
 use Rattle.definitions.specs.Bytes.{idAt}
 use Rattle.definitions.specs.Header.{headerOf}
 use Rattle.definitions.specs.ChannelBlock.{idCN}
 use Rattle.blocks.specs.Meaning.{headerMeant, headerReply}
 use Rattle.blocks.proofs.Headers.{header-answered}
-use Rattle.blocks.proofs.Channels.{channel-unheaded, channel-other, channel-few, channel-cut, channel-whole}
+use Rattle.channels.proofs.Channels.{channel-unheaded, channel-other, channel-few, channel-cut, channel-whole}
 use borrow.Author.Needs.{needs}
-use Rattle.blocks.proofs.channel_block.ChannelBlock.from_bytes.Statement.{statement}
-use Rattle.blocks.proofs.channel_block.ChannelBlock.from_bytes.Tie as tie
+use Rattle.channels.proofs.channel_block.ChannelBlock.from_bytes.Statement.{statement}
+use Rattle.channels.proofs.channel_block.ChannelBlock.from_bytes.Tie as tie
 
 -- a refused header is handed on
 returns : tie.Need-returns

@@ -1,8 +1,8 @@
 use mathlib.Core.Path.{_∙_, refl}
 use Rattle.definitions.specs.Bytes.{leOf}
 use borrow.Author.Needs.{needs}
-use Rattle.blocks.proofs.channel_block.channel_header.Statement.{statement}
-use Rattle.blocks.proofs.channel_block.channel_header.Tie as tie
+use Rattle.channels.proofs.channel_block.channel_header.Statement.{statement}
+use Rattle.channels.proofs.channel_block.channel_header.Tie as tie
 
 returns : tie.Need-returns
 unfolding leOf

@@ -5,14 +5,17 @@ ghost use Prim.Native.Nat.{_+_, _*_, _≤_};
 ghost use lib.ListN.{length, drop};
 ghost use lib.Seq.{sets};
 ghost use Rattle.definitions.specs.Bytes.{le};
-ghost use Rattle.definitions.specs.ChannelBlock.{fieldsAt, blockIn, channelBlockOf, channelHeader, formatBytes, channelBytes, channelWritten};
-ghost use Rattle.blocks.specs.Meaning.{headerMeant, channelBlockMeant, channelBlockReply, wrote};
-use crate::data_type::DataType;
-use crate::header::BlockHeader;
-use crate::header::HeaderRead;
-use crate::header::put_header;
-use crate::header::size_with_links;
-use crate::written::Written;
+ghost use Rattle.definitions.specs.ChannelBlock.{fieldsAt, blockIn, channelBlockOf, described, channelHeader, formatBytes, channelBytes, channelWritten};
+ghost use Rattle.blocks.specs.Meaning.{headerMeant, wrote};
+ghost use Rattle.fields.specs.Meaning.{channelMeant};
+ghost use Rattle.channels.specs.Meaning.{channelBlockMeant, channelBlockReply};
+use blocks::BlockHeader;
+use blocks::DataType;
+use blocks::HeaderRead;
+use blocks::Written;
+use blocks::put_header;
+use blocks::size_with_links;
+use fields::Channel;
 use refusals::Refusal;
 use words::id_at;
 use words::put_all_le;
@@ -122,6 +125,23 @@ impl ChannelBlock {
             return ChannelRead::Refused(Refusal::TooFewBytes(need));
         }
         ChannelRead::Block(read_block(bytes, header))
+    }
+
+    // What the block tells of its channel, as the decoder takes it: nobody else copies these fields.
+    pub fn channel(self) -> Channel
+        ensures { λ r. ⌜ channelMeant r ≡ described (channelBlockMeant self) ⌝ }
+    {
+        let data_type = self.data_type;
+        Channel {
+            data_type,
+            channel_type: self.channel_type,
+            bit_offset: self.bit_offset,
+            byte_offset: self.byte_offset,
+            bit_count: self.bit_count,
+            data: self.data,
+            flags: self.flags,
+            pos_invalidation_bit: self.pos_invalidation_bit,
+        }
     }
 
     // With a header of its own, eight links and no attachments
