@@ -1,5 +1,5 @@
 -- The ways through a channel block, read and written.
-use mathlib.Core.Path.{_≡_, refl, sym, ap, ap₂, _∙_}
+use mathlib.Core.Path.{_≡_, refl, sym, ap, _∙_}
 use mathlib.Core.List.{List, [], _∷_, _++_}
 use mathlib.Core.Bool.{true, false}
 use Prim.Native.Nat.{ℕ, _+_, _-_, _*_, _≤_, _<_}
@@ -13,7 +13,7 @@ use Rattle.definitions.specs.Header.{Header, headerOf, headerBytes}
 use Rattle.definitions.specs.DataType.{DataType, typeOf, codeOf}
 use Rattle.definitions.specs.ChannelBlock.{ChannelBlock, idCN, fieldsAt, blockIn, fieldsOf, channelBlockOf, channelHeader, eightLinks, sixLimits, formatBytes, channelBytes, channelWritten}
 use Rattle.definitions.proofs.Replies.{needing-short, needing-met, writing-short, writing-met}
-use Rattle.definitions.proofs.Stores.{sets-then, stored-then}
+use Rattle.definitions.proofs.Stores.{stored-on, stored-then}
 use Rattle.words.proofs.Numbers.{bytes-four, back-le}
 
 -- ---- read
@@ -90,11 +90,6 @@ block-read s f h links limits type byte count flags position attached =
 pub word-bytes : (x y z t w : ℕ) → x < 256 → y < 256 → z < 256 → t < 256 → w ≡ u32At (x ∷ y ∷ z ∷ t ∷ []) 0 → le 4 w ≡ x ∷ y ∷ z ∷ t ∷ []
 word-bytes x y z t w hx hy hz ht e = ap (le 4) e ∙ back-le (x ∷ y ∷ z ∷ t ∷ []) (bytes-four x y z t hx hy hz ht)
 
--- one store more, of bytes as another law names them
-store-then : (l : List ℕ) (i k : ℕ) (xs ys : List ℕ) {a b stored : List ℕ} → stored ≡ ys → a ≡ sets l i xs → b ≡ sets a k stored → k ≡ i + length xs
-    → b ≡ sets l i (xs ++ ys)
-store-then l i k xs ys es ea eb e = eb ∙ ap₂ (λ (o w : List ℕ). sets o k w) ea es ∙ sets-then l i k xs ys e
-
 module _ (b : ChannelBlock) where
   -- six stores, one after the other, are the fields before the limits
   pub format-stored : (out : List ℕ) {code : ℕ} {kinds last o₁ o₂ o₃ o₄ o₅ o₆ : List ℕ} → code ≡ codeOf (b .dataType)
@@ -106,11 +101,11 @@ module _ (b : ChannelBlock) where
   format-stored out {o₁ = o₁} et ek el e₁ e₂ e₃ e₄ e₅ e₆ =
       let kind : List ℕ = b .channelType ∷ b .syncType ∷ codeOf (b .dataType) ∷ b .bitOffset ∷ [] in
       let first : o₁ ≡ sets out 88 kind = e₁ ∙ ap (sets out 88) (ek ∙ ap (λ (x : ℕ). b .channelType ∷ b .syncType ∷ x ∷ b .bitOffset ∷ []) et) in
-      store-then out 88 108 (kind ++ le 4 (b .byteOffset) ++ le 4 (b .bitCount) ++ le 4 (b .flags) ++ le 4 (b .invalidationBit)) _ el
-      (store-then out 88 104 (kind ++ le 4 (b .byteOffset) ++ le 4 (b .bitCount) ++ le 4 (b .flags)) (le 4 (b .invalidationBit)) refl
-      (store-then out 88 100 (kind ++ le 4 (b .byteOffset) ++ le 4 (b .bitCount)) (le 4 (b .flags)) refl
-      (store-then out 88 96 (kind ++ le 4 (b .byteOffset)) (le 4 (b .bitCount)) refl
-      (store-then out 88 92 kind (le 4 (b .byteOffset)) refl first e₂ refl) e₃ refl) e₄ refl) e₅ refl) e₆ refl
+      stored-on out 88 108 (kind ++ le 4 (b .byteOffset) ++ le 4 (b .bitCount) ++ le 4 (b .flags) ++ le 4 (b .invalidationBit)) _ el
+      (stored-on out 88 104 (kind ++ le 4 (b .byteOffset) ++ le 4 (b .bitCount) ++ le 4 (b .flags)) (le 4 (b .invalidationBit)) refl
+      (stored-on out 88 100 (kind ++ le 4 (b .byteOffset) ++ le 4 (b .bitCount)) (le 4 (b .flags)) refl
+      (stored-on out 88 96 (kind ++ le 4 (b .byteOffset)) (le 4 (b .bitCount)) refl
+      (stored-on out 88 92 kind (le 4 (b .byteOffset)) refl first e₂ refl) e₃ refl) e₄ refl) e₅ refl) e₆ refl
 
   pub length-channel : length (channelBytes b) ≡ 160
   unfolding channelBytes headerBytes les le

@@ -1,5 +1,5 @@
 -- Runs of stores, one after the other.
-use mathlib.Core.Path.{_≡_, sym, ap, _∙_}
+use mathlib.Core.Path.{_≡_, refl, sym, ap, ap₂, _∙_}
 use mathlib.Core.List.{List, [], _∷_, _++_}
 use Prim.Native.Nat.{ℕ, suc, _+_, _≤_}
 use native.Mathlib.Nat.{add-zero, zero-add}
@@ -17,9 +17,14 @@ sets-append l i (x ∷ xs) ys =
 pub sets-then : (l : List ℕ) (i k : ℕ) (xs ys : List ℕ) → k ≡ i + length xs → sets (sets l i xs) k ys ≡ sets l i (xs ++ ys)
 sets-then l i k xs ys e = ap (λ (j : ℕ). sets (sets l i xs) j ys) e ∙ sym (sets-append l i xs ys)
 
--- from the front on, as buffers come out of one store after the other
+-- as buffers come out of one store after the other, of bytes as another law names them
+pub stored-on : (l : List ℕ) (i k : ℕ) (xs ys : List ℕ) {a b stored : List ℕ} → stored ≡ ys → a ≡ sets l i xs → b ≡ sets a k stored → k ≡ i + length xs
+    → b ≡ sets l i (xs ++ ys)
+stored-on l i k xs ys es ea eb e = eb ∙ ap₂ (λ (o w : List ℕ). sets o k w) ea es ∙ sets-then l i k xs ys e
+
+-- and from the front on
 pub stored-then : (l xs ys : List ℕ) (k : ℕ) {a b : List ℕ} → a ≡ sets l 0 xs → b ≡ sets a k ys → k ≡ length xs → b ≡ sets l 0 (xs ++ ys)
-stored-then l xs ys k ea eb e = eb ∙ ap (λ (o : List ℕ). sets o k ys) ea ∙ sets-then l 0 k xs ys (omega arith)
+stored-then l xs ys k ea eb e = stored-on l 0 k xs ys refl ea eb (omega arith)
 
 -- a run from the front on leaves the bytes there, and the rest as it was
 pub sets-front : (l bs : List ℕ) → length bs ≤ length l → sets l 0 bs ≡ bs ++ drop (length bs) l

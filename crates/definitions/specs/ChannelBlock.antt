@@ -88,7 +88,8 @@ blockIn s h f = record {
   upperExtended = u64At f 64;
 }
 
--- after the header: 3 for another id, 17 for fewer than 8 links, 2 for the whole. The block length is compared with nothing
+-- after the header: 3 for another id, 17 for fewer than 8 links, 2 for the whole. Neither the block length nor the attachment
+-- count is compared with anything
 unfoldable pub fieldsOf : List ℕ → Header → Reply ChannelBlock
 fieldsOf s h =
     if not (idAt s 0 idCN) then refusal 3 0

@@ -22,6 +22,7 @@ coded =
 abbrev pub typeOf : ℕ → DataType
 typeOf code = getD coded code unknown
 
+-- whether it is one of these, and not the unknown one
 abbrev pub isKnown : DataType → Bool
 isKnown (unsignedInteger o) = true
 isKnown (signedInteger o) = true

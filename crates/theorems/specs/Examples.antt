@@ -12,7 +12,7 @@ use Rattle.definitions.specs.Unicode.{latin1}
 use Rattle.definitions.specs.DataType.{DataType, unsignedInteger, signedInteger, float, string}
 use Rattle.definitions.specs.Channel.{Channel, Value, unsigned, signed, double, text, valueOf, recordDouble, validOf}
 use Rattle.definitions.specs.DataList.{DataList, idDL, listOf, listBytes}
-use Rattle.definitions.specs.ChannelBlock.{ChannelBlock, idCN, channelBlockOf}
+use Rattle.definitions.specs.ChannelBlock.{ChannelBlock, idCN, channelBlockOf, described}
 use Rattle.definitions.specs.Chain.{idDT, fetched}
 
 -- a fixed channel: byte offset, flags, invalidation bit position, data type, bit offset, bit count
@@ -40,11 +40,11 @@ abbrev pub shortList : ℕ → ℕ → List ℕ
 shortList links flags = idDL ++ le 4 0 ++ le 8 40 ++ le 8 links ++ le 8 0 ++ (flags ∷ 0 ∷ 0 ∷ 0 ∷ []) ++ le 4 0
 
 -- a channel block with the given block length and link count: the links 1 to 8, and maybe others; then a signed integer of 12
--- bits from bit 4 of byte 5 on, invalid by bit 3, and the limits 11 to 16
+-- bits from bit 4 of byte 5 on, invalid by bit 3, a reserved byte 17, 4,660 attachments and the limits 11 to 16
 abbrev pub channelBlock : ℕ → ℕ → List ℕ → List ℕ
 channelBlock size links others =
     idCN ++ le 4 0 ++ le 8 size ++ le 8 links ++ les (1 ∷ 2 ∷ 3 ∷ 4 ∷ 5 ∷ 6 ∷ 7 ∷ 8 ∷ []) ++ les others
-    ++ (0 ∷ 9 ∷ 2 ∷ 4 ∷ []) ++ le 4 5 ++ le 4 12 ++ le 4 2 ++ le 4 3 ++ (10 ∷ 0 ∷ []) ++ le 2 0
+    ++ (0 ∷ 9 ∷ 2 ∷ 4 ∷ []) ++ le 4 5 ++ le 4 12 ++ le 4 2 ++ le 4 3 ++ (10 ∷ 17 ∷ []) ++ le 2 4660
     ++ les (11 ∷ 12 ∷ 13 ∷ 14 ∷ 15 ∷ 16 ∷ [])
 
 abbrev pub channelRead : ℕ → ℕ → ChannelBlock
@@ -69,8 +69,8 @@ channelRead size more = record {
   flags = 2;
   invalidationBit = 3;
   precision = 10;
-  reserved = 0;
-  attachments = 0;
+  reserved = 17;
+  attachments = 4660;
   minRaw = 11;
   maxRaw = 12;
   lowerLimit = 13;
@@ -105,6 +105,7 @@ pub data Row : Type 0 where
   validity : List ℕ → Channel → Bool → Row
   list : List ℕ → Reply DataList → Row
   block : List ℕ → Reply ChannelBlock → Row
+  description : ChannelBlock → Channel → Row
   -- record k of size 2 from the chain at 8, into a buffer of 2 bytes FF
   fetch : List ℕ → ℕ → Outcome (Unit {0}) → Row
 
@@ -115,6 +116,7 @@ pub data Said : Type 0 where
   aTest : Bool → Said
   aList : Reply DataList → Said
   aBlock : Reply ChannelBlock → Said
+  aChannel : Channel → Said
   aRecord : Outcome (Unit {0}) → Said
 
 -- what the definitions give for a row's call, and what the row says
@@ -124,6 +126,7 @@ given (counter n r) = aNumber (toUnsigned 64 (ofBits binary64 (recordDouble (le 
 given (validity s c r) = aTest (validOf s 0 2 c)
 given (list s r) = aList (listOf s)
 given (block s r) = aBlock (channelBlockOf s)
+given (description b r) = aChannel (described b)
 given (fetch f k r) = aRecord (fetched f 8 k 2 (255 ∷ 255 ∷ []))
 
 abbrev pub stated : Row → Said
@@ -132,6 +135,7 @@ stated (counter n r) = aNumber r
 stated (validity s c r) = aTest r
 stated (list s r) = aList r
 stated (block s r) = aBlock r
+stated (description b r) = aChannel r
 stated (fetch f k r) = aRecord r
 
 abbrev pub table : List Row
@@ -171,6 +175,16 @@ table =
     ∷ list (shortList 1 1) (refusal 2 48)
     ∷ list (shortList 18446744073709551615 0) (refusal 2 18446744073709551615)
     ∷ block (channelBlock 160 8 []) (answer (channelRead 160 0))
+    ∷ description (channelRead 160 0) (record {
+      dataType = signedInteger little;
+      channelType = 0;
+      bitOffset = 4;
+      byteOffset = 5;
+      bitCount = 12;
+      flags = 2;
+      invalidationBit = 3;
+      dataLink = 6;
+    })
     -- neither the block length nor a ninth link misleads; the bytes may be too few, and the links too few or countless
     ∷ block (channelBlock 1 8 []) (answer (channelRead 1 0))
     ∷ block (channelBlock 168 9 (99 ∷ [])) (answer (channelRead 168 1))
