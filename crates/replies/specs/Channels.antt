@@ -1,10 +1,11 @@
 -- Channel blocks as C sees them.
 use Prim.Native.Nat.{ℕ}
 use Rattle.definitions.specs.Reply.{Reply, answer, refusal, if_then_else_}
-use Rattle.definitions.specs.DataType.{DataType, typeOf, isKnown, codeOf}
+use Rattle.definitions.specs.DataType.{DataType, isKnown, codeOf}
 use Rattle.definitions.specs.Channel.{Channel}
 use Rattle.definitions.specs.ChannelBlock.{ChannelBlock, described}
 use Rattle.replies.specs.Replies.{headerFields, noHeader, headerGiven}
+use Rattle.replies.specs.Values.{channelGiven}
 use Rattle.replies.specs.declared.channel.Mf4Channel.{Mf4Channel}
 use Rattle.replies.specs.declared.channel_block.Mf4ChannelBlock.{Mf4ChannelBlock}
 use Rattle.replies.specs.declared.channel_block.Mf4ChannelReply.{Mf4ChannelReply}
@@ -88,7 +89,7 @@ noBlock = record {
   «upper_ext_limit» = 0;
 }
 
--- the block that C gives
+-- the block that C gives, with its description as the other calls take it
 abbrev pub blockGiven : Mf4ChannelBlock → ChannelBlock
 blockGiven b = record {
   header = headerGiven (b .header);
@@ -97,19 +98,19 @@ blockGiven b = record {
   name = b .«name_addr»;
   source = b .«source_addr»;
   conversion = b .«conversion_addr»;
-  dataLink = b .channel .«data»;
+  dataLink = channelGiven (b .channel) .dataLink;
   unit = b .«unit_addr»;
   comment = b .«comment_addr»;
   moreAt = b .«more_links_at»;
   more = b .«more_links»;
-  channelType = b .channel .«channel_type»;
+  channelType = channelGiven (b .channel) .channelType;
   syncType = b .«sync_type»;
-  dataType = typeOf (b .channel .«data_type»);
-  bitOffset = b .channel .«bit_offset»;
-  byteOffset = b .channel .«byte_offset»;
-  bitCount = b .channel .«bit_count»;
-  flags = b .channel .flags;
-  invalidationBit = b .channel .«pos_invalidation_bit»;
+  dataType = channelGiven (b .channel) .dataType;
+  bitOffset = channelGiven (b .channel) .bitOffset;
+  byteOffset = channelGiven (b .channel) .byteOffset;
+  bitCount = channelGiven (b .channel) .bitCount;
+  flags = channelGiven (b .channel) .flags;
+  invalidationBit = channelGiven (b .channel) .invalidationBit;
   precision = b .precision;
   reserved = b .reserved1;
   attachments = b .«attachment_nr»;
