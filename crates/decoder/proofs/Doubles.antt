@@ -76,7 +76,7 @@ module _ (s : List ℕ) (idSize : ℕ) (c : Channel) where
   pub double-other : {content : Content} → variableLength c ≡ false → formOf (c .dataType) ≡ Other content → nanPattern ≡ recordDouble s idSize c
   unfolding valueOf
   double-other p e =
-      either-way (kindOf (c .dataType)) (startOf idSize c) (spanOf s c) s c (λ (r : Reply Value). nanPattern ≡ doubleIn r) refl
+      either-way (kindOf (c .dataType)) (startOf idSize c) (spanOf s c) s c (λ (r : Reply Value). nanPattern ≡ doubleIn r) (λ n t. refl)
       (content-nan (startOf idSize c) (spanOf s c) e)
       ∙ double-fixed p
 

@@ -10,11 +10,12 @@ use lib.ListN.{length}
 use lib.Dec.{ltb, eqb}
 use lib.Pow.{pow-pos, pow-mono}
 use borrow.Author.Tests.{ltb-false}
-use Rattle.definitions.specs.Reply.{answer, if_then_else_}
+use Rattle.definitions.specs.Reply.{answer, refusal, if_then_else_, told}
 use Rattle.definitions.specs.Bytes.{numberOf, span, bytesFor}
 use Rattle.definitions.specs.Ieee754.{doubleOf, Nearest}
 use Rattle.definitions.specs.DataType.{DataType, Kind, kindOf}
-use Rattle.definitions.specs.Channel.{Channel, Value, unsigned, signed, double, text, bytes, sample, stream, unknownValue, variableLength, startOf, spanOf, numberIn, decoded, isInteger, isFloating, isNumber, noValue, valueBy, valueOf, doubleIn, recordDouble}
+use Rattle.definitions.specs.Channel.{Channel, Value, unsigned, signed, double, text, bytes, sample, stream, unknownValue, variableLength, startOf, spanOf, numberIn, decoded, isInteger, isFloating, isNumber, valueBy, valueOf, doubleIn, recordDouble}
+use Rattle.definitions.proofs.Replies.{not-answered}
 use Rattle.words.proofs.Bits.{field-below}
 use Rattle.doubles.proofs.Whole.{of-positive, of-negative}
 use Rattle.doubles.proofs.Nearest.{nearest}
@@ -58,17 +59,14 @@ answered k at n s c v e =
     go (isNumber k && eqb (c .bitCount) 0) (isNumber k && ltb 7 (c .bitOffset)) (isInteger k && ltb 64 (c .bitCount)) refl
     (ltb (length s) (at + n)) (isFloating k && not (eqb (c .bitCount) 32 || eqb (c .bitCount) 64)) e
   where
-    none : {d : Bool} → noValue {A = Value} ≡ answer v → (decoded (c .dataType) s at n c ≡ v) × (d ≡ false)
-    none h = let z : _≡_ {A = ℕ} 0 1 = cc in let no-way : ⊥ = omega arith in absurd no-way
-
     go : (a b d : Bool) → isInteger k && ltb 64 (c .bitCount) ≡ d → (f g : Bool)
-        → (if a then noValue else if b then noValue else if d then noValue else if f then noValue else if g then noValue else answer (decoded (c .dataType) s at n c)) ≡ answer v
+        → (if a then refusal 18 0 else if b then refusal 19 0 else if d then refusal 20 0 else if f then refusal 21 (told (at + n)) else if g then refusal 22 0 else answer (decoded (c .dataType) s at n c)) ≡ answer v
         → (decoded (c .dataType) s at n c ≡ v) × (isInteger k && ltb 64 (c .bitCount) ≡ false)
-    go true b d i f g h = none h
-    go false true d i f g h = none h
-    go false false true i f g h = none h
-    go false false false i true g h = none h
-    go false false false i false true h = none h
+    go true b d i f g h = not-answered v _ _ h
+    go false true d i f g h = not-answered v _ _ h
+    go false false true i f g h = not-answered v _ _ h
+    go false false false i true g h = not-answered v _ _ h
+    go false false false i false true h = not-answered v _ _ h
     go false false false i false false h = (cc, i)
 
 -- what an integer's bytes stand for, as an integer of a word and as a double

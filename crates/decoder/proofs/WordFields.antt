@@ -7,11 +7,11 @@ use native.Mathlib.Omega.{arith}
 use lib.ListN.{length, take, drop}
 use lib.Dec.{ltb, eqb}
 use borrow.Author.Tests.{le-ltb, lt-ltb, eq-eqb, ne-eqb}
-use Rattle.definitions.specs.Reply.{Reply, answer, if_then_else_}
+use Rattle.definitions.specs.Reply.{Reply, answer, refusal, if_then_else_}
 use Rattle.definitions.specs.Bytes.{Order, leOf, le, span, bits, bytesFor, numberOf, fieldAt}
 use Rattle.definitions.specs.Ieee754.{nanPattern}
 use Rattle.definitions.specs.DataType.{DataType, unsignedInteger, signedInteger, float, complex, string, byteArray, mimeSample, mimeStream, canOpenDate, canOpenTime, unknown, Kind, integer, floating, whole, undecoded, kindOf}
-use Rattle.definitions.specs.Channel.{Channel, Value, variableLength, startOf, bitSpan, spanIn, spanOf, floatBits, decoded, isNumber, isInteger, isFloating, noValue, valueBy, valueOf, doubleIn, recordDouble}
+use Rattle.definitions.specs.Channel.{Channel, Value, variableLength, startOf, bitSpan, spanIn, spanOf, floatBits, decoded, isNumber, isInteger, isFloating, valueBy, valueOf, doubleIn, recordDouble}
 use Rattle.fields.specs.Form.{orderMeant, formOf, formKind, numberKind, numberValue}
 use Rattle.fields.specs.Known.{valueAt, FieldTold, Fitting}
 use Rattle.fields.specs.declared.form.Number as numbers
@@ -113,7 +113,7 @@ module _ (s : List ℕ) (idSize : ℕ) (c : Channel) {word from : ℕ} (near : N
           record { told = record { value = sym by-form ∙ v .value; sound = v .sound } }
 
       -- or it is a float of a width that none has
-      near-refused : isFloating (numberKind number) && not (eqb (c .bitCount) 32 || eqb (c .bitCount) 64) ≡ true → valueOf s idSize c ≡ noValue
+      near-refused : isFloating (numberKind number) && not (eqb (c .bitCount) 32 || eqb (c .bitCount) 64) ≡ true → valueOf s idSize c ≡ refusal 22 0
       near-refused f =
           sym by-form ∙ ap (λ (n : ℕ). valueBy (numberKind number) at n s c) (sym (number-span number false (length s) c))
           ∙ no-float-width (numberKind number) at (bitSpan c) s c some low few inside f
@@ -265,7 +265,7 @@ laid-anew s idSize c payload {t} {d} ep et ed er =
 
 -- a number that no field can be has no double, and what is no number has none either
 module _ (s : List ℕ) (idSize : ℕ) (c : Channel) (fixed : variableLength c ≡ false) where
-  by-refusal : ((k : Kind) (at n : ℕ) → isNumber k ≡ true → valueBy k at n s c ≡ noValue) → nanPattern ≡ recordDouble s idSize c
+  by-refusal : ((k : Kind) (at n : ℕ) → isNumber k ≡ true → valueBy k at n s c ≡ refusal 18 0) → nanPattern ≡ recordDouble s idSize c
   by-refusal h = go (formOf (c .dataType)) refl
     where
       go : (f : Form) → formOf (c .dataType) ≡ f → nanPattern ≡ recordDouble s idSize c

@@ -6,7 +6,7 @@ use lib.IntN.{ℤ, pos}
 use lib.ListN.{length, getD}
 use lib.Dec.{ltb, eqb}
 use lib.Ieee.{Float, binary64, ofBits}
-use Rattle.definitions.specs.Reply.{Reply, answer, refusal, if_then_else_, andThen}
+use Rattle.definitions.specs.Reply.{Reply, answer, refusal, if_then_else_, andThen, told}
 use Rattle.definitions.specs.Bytes.{Order, span, bit, bytesFor, fieldAt, twosComplement}
 use Rattle.definitions.specs.Ieee754.{nanPattern, doubleOf, widened}
 use Rattle.definitions.specs.Unicode.{stopped}
@@ -98,19 +98,16 @@ isFloating undecoded = false
 abbrev pub isNumber : Kind → Bool
 isNumber k = isInteger k || isFloating k
 
--- 1: the field stands for nothing
-abbrev pub noValue : {A : Type 0} → Reply A
-noValue = refusal 1 0
-
--- the tests in turn: a number needs a bit, an offset inside its first byte, and as an integer no more than 64 bits; every
--- field has to end inside the slice; a float is a single or a double
+-- The tests in turn. 18: a number of no bits. 19: one that begins behind its first byte. 20: an integer of over 64 bits.
+-- 21: a field of any kind that ends outside the slice; told are the bytes that the slice needs, counted from its front.
+-- 22: a float that is neither a single nor a double
 unfoldable pub valueBy : Kind → ℕ → ℕ → List ℕ → Channel → Reply Value
 valueBy k at n s c =
-    if isNumber k && eqb (c .bitCount) 0 then noValue
-    else if isNumber k && ltb 7 (c .bitOffset) then noValue
-    else if isInteger k && ltb 64 (c .bitCount) then noValue
-    else if ltb (length s) (at + n) then noValue
-    else if isFloating k && not (eqb (c .bitCount) 32 || eqb (c .bitCount) 64) then noValue
+    if isNumber k && eqb (c .bitCount) 0 then refusal 18 0
+    else if isNumber k && ltb 7 (c .bitOffset) then refusal 19 0
+    else if isInteger k && ltb 64 (c .bitCount) then refusal 20 0
+    else if ltb (length s) (at + n) then refusal 21 (told (at + n))
+    else if isFloating k && not (eqb (c .bitCount) 32 || eqb (c .bitCount) 64) then refusal 22 0
     else answer (decoded (c .dataType) s at n c)
 
 unfoldable pub valueOf : List ℕ → ℕ → Channel → Reply Value

@@ -10,7 +10,7 @@ use Rattle.definitions.proofs.Replies.{one-by, not-answered}
 use Rattle.refusals.proofs.Back.{refusalOf, back}
 use Rattle.refusals.specs.Meaning.{refused}
 use Rattle.refusals.specs.declared.Refusal.{Refusal}
-use Rattle.refusals.specs.declared.Refusal.the-variants.{NoValue}
+use Rattle.refusals.specs.declared.Refusal.the-variants.{NoBits}
 use Rattle.blocks.proofs.Back.{typeBack, type-back}
 use Rattle.blocks.specs.declared.data_type.DataType.{DataType}
 use Rattle.fields.specs.declared.channel.Channel.{Channel}
@@ -85,7 +85,7 @@ valid-value-one = one-by validValueReply validValueRead valid-value-back
 
 -- a field is found in one place, or refused for one cause
 abbrev whyRefused : Reply Value → Refusal
-whyRefused (answer v) = NoValue
+whyRefused (answer v) = NoBits
 whyRefused (refusal n t) = refusalOf n t
 
 pub field-one : (k : Kind) (reply : Reply Value) (s : List ℕ) (c : channels.Channel) (at n : ℕ) (a b : FieldFound)

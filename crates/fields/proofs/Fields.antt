@@ -8,9 +8,9 @@ use native.Mathlib.Omega.{arith}
 use lib.ListN.{length}
 use lib.Dec.{ltb, eqb}
 use borrow.Author.Tests.{ltb-false, eqb-false}
-use Rattle.definitions.specs.Reply.{Reply, answer, if_then_else_}
+use Rattle.definitions.specs.Reply.{Reply, answer, refusal, if_then_else_, told}
 use Rattle.definitions.specs.DataType.{Kind, integer, floating, whole, undecoded}
-use Rattle.definitions.specs.Channel.{Channel, Value, decoded, isNumber, isInteger, isFloating, noValue, spanIn, valueBy}
+use Rattle.definitions.specs.Channel.{Channel, Value, decoded, isNumber, isInteger, isFloating, spanIn, valueBy}
 use Rattle.words.proofs.Bits.{field-below}
 use Rattle.definitions.specs.Bytes.{numberOf, span, bytesFor, fieldAt}
 use Rattle.fields.specs.Form.{orderMeant, numberKind, formKind}
@@ -25,11 +25,11 @@ use Rattle.fields.proofs.Tests.{float-width}
 -- the tests on a slice of l bytes, and v where they are passed
 abbrev pub tested : Kind → ℕ → ℕ → ℕ → Channel → Value → Reply Value
 tested k at n l c v =
-    if isNumber k && eqb (c .bitCount) 0 then noValue
-    else if isNumber k && ltb 7 (c .bitOffset) then noValue
-    else if isInteger k && ltb 64 (c .bitCount) then noValue
-    else if ltb l (at + n) then noValue
-    else if isFloating k && not (eqb (c .bitCount) 32 || eqb (c .bitCount) 64) then noValue
+    if isNumber k && eqb (c .bitCount) 0 then refusal 18 0
+    else if isNumber k && ltb 7 (c .bitOffset) then refusal 19 0
+    else if isInteger k && ltb 64 (c .bitCount) then refusal 20 0
+    else if ltb l (at + n) then refusal 21 (told (at + n))
+    else if isFloating k && not (eqb (c .bitCount) 32 || eqb (c .bitCount) 64) then refusal 22 0
     else answer v
 
 pub value-tested : (k : Kind) (at n : ℕ) (s : List ℕ) (c : Channel) → valueBy k at n s c ≡ tested k at n (length s) c (decoded (c .dataType) s at n c)
@@ -38,27 +38,27 @@ value-tested k at n s c = refl
 
 -- each test in turn refuses
 module _ (k : Kind) (at n : ℕ) (s : List ℕ) (c : Channel) where
-  pub no-bits : isNumber k && eqb (c .bitCount) 0 ≡ true → valueBy k at n s c ≡ noValue
+  pub no-bits : isNumber k && eqb (c .bitCount) 0 ≡ true → valueBy k at n s c ≡ refusal 18 0
   unfolding valueBy
   no-bits a = rw a
 
-  pub past-a-byte : isNumber k && eqb (c .bitCount) 0 ≡ false → isNumber k && ltb 7 (c .bitOffset) ≡ true → valueBy k at n s c ≡ noValue
+  pub past-a-byte : isNumber k && eqb (c .bitCount) 0 ≡ false → isNumber k && ltb 7 (c .bitOffset) ≡ true → valueBy k at n s c ≡ refusal 19 0
   unfolding valueBy
   past-a-byte a b = rw (a, b)
 
   pub over-a-word : isNumber k && eqb (c .bitCount) 0 ≡ false → isNumber k && ltb 7 (c .bitOffset) ≡ false
-      → isInteger k && ltb 64 (c .bitCount) ≡ true → valueBy k at n s c ≡ noValue
+      → isInteger k && ltb 64 (c .bitCount) ≡ true → valueBy k at n s c ≡ refusal 20 0
   unfolding valueBy
   over-a-word a b d = rw (a, b, d)
 
   pub ends-outside : isNumber k && eqb (c .bitCount) 0 ≡ false → isNumber k && ltb 7 (c .bitOffset) ≡ false
-      → isInteger k && ltb 64 (c .bitCount) ≡ false → ltb (length s) (at + n) ≡ true → valueBy k at n s c ≡ noValue
+      → isInteger k && ltb 64 (c .bitCount) ≡ false → ltb (length s) (at + n) ≡ true → valueBy k at n s c ≡ refusal 21 (told (at + n))
   unfolding valueBy
   ends-outside a b d e = rw (a, b, d, e)
 
   pub no-float-width : isNumber k && eqb (c .bitCount) 0 ≡ false → isNumber k && ltb 7 (c .bitOffset) ≡ false
       → isInteger k && ltb 64 (c .bitCount) ≡ false → ltb (length s) (at + n) ≡ false
-      → isFloating k && not (eqb (c .bitCount) 32 || eqb (c .bitCount) 64) ≡ true → valueBy k at n s c ≡ noValue
+      → isFloating k && not (eqb (c .bitCount) 32 || eqb (c .bitCount) 64) ≡ true → valueBy k at n s c ≡ refusal 22 0
   unfolding valueBy
   no-float-width a b d e f = rw (a, b, d, e, f)
 
@@ -68,20 +68,20 @@ module _ (k : Kind) (at n : ℕ) (s : List ℕ) (c : Channel) where
   unfolding valueBy
   passed a b d e f = rw (a, b, d, e, f)
 
-  -- so there is no value, or there is one
-  pub either-way : (P : Reply Value → Type 0) → P noValue → P (answer (decoded (c .dataType) s at n c)) → P (valueBy k at n s c)
+  -- so there is a refusal, or what the bytes stand for
+  pub either-way : (P : Reply Value → Type 0) → ((number t : ℕ) → P (refusal number t)) → P (answer (decoded (c .dataType) s at n c)) → P (valueBy k at n s c)
   unfolding valueBy
   either-way P none some =
       go (isNumber k && eqb (c .bitCount) 0) (isNumber k && ltb 7 (c .bitOffset)) (isInteger k && ltb 64 (c .bitCount))
       (ltb (length s) (at + n)) (isFloating k && not (eqb (c .bitCount) 32 || eqb (c .bitCount) 64))
     where
       go : (a b d e f : Bool)
-          → P (if a then noValue else if b then noValue else if d then noValue else if e then noValue else if f then noValue else answer (decoded (c .dataType) s at n c))
-      go true b d e f = none
-      go false true d e f = none
-      go false false true e f = none
-      go false false false true f = none
-      go false false false false true = none
+          → P (if a then refusal 18 0 else if b then refusal 19 0 else if d then refusal 20 0 else if e then refusal 21 (told (at + n)) else if f then refusal 22 0 else answer (decoded (c .dataType) s at n c))
+      go true b d e f = none 18 0
+      go false true d e f = none 19 0
+      go false false true e f = none 20 0
+      go false false false true f = none 21 (told (at + n))
+      go false false false false true = none 22 0
       go false false false false false = some
 
 -- and past them all the field is sound

@@ -1,18 +1,17 @@
 -- A fixed field's value is determined by its own bits: a number's by the bits from the bit offset on, any other's by its bytes.
 use mathlib.Core.Path.{_≡_, refl, sym, ap, ap₂, _∙_}
-use mathlib.Core.Bool.{Bool, true, false, _&&_, true≢false}
+use mathlib.Core.Bool.{Bool, true, false, true≢false}
 use mathlib.Core.List.{List}
 use Prim.Native.Nat.{ℕ, _+_, _≤_, _<_}
 use native.Mathlib.Omega.{arith}
 use lib.ListN.{length, getD}
 use lib.Seq.{ext-getD}
-use lib.Dec.{ltb, eqb}
+use lib.Dec.{ltb}
 use borrow.Author.Tests.{ltb-false}
-use Rattle.definitions.specs.Reply.{if_then_else_}
 use Rattle.definitions.specs.Bytes.{Order, little, span, bytesFor}
 use Rattle.definitions.specs.Unicode.{stopped}
 use Rattle.definitions.specs.DataType.{DataType, unsignedInteger, signedInteger, float, complex, string, byteArray, mimeSample, mimeStream, canOpenDate, canOpenTime, unknown, Kind, integer, floating, whole, undecoded, kindOf}
-use Rattle.definitions.specs.Channel.{Channel, Value, unsigned, signed, text, variableLength, bitSpan, spanIn, doubleValue, floatBits, numberIn, decoded, isInteger, isNumber, noValue, valueBy, valueOf}
+use Rattle.definitions.specs.Channel.{Channel, Value, unsigned, signed, text, variableLength, bitSpan, spanIn, doubleValue, floatBits, numberIn, decoded, isNumber, valueBy, valueOf}
 use Rattle.definitions.specs.Bytes.{twosComplement}
 use Rattle.words.proofs.Numbers.{Bytes}
 use Rattle.words.proofs.Locality as words
@@ -54,24 +53,14 @@ module _ (k : Kind) (at n : ℕ) (c : Channel) where
   by-parts : (s t : List ℕ) → length s ≡ length t → decoded (c .dataType) s at n c ≡ decoded (c .dataType) t at n c → valueBy k at n s c ≡ valueBy k at n t c
   by-parts s t el ev = value-tested k at n s c ∙ ap₂ (λ (l : ℕ) (v : Value). tested k at n l c v) el ev ∙ sym (value-tested k at n t c)
 
-  -- a field that ends outside has none
-  outside : (s : List ℕ) → ltb (length s) (at + n) ≡ true → valueBy k at n s c ≡ noValue
-  unfolding valueBy
-  outside s e = rw e (go (isNumber k && eqb (c .bitCount) 0) (isNumber k && ltb 7 (c .bitOffset)) (isInteger k && ltb 64 (c .bitCount)))
-    where
-      go : (a b d : Bool) → (if a then noValue {A = Value} else if b then noValue else if d then noValue else noValue) ≡ noValue
-      go true b d = refl
-      go false true d = refl
-      go false false true = refl
-      go false false false = refl
-
   -- so what the bytes stand for matters only where the field is inside
   by-end : (s t : List ℕ) → length s ≡ length t → (at + n ≤ length s → decoded (c .dataType) s at n c ≡ decoded (c .dataType) t at n c)
       → valueBy k at n s c ≡ valueBy k at n t c
+  unfolding valueBy
   by-end s t el inside = go (ltb (length s) (at + n)) refl
     where
       go : (b : Bool) → ltb (length s) (at + n) ≡ b → valueBy k at n s c ≡ valueBy k at n t c
-      go true e = outside s e ∙ sym (outside t (sym (ap (λ (l : ℕ). ltb l (at + n)) el) ∙ e))
+      go true e = let f : ltb (length t) (at + n) ≡ true = sym (ap (λ (l : ℕ). ltb l (at + n)) el) ∙ e in rw (e, f)
       go false e = by-parts s t el (inside (ltb-false _ _ e))
 
 module _ (s t : List ℕ) (idSize : ℕ) (c : Channel) (fixed : variableLength c ≡ false) (number : isNumber (kindOf (c .dataType)) ≡ true) where

@@ -11,6 +11,7 @@ ghost use Rattle.fields.specs.Known.{valueAt, FieldTold, FieldPlaced};
 use crate::channel::Channel;
 use crate::form::Form;
 use crate::form::Number;
+use crate::span::bytes_needed;
 use crate::span::ends_outside;
 use crate::span::span_in;
 use refusals::Refusal;
@@ -28,7 +29,7 @@ impl FieldFound {
     {
         match self {
             FieldFound::Refused(why) => why,
-            FieldFound::Field { .. } => Refusal::NoValue,
+            FieldFound::Field { .. } => Refusal::NoBits,
         }
     }
 }
@@ -98,20 +99,21 @@ pub fn find_field(
     ensures { λ r. ⌜ FieldTold (formKind form) (valueAt (formKind form) payload (now («record» .entry)) (skipped + «byte_offset») (channelMeant channel)) (now («record» .entry)) (channelMeant channel) r × FieldPlaced (skipped + «byte_offset») (spanIn payload (formKind form) (length (now («record» .entry))) (channelMeant channel)) r ⌝ }
 {
     if has_no_bits(form, channel.bit_count) {
-        return FieldFound::Refused(Refusal::NoValue);
+        return FieldFound::Refused(Refusal::NoBits);
     }
     if starts_past_a_byte(form, channel.bit_offset) {
-        return FieldFound::Refused(Refusal::NoValue);
+        return FieldFound::Refused(Refusal::BadBitOffset);
     }
     if is_over_a_word(form, channel.bit_count) {
-        return FieldFound::Refused(Refusal::NoValue);
+        return FieldFound::Refused(Refusal::IntegerTooWide);
     }
     let length = span_in(payload, form, record.len(), channel);
     if ends_outside(record.len(), skipped, byte_offset, length) {
-        return FieldFound::Refused(Refusal::NoValue);
+        let needed = bytes_needed(skipped, byte_offset, length);
+        return FieldFound::Refused(Refusal::FieldOutside(needed));
     }
     if is_no_float_width(form, channel.bit_count) {
-        return FieldFound::Refused(Refusal::NoValue);
+        return FieldFound::Refused(Refusal::BadFloatWidth);
     }
     FieldFound::Field {
         at: skipped + byte_offset,

@@ -1,7 +1,8 @@
-// How many bytes a field takes, and whether they end inside the slice.
+// How many bytes a field takes, whether they end inside the slice, and how many that would need.
 ghost use mathlib.Core.Path.{_≡_};
 ghost use Prim.Native.Nat.{_+_};
 ghost use lib.Dec.{ltb};
+ghost use Rattle.definitions.specs.Reply.{told};
 ghost use Rattle.definitions.specs.Channel.{bitSpan, spanIn};
 ghost use Rattle.fields.specs.Meaning.{channelMeant};
 ghost use Rattle.fields.specs.Form.{contentKind, formKind};
@@ -54,4 +55,22 @@ pub(crate) fn ends_outside(length: usize, skipped: usize, byte_offset: usize, sp
         return true;
     }
     left - byte_offset < span
+}
+
+// The sum, or the largest number where that is larger
+fn sum_told(a: u64, b: u64) -> u64
+    ensures { λ r. ⌜ r ≡ told (a + b) ⌝ }
+{
+    if b <= 18446744073709551615 - a {
+        a + b
+    } else {
+        18446744073709551615
+    }
+}
+
+// The bytes, from its front, of a slice that would hold the field
+pub(crate) fn bytes_needed(skipped: usize, byte_offset: usize, span: usize) -> u64
+    ensures { λ r. ⌜ r ≡ told (skipped + «byte_offset» + span) ⌝ }
+{
+    sum_told(sum_told(skipped as u64, byte_offset as u64), span as u64)
 }

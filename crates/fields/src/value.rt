@@ -27,7 +27,7 @@ impl ValueRead {
     {
         match self {
             ValueRead::Refused(why) => why,
-            ValueRead::Value(_) => Refusal::NoValue,
+            ValueRead::Value(_) => Refusal::NoBits,
         }
     }
 }
@@ -50,7 +50,7 @@ impl ValidValueRead {
     {
         match self {
             ValidValueRead::Refused(why) => why,
-            ValidValueRead::Value(_) => Refusal::NoValue,
+            ValidValueRead::Value(_) => Refusal::NoBits,
         }
     }
 }

@@ -5,20 +5,19 @@ use Prim.Native.Nat.{ℕ}
 use lib.ListN.{getD}
 use Rattle.refusals.specs.Meaning.{refusalNumber, toldOf}
 use Rattle.refusals.specs.declared.Refusal.{Refusal}
-use Rattle.refusals.specs.declared.Refusal.the-variants.{NoValue, TooFewBytes, OtherId, NoLinks, UnwritableList, NoRoom, FileTooLong, TooManyLists, TooManyFragments, ListDisagrees, NoBlockThere, BadDataBlock, UntrueDeclaration, DataTooLong, BadRecordSize, NoSuchRecord, TooFewLinks}
+use Rattle.refusals.specs.declared.Refusal.the-variants.{TooFewBytes, OtherId, NoLinks, UnwritableList, NoRoom, FileTooLong, TooManyLists, TooManyFragments, ListDisagrees, NoBlockThere, BadDataBlock, UntrueDeclaration, DataTooLong, BadRecordSize, NoSuchRecord, TooFewLinks, NoBits, BadBitOffset, IntegerTooWide, FieldOutside, BadFloatWidth}
 
--- the refusals by their numbers, where they tell t
+-- the refusals by their numbers, where they tell t; no refusal has 0 or 1
 abbrev pub numbered : ℕ → List Refusal
 numbered t =
-    NoValue ∷ NoValue ∷ TooFewBytes t ∷ OtherId ∷ NoLinks ∷ UnwritableList ∷ NoRoom t ∷ FileTooLong ∷ TooManyLists
+    OtherId ∷ OtherId ∷ TooFewBytes t ∷ OtherId ∷ NoLinks ∷ UnwritableList ∷ NoRoom t ∷ FileTooLong ∷ TooManyLists
     ∷ TooManyFragments ∷ ListDisagrees ∷ NoBlockThere ∷ BadDataBlock ∷ UntrueDeclaration ∷ DataTooLong ∷ BadRecordSize
-    ∷ NoSuchRecord ∷ TooFewLinks ∷ []
+    ∷ NoSuchRecord ∷ TooFewLinks ∷ NoBits ∷ BadBitOffset ∷ IntegerTooWide ∷ FieldOutside t ∷ BadFloatWidth ∷ []
 
 abbrev pub refusalOf : ℕ → ℕ → Refusal
-refusalOf n t = getD (numbered t) n NoValue
+refusalOf n t = getD (numbered t) n OtherId
 
 pub back : (r : Refusal) → refusalOf (refusalNumber r) (toldOf r) ≡ r
-back NoValue = refl
 back (TooFewBytes n) = refl
 back OtherId = refl
 back NoLinks = refl
@@ -35,6 +34,11 @@ back DataTooLong = refl
 back BadRecordSize = refl
 back NoSuchRecord = refl
 back TooFewLinks = refl
+back NoBits = refl
+back BadBitOffset = refl
+back IntegerTooWide = refl
+back (FieldOutside n) = refl
+back BadFloatWidth = refl
 
 pub one : (a b : Refusal) → refusalNumber a ≡ refusalNumber b → toldOf a ≡ toldOf b → a ≡ b
 one a b p q = sym (back a) ∙ ap₂ refusalOf p q ∙ back b

@@ -2,10 +2,9 @@
 use Prim.Native.Nat.{ℕ}
 use Rattle.definitions.specs.Reply.{Reply, refusal}
 use Rattle.refusals.specs.declared.Refusal.{Refusal}
-use Rattle.refusals.specs.declared.Refusal.the-variants.{NoValue, TooFewBytes, OtherId, NoLinks, UnwritableList, NoRoom, FileTooLong, TooManyLists, TooManyFragments, ListDisagrees, NoBlockThere, BadDataBlock, UntrueDeclaration, DataTooLong, BadRecordSize, NoSuchRecord, TooFewLinks}
+use Rattle.refusals.specs.declared.Refusal.the-variants.{TooFewBytes, OtherId, NoLinks, UnwritableList, NoRoom, FileTooLong, TooManyLists, TooManyFragments, ListDisagrees, NoBlockThere, BadDataBlock, UntrueDeclaration, DataTooLong, BadRecordSize, NoSuchRecord, TooFewLinks, NoBits, BadBitOffset, IntegerTooWide, FieldOutside, BadFloatWidth}
 
 abbrev pub refusalNumber : Refusal → ℕ
-refusalNumber NoValue = 1
 refusalNumber (TooFewBytes n) = 2
 refusalNumber OtherId = 3
 refusalNumber NoLinks = 4
@@ -22,9 +21,13 @@ refusalNumber DataTooLong = 14
 refusalNumber BadRecordSize = 15
 refusalNumber NoSuchRecord = 16
 refusalNumber TooFewLinks = 17
+refusalNumber NoBits = 18
+refusalNumber BadBitOffset = 19
+refusalNumber IntegerTooWide = 20
+refusalNumber (FieldOutside n) = 21
+refusalNumber BadFloatWidth = 22
 
 abbrev pub toldOf : Refusal → ℕ
-toldOf NoValue = 0
 toldOf (TooFewBytes n) = n
 toldOf OtherId = 0
 toldOf NoLinks = 0
@@ -41,6 +44,11 @@ toldOf DataTooLong = 0
 toldOf BadRecordSize = 0
 toldOf NoSuchRecord = 0
 toldOf TooFewLinks = 0
+toldOf NoBits = 0
+toldOf BadBitOffset = 0
+toldOf IntegerTooWide = 0
+toldOf (FieldOutside n) = n
+toldOf BadFloatWidth = 0
 
 abbrev pub refused : {A : Type 0} → Refusal → Reply A
 refused r = refusal (refusalNumber r) (toldOf r)

@@ -1,10 +1,8 @@
-// The numbered refusals, as one enum that every crate's answers share.
+// The numbered refusals, as one enum that every crate's answers share. 1 was given once, and is given no more.
 ghost use mathlib.Core.Path.{_≡_};
 ghost use Rattle.refusals.specs.Meaning.{refusalNumber, toldOf};
 
 pub enum Refusal {
-    // 1
-    NoValue,
     // 2, with the bytes that the block needs
     TooFewBytes(u64),
     // 3
@@ -37,6 +35,16 @@ pub enum Refusal {
     NoSuchRecord,
     // 17
     TooFewLinks,
+    // 18
+    NoBits,
+    // 19
+    BadBitOffset,
+    // 20
+    IntegerTooWide,
+    // 21, with the bytes that the slice needs
+    FieldOutside(u64),
+    // 22
+    BadFloatWidth,
 }
 
 impl Refusal {
@@ -44,7 +52,6 @@ impl Refusal {
         ensures { λ r. ⌜ r ≡ refusalNumber self ⌝ }
     {
         match self {
-            Refusal::NoValue => 1,
             Refusal::TooFewBytes(_) => 2,
             Refusal::OtherId => 3,
             Refusal::NoLinks => 4,
@@ -61,6 +68,11 @@ impl Refusal {
             Refusal::BadRecordSize => 15,
             Refusal::NoSuchRecord => 16,
             Refusal::TooFewLinks => 17,
+            Refusal::NoBits => 18,
+            Refusal::BadBitOffset => 19,
+            Refusal::IntegerTooWide => 20,
+            Refusal::FieldOutside(_) => 21,
+            Refusal::BadFloatWidth => 22,
         }
     }
 
@@ -69,7 +81,6 @@ impl Refusal {
         ensures { λ r. ⌜ r ≡ toldOf self ⌝ }
     {
         match self {
-            Refusal::NoValue => 0,
             Refusal::TooFewBytes(n) => n,
             Refusal::OtherId => 0,
             Refusal::NoLinks => 0,
@@ -86,6 +97,11 @@ impl Refusal {
             Refusal::BadRecordSize => 0,
             Refusal::NoSuchRecord => 0,
             Refusal::TooFewLinks => 0,
+            Refusal::NoBits => 0,
+            Refusal::BadBitOffset => 0,
+            Refusal::IntegerTooWide => 0,
+            Refusal::FieldOutside(n) => n,
+            Refusal::BadFloatWidth => 0,
         }
     }
 }

@@ -1,6 +1,6 @@
 -- The tests in turn, each with what the ones before it left.
 use borrow.Author.Needs.{needs}
-use mathlib.Core.Path.{_≡_, refl, sym, _∙_}
+use mathlib.Core.Path.{_≡_, refl, sym, ap, _∙_}
 use mathlib.Core.Bool.{false, _&&_}
 use native.Mathlib.Omega.{arith}
 use Prim.Native.Nat.{_+_}
@@ -8,10 +8,11 @@ use lib.ListN.{length}
 use lib.Dec.{ltb, eqb}
 use denote.Ref.{now}
 use borrow.Author.Tests.{ltb-false}
+use Rattle.definitions.specs.Reply.{refusal}
 use Rattle.definitions.specs.Channel.{isNumber, isInteger}
 use Rattle.fields.specs.Form.{formKind}
 use Rattle.fields.proofs.Fields.{no-bits, past-a-byte, over-a-word, ends-outside, no-float-width, found}
-use Rattle.fields.proofs.Tests.{same-end}
+use Rattle.fields.proofs.Tests.{same-end, same-needed}
 use Rattle.fields.proofs.field.find_field.Statement.{statement}
 use Rattle.fields.proofs.field.find_field.Tie as tie
 
@@ -39,14 +40,16 @@ returns-3 c = (
 )
 
 returns-4 : tie.Need-returns-4
-returns-4 c = (
-  record {
-    told =
-        ends-outside _ _ _ _ _ (some-bits (c .before .before .before .before .before .before .before)) (in-a-byte (c .before .before .before .before .before)) (in-a-word (c .before .before .before))
-        (same-end _ _ _ (c .before .before .span-in .ensures) (c .before .ends-outside .ensures) ∙ c .if4 .taken);
-  },
-  tt,
-)
+returns-4 c =
+    let e = c .before in (
+      record {
+        told =
+            ends-outside _ _ _ _ _ (some-bits (e .before .before .before .before .before .before .before)) (in-a-byte (e .before .before .before .before .before)) (in-a-word (e .before .before .before))
+            (same-end _ _ _ (e .before .before .span-in .ensures) (e .before .ends-outside .ensures) ∙ e .if4 .taken)
+            ∙ ap (refusal 21) (same-needed _ _ (e .before .before .span-in .ensures) (c .bytes-needed .ensures));
+      },
+      tt,
+    )
 
 returns-5 : tie.Need-returns-5
 returns-5 c =
@@ -60,8 +63,8 @@ returns-5 c =
       tt,
     )
 
-add-t14 : tie.Need-add-t14
-add-t14 c =
+add-t15 : tie.Need-add-t15
+add-t15 c =
     let e = c .before .before in
     let a = e .before .before .before .before .before .before .before .before .before .before .args in
     omega
@@ -91,8 +94,9 @@ find-field-spec =
     returns-3
     (λ c κs. search needs)
     (λ c κs. search needs)
+    (λ c κs. search needs)
     returns-4
     (λ c κs. search needs)
     returns-5
-    add-t14
+    add-t15
     returns-6)
