@@ -160,18 +160,18 @@ passed-width : (w : ℕ) → not (eqb w 32 || eqb w 64) ≡ false → (w ≡ 32)
 passed-width w h = width-told w (either (eqb w 32) (eqb w 64) (not-false _ h))
 
 module _ (s : List ℕ) (at n : ℕ) (c : Channel) where
-  inside-exactly : {Q : Type 0} (r : Reply Value) → Exactly Q r → Exactly ((at + n ≤ length s) × Q) (if ltb (length s) (at + n) then refusal 1 0 else r)
-  inside-exactly r h = not-under (length s) (at + n) 1 0 r h
+  inside-exactly : {Q : Type 0} (r : Reply Value) → Exactly Q r → Exactly ((at + n ≤ length s) × Q) (if ltb (length s) (at + n) then refusal 21 (told (at + n)) else r)
+  inside-exactly r h = not-under (length s) (at + n) 21 (told (at + n)) r h
 
   by-kind : (k : Kind) → Exactly (Legal k c × (at + n ≤ length s)) (valueBy k at n s c)
   unfolding valueBy
   by-kind integer =
       same (λ p. (λ z. omega (arith, p .0 .0, z), (p .0 .2, (p .0 .1, (p .1, tt))))) (λ p. ((omega (arith, p .0), p .1 .1 .0, p .1 .0), p .1 .1 .1 .0))
-      (not-equal (c .bitCount) 0 1 0 _ (not-under 7 (c .bitOffset) 1 0 _ (not-under 64 (c .bitCount) 1 0 _ (inside-exactly _ (always _)))))
+      (not-equal (c .bitCount) 0 18 0 _ (not-under 7 (c .bitOffset) 19 0 _ (not-under 64 (c .bitCount) 20 0 _ (inside-exactly _ (always _)))))
   by-kind floating =
       same (λ p. (some (p .0 .0), (p .0 .1, (p .1, (p .0 .0, tt))))) (λ p. ((p .1 .1 .1 .0, p .1 .0), p .1 .1 .0))
-      (not-equal (c .bitCount) 0 1 0 _ (not-under 7 (c .bitOffset) 1 0 _ (inside-exactly _
-      (passing _ 1 0 _ (width-passes (c .bitCount)) (passed-width (c .bitCount)) (always _)))))
+      (not-equal (c .bitCount) 0 18 0 _ (not-under 7 (c .bitOffset) 19 0 _ (inside-exactly _
+      (passing _ 22 0 _ (width-passes (c .bitCount)) (passed-width (c .bitCount)) (always _)))))
     where
       some : (c .bitCount ≡ 32) ⊎ (c .bitCount ≡ 64) → c .bitCount ≡ 0 → ⊥
       some (inl e) z = omega arith

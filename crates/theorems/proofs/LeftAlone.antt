@@ -3,7 +3,7 @@
 use mathlib.Core.Path.{_≡_, refl, sym, ap, _∙_, subst}
 use mathlib.Core.Bool.{Bool, true, false}
 use mathlib.Core.List.{List, _++_}
-use Prim.Native.Nat.{ℕ, _+_, _*_, _≤_}
+use Prim.Native.Nat.{ℕ, _+_, _*_, _≤_, _<_}
 use native.Mathlib.Omega.{arith}
 use lib.ListN.{length, drop, length-append, length-drop}
 use lib.Seq.{drop-append-seam}
@@ -122,8 +122,8 @@ module _ (out f : List ℕ) (start k size idSize dataBytes : ℕ) (c : Channel) 
   unfolding valueFetched
   as-fetched = refl
 
-  -- so where its refusal is not the field's 1, all of the buffer, and else what is behind the record
-  pub value-spares : (n t : ℕ) → valueFetched f start k size idSize dataBytes c out .reply ≡ refusal n t → (n ≡ 1 → ⊥)
+  -- so where its refusal is not about the field, all of the buffer, and else what is behind the record
+  pub value-spares : (n t : ℕ) → valueFetched f start k size idSize dataBytes c out .reply ≡ refusal n t → n < 18
       → valueFetched f start k size idSize dataBytes c out .buffer ≡ out
   value-spares n t e other =
       as-fetched ∙ fetch-leaves out f start k size .refused n t (other-of-fetch f start k size out idSize dataBytes c n t e other)

@@ -2,7 +2,7 @@
 -- it reports. A field that is refused leaves the record that was fetched. Each theorem is about the call's own clause.
 use mathlib.Core.Path.{_≡_, sym, ap, _∙_, subst}
 use mathlib.Core.List.{List, _++_}
-use Prim.Native.Nat.{ℕ, _*_}
+use Prim.Native.Nat.{ℕ, _*_, _<_}
 use lib.ListN.{drop}
 use contract.Lifetimes.{Lfts}
 use Rattle.definitions.specs.Reply.{Reply, Outcome, answer, refusal}
@@ -82,11 +82,11 @@ module _ (κs : Lfts 2) (file : Slice) (start : FileAddress) (number size : ℕ)
   pub record-read-spares : Sparing (ReadsRecord κs file start number size out) (λ y. Refused (recordReply y)) (λ y. reported (λ u. size) (recordReply y)) (out .now)
   record-read-spares = sparing recordReply (λ u. size) _ (out .now) (fetch-leaves (out .now) (file .now) (start .0) number size)
 
--- ---- a value of a record: a refusal of another number than 1 leaves every byte, and else the record is in the buffer's front
+-- ---- a value of a record: a refusal with less than 18 leaves every byte, and else the record is in the buffer's front
 
 module _ (κs : Lfts 2) (file : Slice) (start : FileAddress) (number size idSize dataBytes : ℕ) (channel : Channel) (out : Slice) where
   pub record-value-spares : Sparing (ReadsRecordValue κs file start number size idSize dataBytes channel out)
-      (λ y. (n : ℕ) × (t : ℕ) × (validValueReply y ≡ refusal n t) × (n ≡ 1 → ⊥)) (λ y. size) (out .now)
+      (λ y. (n : ℕ) × (t : ℕ) × (validValueReply y ≡ refusal n t) × (n < 18)) (λ y. size) (out .now)
   record-value-spares y after p =
       let same = ap (λ x. x .buffer) p in
       let replied = sym (ap (λ x. x .reply) p) in

@@ -3,7 +3,7 @@
 use mathlib.Core.Path.{_≡_, refl, sym, ap, _∙_, subst}
 use mathlib.Core.Logic.{_⊎_, inl, inr}
 use mathlib.Core.List.{List, _++_}
-use Prim.Native.Nat.{ℕ, _*_}
+use Prim.Native.Nat.{ℕ, _*_, _≤_, _<_}
 use native.Mathlib.Omega.{arith}
 use contract.Lifetimes.{Lfts}
 use lib.ListN.{drop}
@@ -83,7 +83,7 @@ record-read-spares κs file start number size out =
     sparing fetchedC (λ (y : Mf4Fetched). y .reply) (λ y. size) (λ u. size) (λ u. refl) (λ u. refl)
     _ (out .now) (fetch-leaves (out .now) (file .now) start number size)
 
--- ---- a value of a record: a reply other than 0 and 1 leaves every byte, and else the record is in the buffer's front
+-- ---- a value of a record: a reply from 1 to 17 leaves every byte, and else the record is in the buffer's front
 
 module _ (κs : Lfts 2) (file : Slice) (start number size idSize dataBytes : ℕ) (channel : Mf4Channel) (out : Slice) where
   abbrev given : Outcome ValidValue
@@ -92,27 +92,27 @@ module _ (κs : Lfts 2) (file : Slice) (start number size idSize dataBytes : ℕ
   abbrev Says : Mf4ValidValue → List ℕ → Type 0
   Says = ReadsRecordValueC κs file start number size idSize dataBytes channel out
 
-  spared : (r : Reply ValidValue) → given .reply ≡ r → (validValueC r .reply ≡ 0 → ⊥) × (validValueC r .reply ≡ 1 → ⊥) → given .buffer ≡ out .now
-  spared (answer v) e other = absurd (other .0 refl)
+  spared : (r : Reply ValidValue) → given .reply ≡ r → (0 < validValueC r .reply) × (validValueC r .reply < 18) → given .buffer ≡ out .now
+  spared (answer v) e other = let no : ⊥ = omega (arith, other .0) in absurd no
   spared (refusal n t) e other = value-spares (out .now) (file .now) start number size idSize dataBytes (channelGiven channel) n t e (other .1)
 
-  of-field : (r : Reply ValidValue) → Numbered Some r → (validValueC r .reply ≡ 0) ⊎ (validValueC r .reply ≡ 1) → OfField r
+  of-field : (r : Reply ValidValue) → Numbered Some r → (validValueC r .reply ≡ 0) ⊎ (18 ≤ validValueC r .reply) → OfField r
   of-field (answer v) some e = tt
   of-field (refusal n t) some (inl z) = let no : ⊥ = omega (arith, some n t refl) in absurd no
-  of-field (refusal n t) some (inr one) = one
+  of-field (refusal n t) some (inr from) = from
 
-  pub record-value-spares : Sparing Says (λ y. (y .reply ≡ 0 → ⊥) × (y .reply ≡ 1 → ⊥)) (λ y. size) (out .now)
+  pub record-value-spares : Sparing Says (λ y. (0 < y .reply) × (y .reply < 18)) (λ y. size) (out .now)
   record-value-spares y after p =
-      subst (λ (x : Returned Mf4ValidValue). Spares ((x .result .reply ≡ 0 → ⊥) × (x .result .reply ≡ 1 → ⊥)) size (out .now) (x .buffer)) (sym p)
+      subst (λ (x : Returned Mf4ValidValue). Spares ((0 < x .result .reply) × (x .result .reply < 18)) size (out .now) (x .buffer)) (sym p)
       (record {
         refused = λ other. spared (given .reply) refl other;
         behind = value-behind (out .now) (file .now) start number size idSize dataBytes (channelGiven channel);
       })
 
-  pub record-value-holds : (y : Mf4ValidValue) (after : List ℕ) → Says y after → (y .reply ≡ 0) ⊎ (y .reply ≡ 1)
+  pub record-value-holds : (y : Mf4ValidValue) (after : List ℕ) → Says y after → (y .reply ≡ 0) ⊎ (18 ≤ y .reply)
       → (h : Fetchable (file .now) start number size (out .now)) × (after ≡ span (joined (file .now) (h .blocks)) (number * size) size ++ drop size (out .now))
   record-value-holds y after p e =
-      let told = subst (λ (x : Returned Mf4ValidValue). (x .result .reply ≡ 0) ⊎ (x .result .reply ≡ 1)) p e in
+      let told = subst (λ (x : Returned Mf4ValidValue). (x .result .reply ≡ 0) ⊎ (18 ≤ x .result .reply)) p e in
       let some = value-fetched-numbered (file .now) start number size (out .now) idSize dataBytes (channelGiven channel) in
       let h = value-holds (out .now) (file .now) start number size idSize dataBytes (channelGiven channel) (of-field (given .reply) some told) in
       (h .0, ap (λ (x : Returned Mf4ValidValue). x .buffer) p ∙ h .1)

@@ -1,4 +1,4 @@
--- Which numbers refusals have: a field's is 1, and every other one is from 2 on. So a reply of 0 is an answer, and a reply of 1
+-- Which numbers refusals have: a field's are 18 to 22, and all others 2 to 17. So a reply of 0 is an answer, and one from 18 on
 -- is about a field.
 use mathlib.Core.Path.{_≡_, refl, sym}
 use mathlib.Core.Bool.{Bool, true, false, not, _&&_, _||_}
@@ -6,7 +6,8 @@ use mathlib.Core.List.{List, [], _∷_, _++_}
 use Prim.Native.Nat.{ℕ, zero, suc, _+_, _*_, _≤_, _<_}
 use native.Mathlib.Omega.{arith}
 use lib.ListN.{length, take, drop}
-use lib.Dec.{ltb, eqb}
+use lib.Dec.{ltb, leb, eqb}
+use borrow.Author.Tests.{leb-true}
 use Rattle.definitions.specs.Reply.{Reply, Outcome, answer, refusal, if_then_else_, andThen, told, writing}
 use Rattle.definitions.specs.Bytes.{u64At, idAt}
 use Rattle.definitions.specs.Unicode.{Encoding, textOf, writtenText, textWritten}
@@ -16,7 +17,7 @@ use Rattle.definitions.specs.DataList.{DataList, Lengths, idDL, listOf, linksOf
 use Rattle.definitions.specs.ChannelBlock.{ChannelBlock, idCN, fieldsAt, fieldsOf, channelBlockOf, channelBytes, channelWritten}
 use Rattle.definitions.specs.Channel.{Channel, ValidValue, startOf, spanOf, isInteger, isFloating, isNumber, valueBy, valueOf, validValueOf}
 use Rattle.definitions.specs.Chain.{Block, idDT, dataLimit, fileLimit, fragmentLimit, hasHeader, blockAt, declared, judged, fragmentOf, fragments, agrees, admitted, listAt, lists, listLimit, chainOf, totalOf, dataLength, joined, badSize, recordOf, onBlocks, fetched, valueFetched}
-use Rattle.definitions.proofs.Replies.{not-answered}
+use Rattle.definitions.proofs.Replies.{not-answered, both}
 
 -- P holds of every refusal's number and of what it tells
 abbrev pub Numbered : {A : Type 0} → (ℕ → ℕ → Type 0) → Reply A → Type 0
@@ -25,11 +26,15 @@ Numbered P r = (n t : ℕ) → r ≡ refusal n t → P n t
 abbrev pub Some : ℕ → ℕ → Type 0
 Some n t = 0 < n
 
-abbrev pub FromTwo : ℕ → ℕ → Type 0
-FromTwo n t = 2 ≤ n
+-- of blocks, buffers, chains and records
+abbrev pub OfBlocks : ℕ → ℕ → Type 0
+OfBlocks n t = leb 2 n && leb n 17 ≡ true
 
-abbrev pub OneAlone : ℕ → ℕ → Type 0
-OneAlone n t = (n ≡ 1) × (t ≡ 0)
+abbrev pub OfFields : ℕ → ℕ → Type 0
+OfFields n t = leb 18 n && leb n 22 ≡ true
+
+pub between : (a b n : ℕ) → leb a n && leb n b ≡ true → (a ≤ n) × (n ≤ b)
+between a b n h = let p = both (leb a n) (leb n b) h in (leb-true a n (p .0), leb-true n b (p .1))
 
 pub weaker : {A : Type 0} {P Q : ℕ → ℕ → Type 0} (r : Reply A) → ((n t : ℕ) → P n t → Q n t) → Numbered P r → Numbered Q r
 weaker r on h n t e = on n t (h n t e)
@@ -59,176 +64,176 @@ module _ (P : ℕ → ℕ → Type 0) where
 
 -- ---- blocks
 
-pub header-numbered : (s : List ℕ) → Numbered FromTwo (headerOf s)
+pub header-numbered : (s : List ℕ) → Numbered OfBlocks (headerOf s)
 unfolding headerOf
-header-numbered s = of-test FromTwo (ltb (length s) 24) 2 (told 24) _ (omega arith) (of-answer FromTwo _)
+header-numbered s = of-test OfBlocks (ltb (length s) 24) 2 (told 24) _ refl (of-answer OfBlocks _)
 
-rest-numbered : (s : List ℕ) (h : Header) → Numbered FromTwo (restOf s h)
+rest-numbered : (s : List ℕ) (h : Header) → Numbered OfBlocks (restOf s h)
 unfolding restOf
 rest-numbered s h =
-    of-test FromTwo (ltb (length s) (flagsAt (h .linkCount) + 8 + restIn s (h .linkCount) * 8)) 2 _ _ (omega arith) (of-answer FromTwo _)
+    of-test OfBlocks (ltb (length s) (flagsAt (h .linkCount) + 8 + restIn s (h .linkCount) * 8)) 2 _ _ refl (of-answer OfBlocks _)
 
-links-numbered : (s : List ℕ) (h : Header) → Numbered FromTwo (linksOf s h)
+links-numbered : (s : List ℕ) (h : Header) → Numbered OfBlocks (linksOf s h)
 unfolding linksOf
 links-numbered s h =
-    of-test FromTwo (not (idAt s 0 idDL)) 3 0 _ (omega arith)
-    (of-test FromTwo (eqb (h .linkCount) 0) 4 0 _ (omega arith)
-    (of-test FromTwo (ltb (length s) (flagsAt (h .linkCount) + 8)) 2 _ _ (omega arith) (rest-numbered s h)))
+    of-test OfBlocks (not (idAt s 0 idDL)) 3 0 _ refl
+    (of-test OfBlocks (eqb (h .linkCount) 0) 4 0 _ refl
+    (of-test OfBlocks (ltb (length s) (flagsAt (h .linkCount) + 8)) 2 _ _ refl (rest-numbered s h)))
 
-pub list-numbered : (s : List ℕ) → Numbered FromTwo (listOf s)
+pub list-numbered : (s : List ℕ) → Numbered OfBlocks (listOf s)
 unfolding listOf
-list-numbered s = of-following FromTwo (headerOf s) (linksOf s) (header-numbered s) (links-numbered s)
+list-numbered s = of-following OfBlocks (headerOf s) (linksOf s) (header-numbered s) (links-numbered s)
 
-fields-numbered : (s : List ℕ) (h : Header) → Numbered FromTwo (fieldsOf s h)
+fields-numbered : (s : List ℕ) (h : Header) → Numbered OfBlocks (fieldsOf s h)
 unfolding fieldsOf
 fields-numbered s h =
-    of-test FromTwo (not (idAt s 0 idCN)) 3 0 _ (omega arith)
-    (of-test FromTwo (ltb (h .linkCount) 8) 17 0 _ (omega arith)
-    (of-test FromTwo (ltb (length s) (fieldsAt (h .linkCount) + 72)) 2 _ _ (omega arith) (of-answer FromTwo _)))
+    of-test OfBlocks (not (idAt s 0 idCN)) 3 0 _ refl
+    (of-test OfBlocks (ltb (h .linkCount) 8) 17 0 _ refl
+    (of-test OfBlocks (ltb (length s) (fieldsAt (h .linkCount) + 72)) 2 _ _ refl (of-answer OfBlocks _)))
 
-pub channel-numbered : (s : List ℕ) → Numbered FromTwo (channelBlockOf s)
+pub channel-numbered : (s : List ℕ) → Numbered OfBlocks (channelBlockOf s)
 unfolding channelBlockOf
-channel-numbered s = of-following FromTwo (headerOf s) (fieldsOf s) (header-numbered s) (fields-numbered s)
+channel-numbered s = of-following OfBlocks (headerOf s) (fieldsOf s) (header-numbered s) (fields-numbered s)
 
 -- ---- into a buffer
 
-writing-numbered : {A : Type 0} (out bytes : List ℕ) (a : A) → Numbered FromTwo (writing out bytes a .reply)
-writing-numbered out bytes a = of-outcome FromTwo (ltb (length out) (length bytes)) 6 _ out _ (omega arith) (of-answer FromTwo a)
+writing-numbered : {A : Type 0} (out bytes : List ℕ) (a : A) → Numbered OfBlocks (writing out bytes a .reply)
+writing-numbered out bytes a = of-outcome OfBlocks (ltb (length out) (length bytes)) 6 _ out _ refl (of-answer OfBlocks a)
 
-pub header-written-numbered : (out : List ℕ) (h : Header) → Numbered FromTwo (headerWritten out h .reply)
+pub header-written-numbered : (out : List ℕ) (h : Header) → Numbered OfBlocks (headerWritten out h .reply)
 unfolding headerWritten
 header-written-numbered out h = writing-numbered out (headerBytes h) 24
 
-pub channel-written-numbered : (out : List ℕ) (b : ChannelBlock) → Numbered FromTwo (channelWritten out b .reply)
+pub channel-written-numbered : (out : List ℕ) (b : ChannelBlock) → Numbered OfBlocks (channelWritten out b .reply)
 unfolding channelWritten
 channel-written-numbered out b = writing-numbered out (channelBytes b) 160
 
-pub list-written-numbered : (out : List ℕ) (next : ℕ) (links : List ℕ) (l : Lengths) → Numbered FromTwo (listWritten out next links l .reply)
+pub list-written-numbered : (out : List ℕ) (next : ℕ) (links : List ℕ) (l : Lengths) → Numbered OfBlocks (listWritten out next links l .reply)
 unfolding listWritten
 list-written-numbered out next links l =
-    of-outcome FromTwo (unwritable (length links) l) 5 0 out _ (omega arith)
+    of-outcome OfBlocks (unwritable (length links) l) 5 0 out _ refl
     (writing-numbered out (listBytes next links (flagsFor l) (restFor l)) (listSize (length links) (length (restFor l))))
 
-pub text-written-numbered : (out : List ℕ) (e : Encoding) (s : List ℕ) → Numbered FromTwo (textWritten out e s .reply)
+pub text-written-numbered : (out : List ℕ) (e : Encoding) (s : List ℕ) → Numbered OfBlocks (textWritten out e s .reply)
 unfolding textWritten writtenText
 text-written-numbered out e s = writing-numbered out (textOf e s .bytes) _
 
 -- ---- a chain
 
-block-numbered : (id f : List ℕ) (a : ℕ) → Numbered FromTwo (blockAt id f a)
+block-numbered : (id f : List ℕ) (a : ℕ) → Numbered OfBlocks (blockAt id f a)
 unfolding blockAt
 block-numbered id f a =
-    of-test FromTwo (not (hasHeader f a)) 11 0 _ (omega arith)
-    (of-test FromTwo (not (idAt f a id)) 12 0 _ (omega arith)
-    (of-test FromTwo (not (eqb (u64At f (a + 16)) 0)) 12 0 _ (omega arith)
-    (of-test FromTwo (ltb (u64At f (a + 8)) 24) 12 0 _ (omega arith)
-    (of-test FromTwo (ltb (length f) (a + u64At f (a + 8))) 12 0 _ (omega arith) (of-answer FromTwo _)))))
+    of-test OfBlocks (not (hasHeader f a)) 11 0 _ refl
+    (of-test OfBlocks (not (idAt f a id)) 12 0 _ refl
+    (of-test OfBlocks (not (eqb (u64At f (a + 16)) 0)) 12 0 _ refl
+    (of-test OfBlocks (ltb (u64At f (a + 8)) 24) 12 0 _ refl
+    (of-test OfBlocks (ltb (length f) (a + u64At f (a + 8))) 12 0 _ refl (of-answer OfBlocks _)))))
 
-judged-numbered : (s : List ℕ) (d : DataList) (i p : ℕ) (b : Block) → Numbered FromTwo (judged s d i p b)
+judged-numbered : (s : List ℕ) (d : DataList) (i p : ℕ) (b : Block) → Numbered OfBlocks (judged s d i p b)
 judged-numbered s d i p b =
-    of-test FromTwo (ltb dataLimit (p + b .size)) 14 0 _ (omega arith)
-    (of-test FromTwo (not (declared s d i p (b .size))) 13 0 _ (omega arith) (of-answer FromTwo b))
+    of-test OfBlocks (ltb dataLimit (p + b .size)) 14 0 _ refl
+    (of-test OfBlocks (not (declared s d i p (b .size))) 13 0 _ refl (of-answer OfBlocks b))
 
-fragments-numbered : (id f s : List ℕ) (d : DataList) (i n : ℕ) (before : List Block) → Numbered FromTwo (fragments id f s d i n before)
+fragments-numbered : (id f s : List ℕ) (d : DataList) (i n : ℕ) (before : List Block) → Numbered OfBlocks (fragments id f s d i n before)
 unfolding fragments fragmentOf
-fragments-numbered id f s d i zero before = of-answer FromTwo before
+fragments-numbered id f s d i zero before = of-answer OfBlocks before
 fragments-numbered id f s d i (suc n) before =
-    of-following FromTwo (andThen (blockAt id f (u64At s (d .linksAt + i * 8))) (judged s d i _)) _
-    (of-following FromTwo (blockAt id f (u64At s (d .linksAt + i * 8))) _ (block-numbered id f _) (judged-numbered s d i _))
+    of-following OfBlocks (andThen (blockAt id f (u64At s (d .linksAt + i * 8))) (judged s d i _)) _
+    (of-following OfBlocks (blockAt id f (u64At s (d .linksAt + i * 8))) _ (block-numbered id f _) (judged-numbered s d i _))
     (λ b. fragments-numbered id f s d (i + 1) n (before ++ (b ∷ [])))
 
-admitted-numbered : (n : ℕ) (d : DataList) → Numbered FromTwo (admitted n d)
+admitted-numbered : (n : ℕ) (d : DataList) → Numbered OfBlocks (admitted n d)
 admitted-numbered n d =
-    of-test FromTwo (not (agrees d)) 10 0 _ (omega arith)
-    (of-test FromTwo (ltb fragmentLimit (n + d .links)) 9 0 _ (omega arith) (of-answer FromTwo d))
+    of-test OfBlocks (not (agrees d)) 10 0 _ refl
+    (of-test OfBlocks (ltb fragmentLimit (n + d .links)) 9 0 _ refl (of-answer OfBlocks d))
 
-list-at-numbered : (f : List ℕ) (n a : ℕ) → Numbered FromTwo (listAt f n a)
+list-at-numbered : (f : List ℕ) (n a : ℕ) → Numbered OfBlocks (listAt f n a)
 unfolding listAt
 list-at-numbered f n a =
-    of-test FromTwo (not (hasHeader f a)) 11 0 _ (omega arith)
-    (of-following FromTwo (listOf (drop a f)) (admitted n) (list-numbered (drop a f)) (admitted-numbered n))
+    of-test OfBlocks (not (hasHeader f a)) 11 0 _ refl
+    (of-following OfBlocks (listOf (drop a f)) (admitted n) (list-numbered (drop a f)) (admitted-numbered n))
 
-lists-numbered : (id f : List ℕ) (k a : ℕ) (before : List Block) → Numbered FromTwo (lists id f k a before)
+lists-numbered : (id f : List ℕ) (k a : ℕ) (before : List Block) → Numbered OfBlocks (lists id f k a before)
 unfolding lists
-lists-numbered id f zero a before = of-refusal FromTwo 8 0 (omega arith)
+lists-numbered id f zero a before = of-refusal OfBlocks 8 0 refl
 lists-numbered id f (suc k) a before =
-    of-following FromTwo (listAt f (length before) a) _ (list-at-numbered f (length before) a)
-    (λ d. of-following FromTwo (fragments id f (drop a f) d 0 (d .links) before) _ (fragments-numbered id f (drop a f) d 0 (d .links) before)
-    (λ bs. of-either FromTwo (eqb (d .next) 0) _ _ (of-answer FromTwo bs) (lists-numbered id f k (d .next) bs)))
+    of-following OfBlocks (listAt f (length before) a) _ (list-at-numbered f (length before) a)
+    (λ d. of-following OfBlocks (fragments id f (drop a f) d 0 (d .links) before) _ (fragments-numbered id f (drop a f) d 0 (d .links) before)
+    (λ bs. of-either OfBlocks (eqb (d .next) 0) _ _ (of-answer OfBlocks bs) (lists-numbered id f k (d .next) bs)))
 
-pub total-numbered : (id f : List ℕ) (start : ℕ) → Numbered FromTwo (totalOf id f start)
+pub total-numbered : (id f : List ℕ) (start : ℕ) → Numbered OfBlocks (totalOf id f start)
 unfolding totalOf chainOf
-total-numbered id f start = of-following FromTwo (chainOf id f start) _ (lists-numbered id f listLimit start []) (λ bs. of-answer FromTwo _)
+total-numbered id f start = of-following OfBlocks (chainOf id f start) _ (lists-numbered id f listLimit start []) (λ bs. of-answer OfBlocks _)
 
-pub length-numbered : (f : List ℕ) (start : ℕ) → Numbered FromTwo (dataLength f start)
+pub length-numbered : (f : List ℕ) (start : ℕ) → Numbered OfBlocks (dataLength f start)
 unfolding dataLength
-length-numbered f start = of-test FromTwo (ltb fileLimit (length f)) 7 0 _ (omega arith) (total-numbered idDT f start)
+length-numbered f start = of-test OfBlocks (ltb fileLimit (length f)) 7 0 _ refl (total-numbered idDT f start)
 
 -- ---- a record
 
 module _ (f : List ℕ) (start k size : ℕ) (out : List ℕ) where
-  record-numbered : (j : List ℕ) → Numbered FromTwo (recordOf j k size out .reply)
+  record-numbered : (j : List ℕ) → Numbered OfBlocks (recordOf j k size out .reply)
   unfolding recordOf
-  record-numbered j = of-outcome FromTwo (ltb (length j) (k * size + size)) 16 0 out _ (omega arith) (of-answer FromTwo tt)
+  record-numbered j = of-outcome OfBlocks (ltb (length j) (k * size + size)) 16 0 out _ refl (of-answer OfBlocks tt)
 
-  on-blocks : (r : Reply (List Block)) → Numbered FromTwo r → Numbered FromTwo (onBlocks r (λ bs. recordOf (joined f bs) k size out) out .reply)
+  on-blocks : (r : Reply (List Block)) → Numbered OfBlocks r → Numbered OfBlocks (onBlocks r (λ bs. recordOf (joined f bs) k size out) out .reply)
   on-blocks (answer bs) h = record-numbered (joined f bs)
-  on-blocks (refusal n t) h = of-refusal FromTwo n t (h n t refl)
+  on-blocks (refusal n t) h = of-refusal OfBlocks n t (h n t refl)
 
-  pub fetched-numbered : Numbered FromTwo (fetched f start k size out .reply)
+  pub fetched-numbered : Numbered OfBlocks (fetched f start k size out .reply)
   unfolding fetched chainOf
   fetched-numbered =
-      of-outcome FromTwo (badSize size (length out)) 15 0 out _ (omega arith)
-      (of-outcome FromTwo (ltb fileLimit (length f)) 7 0 out _ (omega arith)
+      of-outcome OfBlocks (badSize size (length out)) 15 0 out _ refl
+      (of-outcome OfBlocks (ltb fileLimit (length f)) 7 0 out _ refl
       (on-blocks (chainOf idDT f start) (lists-numbered idDT f listLimit start [])))
 
 -- ---- a field
 
 module _ (s : List ℕ) (idSize : ℕ) (c : Channel) where
-  by-kind : (k : Kind) (at n : ℕ) → Numbered OneAlone (valueBy k at n s c)
+  by-kind : (k : Kind) (at n : ℕ) → Numbered OfFields (valueBy k at n s c)
   unfolding valueBy
   by-kind k at n =
-      of-test OneAlone (isNumber k && eqb (c .bitCount) 0) 1 0 _ (refl, refl)
-      (of-test OneAlone (isNumber k && ltb 7 (c .bitOffset)) 1 0 _ (refl, refl)
-      (of-test OneAlone (isInteger k && ltb 64 (c .bitCount)) 1 0 _ (refl, refl)
-      (of-test OneAlone (ltb (length s) (at + n)) 1 0 _ (refl, refl)
-      (of-test OneAlone (isFloating k && not (eqb (c .bitCount) 32 || eqb (c .bitCount) 64)) 1 0 _ (refl, refl) (of-answer OneAlone _)))))
+      of-test OfFields (isNumber k && eqb (c .bitCount) 0) 18 0 _ refl
+      (of-test OfFields (isNumber k && ltb 7 (c .bitOffset)) 19 0 _ refl
+      (of-test OfFields (isInteger k && ltb 64 (c .bitCount)) 20 0 _ refl
+      (of-test OfFields (ltb (length s) (at + n)) 21 (told (at + n)) _ refl
+      (of-test OfFields (isFloating k && not (eqb (c .bitCount) 32 || eqb (c .bitCount) 64)) 22 0 _ refl (of-answer OfFields _)))))
 
-  pub value-numbered : Numbered OneAlone (valueOf s idSize c)
+  pub value-numbered : Numbered OfFields (valueOf s idSize c)
   unfolding valueOf
   value-numbered = by-kind (kindOf (c .dataType)) (startOf idSize c) (spanOf s c)
 
-  pub valid-value-numbered : (dataBytes : ℕ) → Numbered OneAlone (validValueOf s idSize dataBytes c)
+  pub valid-value-numbered : (dataBytes : ℕ) → Numbered OfFields (validValueOf s idSize dataBytes c)
   unfolding validValueOf
-  valid-value-numbered dataBytes = of-following OneAlone (valueOf s idSize c) _ value-numbered (λ v. of-answer OneAlone _)
+  valid-value-numbered dataBytes = of-following OfFields (valueOf s idSize c) _ value-numbered (λ v. of-answer OfFields _)
 
--- a value, or that there is none in the record
+-- a value, or why the record has none
 abbrev pub OfField : Reply ValidValue → Type 0
 OfField (answer v) = Unit {0}
-OfField (refusal n t) = n ≡ 1
+OfField (refusal n t) = 18 ≤ n
 
 module _ (f : List ℕ) (start k size : ℕ) (out : List ℕ) (idSize dataBytes : ℕ) (c : Channel) where
   pub value-fetched-numbered : Numbered Some (valueFetched f start k size idSize dataBytes c out .reply)
   unfolding valueFetched
   value-fetched-numbered =
-      of-following Some (fetched f start k size out .reply) _ (weaker _ (λ n t p. omega arith) (fetched-numbered f start k size out))
-      (λ u. weaker _ (λ n t p. omega arith) (valid-value-numbered (take size (fetched f start k size out .buffer)) idSize c dataBytes))
+      of-following Some (fetched f start k size out .reply) _ (weaker _ (λ n t p. omega (arith, between 2 17 n p .0)) (fetched-numbered f start k size out))
+      (λ u. weaker _ (λ n t p. omega (arith, between 18 22 n p .0)) (valid-value-numbered (take size (fetched f start k size out .buffer)) idSize c dataBytes))
 
   -- a reply about the field says that the record was fetched
   pub field-of-fetched : OfField (valueFetched f start k size idSize dataBytes c out .reply) → fetched f start k size out .reply ≡ answer tt
   unfolding valueFetched
   field-of-fetched h = go (fetched f start k size out .reply) (fetched-numbered f start k size out) h
     where
-      go : (r : Reply (Unit {0})) → Numbered FromTwo r
+      go : (r : Reply (Unit {0})) → Numbered OfBlocks r
           → OfField (andThen r (λ u. validValueOf (take size (fetched f start k size out .buffer)) idSize dataBytes c)) → r ≡ answer tt
       go (answer u) g h = refl
-      go (refusal n t) g h = let no : ⊥ = omega (arith, g n t refl) in absurd no
+      go (refusal n t) g h = let no : ⊥ = omega (arith, between 2 17 n (g n t refl) .1) in absurd no
 
   -- and any other one that it was not
-  pub other-of-fetch : (n t : ℕ) → valueFetched f start k size idSize dataBytes c out .reply ≡ refusal n t → (n ≡ 1 → ⊥) → fetched f start k size out .reply ≡ refusal n t
+  pub other-of-fetch : (n t : ℕ) → valueFetched f start k size idSize dataBytes c out .reply ≡ refusal n t → n < 18 → fetched f start k size out .reply ≡ refusal n t
   unfolding valueFetched
   other-of-fetch n t e other = go (fetched f start k size out .reply) e
     where
       go : (r : Reply (Unit {0})) → andThen r (λ u. validValueOf (take size (fetched f start k size out .buffer)) idSize dataBytes c) ≡ refusal n t → r ≡ refusal n t
-      go (answer u) e = absurd (other (valid-value-numbered _ idSize c dataBytes n t e .0))
+      go (answer u) e = let no : ⊥ = omega (arith, between 18 22 n (valid-value-numbered _ idSize c dataBytes n t e) .0) in absurd no
       go (refusal m s) e = cc

@@ -11,7 +11,7 @@ use lib.ListN.{length, take}
 use lib.Dec.{ltb, eqb}
 use lib.Pow.{pow-pos, pow-mono, pow-add}
 use borrow.Author.Tests.{ltb-true, ltb-false, eqb-false}
-use Rattle.definitions.specs.Reply.{Reply, Outcome, answer, refusal, if_then_else_, andThen}
+use Rattle.definitions.specs.Reply.{Reply, Outcome, answer, refusal, if_then_else_, andThen, told}
 use Rattle.definitions.specs.Bytes.{twosComplement}
 use Rattle.definitions.specs.Unicode.{Encoding, textWritten}
 use Rattle.definitions.specs.Header.{headerOf, headerWritten}
@@ -39,7 +39,7 @@ use Rattle.replies.specs.declared.fetches.Mf4Fetched.{Mf4Fetched}
 use Rattle.replies.proofs.ToldToC.{Tellable, Any, Reversible, headerAgain, header-told, writtenAgain, written-told, listAgain, list-told, channelAgain, description-back, channel-told, textAgain, text-told, valueReplyAgain, value-told, validValueAgain, valid-value-told, lengthAgain, length-told, fetchedAgain, fetched-told}
 use Rattle.theorems.specs.ClausesToC.{ReadsHeaderC, WritesHeaderC, ReadsListC, WritesEqualC, WritesVariableC, ReadsChannelC, WritesChannelC, WritesTextC, ReadsValueC, ReadsValidValueC, ReadsLengthC, ReadsRecordC, ReadsRecordValueC}
 use Rattle.theorems.proofs.TextClausesToC.{text-clause}
-use Rattle.theorems.proofs.RefusalNumbers.{Numbered, FromTwo, header-numbered, list-numbered, channel-numbered, header-written-numbered, channel-written-numbered, list-written-numbered, text-written-numbered, length-numbered, fetched-numbered}
+use Rattle.theorems.proofs.RefusalNumbers.{Numbered, OfBlocks, between, header-numbered, list-numbered, channel-numbered, header-written-numbered, channel-written-numbered, list-written-numbered, text-written-numbered, length-numbered, fetched-numbered}
 
 -- ---- the values of fields can be told
 
@@ -75,19 +75,19 @@ module _ (s : List ℕ) (at n : ℕ) (c : Channel) where
   reversible (complex o) some few = tt
   reversible unknown some few = tt
 
-  past : {A : Type 0} (P : A → Type 0) (b : Bool) (r : Reply A) → (b ≡ false → Tellable P r) → Tellable P (if b then refusal 1 0 else r)
-  past P true r h = omega arith
-  past P false r h = h refl
+  past : {A : Type 0} (P : A → Type 0) (b : Bool) (number t : ℕ) (r : Reply A) → 0 < number → (b ≡ false → Tellable P r) → Tellable P (if b then refusal number t else r)
+  past P true number t r some h = some
+  past P false number t r some h = h refl
 
   by-tests : Tellable Reversible (valueBy (kindOf (c .dataType)) at n s c)
   unfolding valueBy
   by-tests =
       let k = kindOf (c .dataType) in
-      past Reversible (isNumber k && eqb (c .bitCount) 0) _
-      (λ some. past Reversible (isNumber k && ltb 7 (c .bitOffset)) _
-      (λ e. past Reversible (isInteger k && ltb 64 (c .bitCount)) _
-      (λ few. past Reversible (ltb (length s) (at + n)) _
-      (λ e. past Reversible (isFloating k && not (eqb (c .bitCount) 32 || eqb (c .bitCount) 64)) (answer (decoded (c .dataType) s at n c))
+      past Reversible (isNumber k && eqb (c .bitCount) 0) 18 0 _ (omega arith)
+      (λ some. past Reversible (isNumber k && ltb 7 (c .bitOffset)) 19 0 _ (omega arith)
+      (λ e. past Reversible (isInteger k && ltb 64 (c .bitCount)) 20 0 _ (omega arith)
+      (λ few. past Reversible (ltb (length s) (at + n)) 21 (told (at + n)) _ (omega arith)
+      (λ e. past Reversible (isFloating k && not (eqb (c .bitCount) 32 || eqb (c .bitCount) 64)) 22 0 (answer (decoded (c .dataType) s at n c)) (omega arith)
       (λ e. reversible (c .dataType) some few)))))
 
 pub value-tellable : (s : List ℕ) (idSize : ℕ) (c : Channel) → Tellable Reversible (valueOf s idSize c)
@@ -107,9 +107,9 @@ valid-value-tellable s idSize dataBytes c = go (valueOf s idSize c) (value-tella
 
 -- ---- what each call returns
 
-from-two : {A : Type 0} (r : Reply A) → Numbered FromTwo r → Tellable Any r
-from-two (answer a) h = tt
-from-two (refusal n t) h = omega (arith, h n t refl)
+of-blocks : {A : Type 0} (r : Reply A) → Numbered OfBlocks r → Tellable Any r
+of-blocks (answer a) h = tt
+of-blocks (refusal n t) h = omega (arith, between 2 17 n (h n t refl) .0)
 
 -- of a call that wrote
 by-result : {A R : Type 0} (toC : Reply A → R) (back : R → Reply A) {y : R} {after : List ℕ} {o : Outcome A}
@@ -117,17 +117,17 @@ by-result : {A R : Type 0} (toC : Reply A → R) (back : R → Reply A) {y : R} 
 by-result {R = R} toC back p h = ap (λ (x : Returned R). back (x .result)) p ∙ h
 
 pub mf4-read-header-told : (κs : Lfts 1) (bytes : Slice) (y : Mf4Header) → ReadsHeaderC κs bytes y → headerAgain y ≡ headerOf (bytes .now)
-mf4-read-header-told κs bytes y p = ap headerAgain p ∙ header-told _ (from-two _ (header-numbered (bytes .now)))
+mf4-read-header-told κs bytes y p = ap headerAgain p ∙ header-told _ (of-blocks _ (header-numbered (bytes .now)))
 
 pub mf4-write-header-told : (κs : Lfts 1) (header : Mf4BlockHeader) (out : Slice) (y : Mf4Written) (after : List ℕ)
     → WritesHeaderC κs header out y after → writtenAgain y ≡ headerWritten (out .now) (headerGiven header) .reply
-mf4-write-header-told κs header out y after p = by-result writtenC writtenAgain p (written-told _ (from-two _ (header-written-numbered (out .now) (headerGiven header))))
+mf4-write-header-told κs header out y after p = by-result writtenC writtenAgain p (written-told _ (of-blocks _ (header-written-numbered (out .now) (headerGiven header))))
 
 pub mf4-read-list-told : (κs : Lfts 1) (bytes : Slice) (y : Mf4List) → ReadsListC κs bytes y → listAgain y ≡ listOf (bytes .now)
-mf4-read-list-told κs bytes y p = ap listAgain p ∙ list-told _ (from-two _ (list-numbered (bytes .now)))
+mf4-read-list-told κs bytes y p = ap listAgain p ∙ list-told _ (of-blocks _ (list-numbered (bytes .now)))
 
 pub mf4-read-channel-told : (κs : Lfts 1) (bytes : Slice) (y : Mf4ChannelReply) → ReadsChannelC κs bytes y → channelAgain y ≡ channelBlockOf (bytes .now)
-mf4-read-channel-told κs bytes y p = ap channelAgain p ∙ channel-told _ (from-two _ (channel-numbered (bytes .now)))
+mf4-read-channel-told κs bytes y p = ap channelAgain p ∙ channel-told _ (of-blocks _ (channel-numbered (bytes .now)))
 
 -- the description that C is told is the block's, when C gives it to another call
 pub mf4-read-channel-described : (κs : Lfts 1) (bytes : Slice) (y : Mf4ChannelReply) (b : ChannelBlock) → ReadsChannelC κs bytes y
@@ -137,23 +137,23 @@ mf4-read-channel-described κs bytes y b p e =
 
 pub mf4-write-channel-told : (κs : Lfts 1) (block : Mf4ChannelBlock) (out : Slice) (y : Mf4Written) (after : List ℕ)
     → WritesChannelC κs block out y after → writtenAgain y ≡ channelWritten (out .now) (blockGiven block) .reply
-mf4-write-channel-told κs block out y after p = by-result writtenC writtenAgain p (written-told _ (from-two _ (channel-written-numbered (out .now) (blockGiven block))))
+mf4-write-channel-told κs block out y after p = by-result writtenC writtenAgain p (written-told _ (of-blocks _ (channel-written-numbered (out .now) (blockGiven block))))
 
 pub mf4-write-list-equal-told : (κs : Lfts 2) (next : ℕ) (links : Slice) (length : ℕ) (out : Slice) (y : Mf4Written) (after : List ℕ)
     → WritesEqualC κs next links length out y after → writtenAgain y ≡ listWritten (out .now) next (links .now) (equal length) .reply
 mf4-write-list-equal-told κs next links length out y after p =
-    by-result writtenC writtenAgain p (written-told _ (from-two _ (list-written-numbered (out .now) next (links .now) (equal length))))
+    by-result writtenC writtenAgain p (written-told _ (of-blocks _ (list-written-numbered (out .now) next (links .now) (equal length))))
 
 pub mf4-write-list-variable-told : (κs : Lfts 3) (next : ℕ) (links offsets out : Slice) (y : Mf4Written) (after : List ℕ)
     → WritesVariableC κs next links offsets out y after → writtenAgain y ≡ listWritten (out .now) next (links .now) (variable (offsets .now)) .reply
 mf4-write-list-variable-told κs next links offsets out y after p =
-    by-result writtenC writtenAgain p (written-told _ (from-two _ (list-written-numbered (out .now) next (links .now) (variable (offsets .now)))))
+    by-result writtenC writtenAgain p (written-told _ (of-blocks _ (list-written-numbered (out .now) next (links .now) (variable (offsets .now)))))
 
 -- the four calls for texts
 pub mf4-text-told : (e : Encoding) (κs : Lfts 2) (bytes out : Slice) (y : Mf4Text) (after : List ℕ)
     → WritesTextC e κs bytes out y after → textAgain y ≡ textWritten (out .now) e (bytes .now) .reply
 mf4-text-told e κs bytes out y after p =
-    by-result textC textAgain (text-clause e κs bytes out y after p) (text-told _ (from-two _ (text-written-numbered (out .now) e (bytes .now))))
+    by-result textC textAgain (text-clause e κs bytes out y after p) (text-told _ (of-blocks _ (text-written-numbered (out .now) e (bytes .now))))
 
 pub mf4-decode-value-told : (κs : Lfts 1) (bytes : Slice) (idSize : ℕ) (channel : Mf4Channel) (y : Mf4Value)
     → ReadsValueC κs bytes idSize channel y → valueReplyAgain y ≡ valueOf (bytes .now) idSize (channelGiven channel)
@@ -165,22 +165,22 @@ mf4-decode-valid-value-told κs bytes idSize dataBytes channel y p =
     ap validValueAgain p ∙ valid-value-told _ (valid-value-tellable (bytes .now) idSize dataBytes (channelGiven channel))
 
 pub mf4-data-length-told : (κs : Lfts 1) (file : Slice) (start : ℕ) (y : Mf4Length) → ReadsLengthC κs file start y → lengthAgain y ≡ dataLength (file .now) start
-mf4-data-length-told κs file start y p = ap lengthAgain p ∙ length-told _ (from-two _ (length-numbered (file .now) start))
+mf4-data-length-told κs file start y p = ap lengthAgain p ∙ length-told _ (of-blocks _ (length-numbered (file .now) start))
 
 pub mf4-read-record-told : (κs : Lfts 2) (file : Slice) (start number size : ℕ) (out : Slice) (y : Mf4Fetched) (after : List ℕ)
     → ReadsRecordC κs file start number size out y after → fetchedAgain y ≡ fetched (file .now) start number size (out .now) .reply
 mf4-read-record-told κs file start number size out y after p =
-    by-result fetchedC fetchedAgain p (fetched-told _ (from-two _ (fetched-numbered (file .now) start number size (out .now))))
+    by-result fetchedC fetchedAgain p (fetched-told _ (of-blocks _ (fetched-numbered (file .now) start number size (out .now))))
 
 value-fetched-tellable : (f : List ℕ) (start k size idSize dataBytes : ℕ) (c : Channel) (out : List ℕ)
     → Tellable Judged (valueFetched f start k size idSize dataBytes c out .reply)
 unfolding valueFetched
 value-fetched-tellable f start k size idSize dataBytes c out = go (fetched f start k size out .reply) (fetched-numbered f start k size out)
   where
-    go : (r : Reply (Unit {0})) → Numbered FromTwo r
+    go : (r : Reply (Unit {0})) → Numbered OfBlocks r
         → Tellable Judged (andThen r (λ u. validValueOf (take size (fetched f start k size out .buffer)) idSize dataBytes c))
     go (answer u) h = valid-value-tellable (take size (fetched f start k size out .buffer)) idSize dataBytes c
-    go (refusal n t) h = omega (arith, h n t refl)
+    go (refusal n t) h = omega (arith, between 2 17 n (h n t refl) .0)
 
 pub mf4-record-value-told : (κs : Lfts 2) (file : Slice) (start number size idSize dataBytes : ℕ) (channel : Mf4Channel) (out : Slice) (y : Mf4ValidValue) (after : List ℕ)
     → ReadsRecordValueC κs file start number size idSize dataBytes channel out y after

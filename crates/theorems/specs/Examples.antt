@@ -9,8 +9,8 @@ use lib.Ieee.{binary64, ofBits, toUnsigned, fin}
 use Rattle.definitions.specs.Reply.{Reply, Outcome, answer, refusal}
 use Rattle.definitions.specs.Bytes.{little, big, le, les}
 use Rattle.definitions.specs.Unicode.{latin1}
-use Rattle.definitions.specs.DataType.{DataType, unsignedInteger, signedInteger, float, string}
-use Rattle.definitions.specs.Channel.{Channel, Value, unsigned, signed, double, text, valueOf, recordDouble, validOf}
+use Rattle.definitions.specs.DataType.{DataType, unsignedInteger, signedInteger, float, string, byteArray, canOpenDate}
+use Rattle.definitions.specs.Channel.{Channel, Value, unsigned, signed, double, text, unknownValue, valueOf, recordDouble, validOf}
 use Rattle.definitions.specs.DataList.{DataList, idDL, listOf, listBytes}
 use Rattle.definitions.specs.ChannelBlock.{ChannelBlock, idCN, channelBlockOf, described}
 use Rattle.definitions.specs.Chain.{idDT, fetched}
@@ -34,6 +34,19 @@ channel = fixed 0 0 0
 
 abbrev pub flagged : ℕ → ℕ → Channel
 flagged flags position = fixed 0 flags position (unsignedInteger little) 0 8
+
+-- one whose payload is given
+abbrev pub payload : DataType → ℕ → ℕ → Channel
+payload t offset count = record {
+  dataType = t;
+  channelType = 1;
+  bitOffset = offset;
+  byteOffset = 0;
+  bitCount = count;
+  flags = 0;
+  invalidationBit = 0;
+  dataLink = 8;
+}
 
 -- a list of 40 bytes with the given links and flags, and count 0
 abbrev pub shortList : ℕ → ℕ → List ℕ
@@ -99,6 +112,8 @@ twoBlocks size a b = le 8 0 ++ listBytes 0 (72 ∷ (96 + length a) ∷ []) 1 (si
 -- a call, and what it replies
 pub data Row : Type 0 where
   value : List ℕ → Channel → Reply Value → Row
+  -- the same behind a record id of the given size
+  behindId : ℕ → List ℕ → Channel → Reply Value → Row
   -- the double of an unsigned 64-bit counter, as the whole number that it is
   counter : ℕ → ℕ → Row
   -- validity with id size 0 and 2 data bytes
@@ -122,6 +137,7 @@ pub data Said : Type 0 where
 -- what the definitions give for a row's call, and what the row says
 abbrev pub given : Row → Said
 given (value s c r) = aValue (valueOf s 0 c)
+given (behindId idSize s c r) = aValue (valueOf s idSize c)
 given (counter n r) = aNumber (toUnsigned 64 (ofBits binary64 (recordDouble (le 8 n) 0 (channel (unsignedInteger little) 0 64))))
 given (validity s c r) = aTest (validOf s 0 2 c)
 given (list s r) = aList (listOf s)
@@ -131,6 +147,7 @@ given (fetch f k r) = aRecord (fetched f 8 k 2 (255 ∷ 255 ∷ []))
 
 abbrev pub stated : Row → Said
 stated (value s c r) = aValue r
+stated (behindId idSize s c r) = aValue r
 stated (counter n r) = aNumber r
 stated (validity s c r) = aTest r
 stated (list s r) = aList r
@@ -149,15 +166,27 @@ table =
     ∷ value (0x70 ∷ []) (channel (signedInteger little) 4 4) (answer (signed (pos 7)))
     ∷ value (0x01 ∷ []) (channel (signedInteger little) 0 1) (answer (signed (negsuc 0)))
     ∷ value (le 8 0 ++ (0x0F ∷ [])) (channel (signedInteger little) 4 64) (answer (signed (negsuc 1152921504606846975)))
-    ∷ value (le 8 0) (channel (signedInteger little) 4 64) (refusal 1 0)
+    ∷ value (le 8 0) (channel (signedInteger little) 4 64) (refusal 21 9)
     ∷ value (0x00 ∷ 0x00 ∷ 0x80 ∷ 0x3F ∷ []) (channel (float little) 0 32) (answer (double (fin false 1 (pos 0)) 0x3FF0000000000000))
     ∷ value (0x01 ∷ 0x00 ∷ 0x00 ∷ 0x00 ∷ []) (channel (float little) 0 32) (answer (double (fin false 1 (negsuc 148)) 0x36A0000000000000))
-    ∷ value (0x00 ∷ 0x00 ∷ 0x80 ∷ 0x3F ∷ []) (channel (float little) 0 16) (refusal 1 0)
+    ∷ value (0x00 ∷ 0x00 ∷ 0x80 ∷ 0x3F ∷ []) (channel (float little) 0 16) (refusal 22 0)
     ∷ counter 9007199254740993 9007199254740992
     ∷ counter 9007199254740995 9007199254740996
     ∷ value (0x50 ∷ 0x58 ∷ 0x31 ∷ 0x00 ∷ 0x39 ∷ []) (channel (string latin1) 0 40) (answer (text 0 3))
     ∷ value (0x50 ∷ 0x58 ∷ []) (fixed 2 0 0 (string latin1) 0 7) (answer (text 2 0))
-    ∷ value (0x50 ∷ 0x58 ∷ []) (fixed 3 0 0 (string latin1) 0 7) (refusal 1 0)
+    ∷ value (0x50 ∷ 0x58 ∷ []) (fixed 3 0 0 (string latin1) 0 7) (refusal 21 3)
+    -- the bytes needed: those of a float of any width, behind an id, of a payload, of what is no number, and countless ones
+    ∷ value [] (channel (float little) 0 65) (refusal 21 9)
+    ∷ behindId 2 (0x34 ∷ 0x12 ∷ []) (fixed 3 0 0 (unsignedInteger little) 0 16) (refusal 21 7)
+    ∷ value (0x34 ∷ 0x12 ∷ []) (payload (unsignedInteger little) 0 24) (refusal 21 3)
+    ∷ value (0x34 ∷ 0x12 ∷ []) (channel canOpenDate 9 0) (answer unknownValue)
+    ∷ value (0x34 ∷ []) (channel canOpenDate 9 0) (refusal 21 2)
+    ∷ behindId 18446744073709551615 [] (fixed 4294967295 0 0 byteArray 0 8) (refusal 21 18446744073709551615)
+    -- the order: where two hold, the lower number; what is no number has none but 21
+    ∷ value [] (channel (float big) 8 0) (refusal 18 0)
+    ∷ value [] (channel (signedInteger big) 8 65) (refusal 19 0)
+    ∷ value [] (channel (unsignedInteger big) 7 65) (refusal 20 0)
+    ∷ value [] (channel (string latin1) 9 0) (answer (text 0 0))
     ∷ validity (0x34 ∷ 0x12 ∷ 0x00 ∷ 0x02 ∷ []) (flagged 2 9) false
     ∷ validity (0x34 ∷ 0x12 ∷ 0x00 ∷ 0x02 ∷ []) (flagged 2 16) true
     ∷ validity (0x34 ∷ 0x12 ∷ 0x00 ∷ 0x02 ∷ []) (flagged 3 16) false
