@@ -10,7 +10,7 @@ use lib.ListN.{length}
 use lib.Dec.{ltb, eqb}
 use lib.Pow.{pow-pos, pow-mono}
 use borrow.Author.Tests.{ltb-false}
-use Rattle.definitions.specs.Reply.{answer, refusal, if_then_else_, told}
+use Rattle.definitions.specs.Reply.{answer, if_then_else_}
 use Rattle.definitions.specs.Bytes.{numberOf, span, bytesFor}
 use Rattle.definitions.specs.Ieee754.{doubleOf, Nearest}
 use Rattle.definitions.specs.DataType.{DataType, Kind, kindOf}
@@ -19,6 +19,7 @@ use Rattle.definitions.proofs.Replies.{not-answered}
 use Rattle.words.proofs.Bits.{field-below}
 use Rattle.doubles.proofs.Whole.{of-positive, of-negative}
 use Rattle.doubles.proofs.Nearest.{nearest}
+use Rattle.fields.proofs.Fields.{inTurn}
 use Rattle.fields.proofs.Types.{integer-types}
 use Rattle.decoder.proofs.Doubles.{double-fixed}
 
@@ -60,7 +61,7 @@ answered k at n s c v e =
     (ltb (length s) (at + n)) (isFloating k && not (eqb (c .bitCount) 32 || eqb (c .bitCount) 64)) e
   where
     go : (a b d : Bool) → isInteger k && ltb 64 (c .bitCount) ≡ d → (f g : Bool)
-        → (if a then refusal 18 0 else if b then refusal 19 0 else if d then refusal 20 0 else if f then refusal 21 (told (at + n)) else if g then refusal 22 0 else answer (decoded (c .dataType) s at n c)) ≡ answer v
+        → inTurn a b d f g (at + n) (decoded (c .dataType) s at n c) ≡ answer v
         → (decoded (c .dataType) s at n c ≡ v) × (isInteger k && ltb 64 (c .bitCount) ≡ false)
     go true b d i f g h = not-answered v _ _ h
     go false true d i f g h = not-answered v _ _ h

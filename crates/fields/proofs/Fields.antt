@@ -22,15 +22,17 @@ use Rattle.fields.specs.declared.form.Form.the-variants.{Number as numbe
 use Rattle.fields.proofs.Forms.{is-number}
 use Rattle.fields.proofs.Tests.{float-width}
 
--- the tests on a slice of l bytes, and v where they are passed
+-- the five tests in turn: what each says, the bytes that the fourth tells, and v where all are passed
+abbrev pub inTurn : Bool → Bool → Bool → Bool → Bool → ℕ → Value → Reply Value
+inTurn a b d e f size v =
+    if a then refusal 18 0 else if b then refusal 19 0 else if d then refusal 20 0 else if e then refusal 21 (told size)
+    else if f then refusal 22 0 else answer v
+
+-- on a slice of l bytes
 abbrev pub tested : Kind → ℕ → ℕ → ℕ → Channel → Value → Reply Value
 tested k at n l c v =
-    if isNumber k && eqb (c .bitCount) 0 then refusal 18 0
-    else if isNumber k && ltb 7 (c .bitOffset) then refusal 19 0
-    else if isInteger k && ltb 64 (c .bitCount) then refusal 20 0
-    else if ltb l (at + n) then refusal 21 (told (at + n))
-    else if isFloating k && not (eqb (c .bitCount) 32 || eqb (c .bitCount) 64) then refusal 22 0
-    else answer v
+    inTurn (isNumber k && eqb (c .bitCount) 0) (isNumber k && ltb 7 (c .bitOffset)) (isInteger k && ltb 64 (c .bitCount)) (ltb l (at + n))
+    (isFloating k && not (eqb (c .bitCount) 32 || eqb (c .bitCount) 64)) (at + n) v
 
 pub value-tested : (k : Kind) (at n : ℕ) (s : List ℕ) (c : Channel) → valueBy k at n s c ≡ tested k at n (length s) c (decoded (c .dataType) s at n c)
 unfolding valueBy
@@ -75,8 +77,7 @@ module _ (k : Kind) (at n : ℕ) (s : List ℕ) (c : Channel) where
       go (isNumber k && eqb (c .bitCount) 0) (isNumber k && ltb 7 (c .bitOffset)) (isInteger k && ltb 64 (c .bitCount))
       (ltb (length s) (at + n)) (isFloating k && not (eqb (c .bitCount) 32 || eqb (c .bitCount) 64))
     where
-      go : (a b d e f : Bool)
-          → P (if a then refusal 18 0 else if b then refusal 19 0 else if d then refusal 20 0 else if e then refusal 21 (told (at + n)) else if f then refusal 22 0 else answer (decoded (c .dataType) s at n c))
+      go : (a b d e f : Bool) → P (inTurn a b d e f (at + n) (decoded (c .dataType) s at n c))
       go true b d e f = none 18 0
       go false true d e f = none 19 0
       go false false true e f = none 20 0

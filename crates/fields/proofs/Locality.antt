@@ -1,22 +1,25 @@
--- A fixed field's value is determined by its own bits: a number's by the bits from the bit offset on, any other's by its bytes.
+-- A fixed field's value is determined by its own bits: a number's by the bits from the bit offset on, any other's by its bytes. A
+-- refusal is determined by no bit.
 use mathlib.Core.Path.{_≡_, refl, sym, ap, ap₂, _∙_}
-use mathlib.Core.Bool.{Bool, true, false, true≢false}
+use mathlib.Core.Bool.{Bool, true, false, not, _&&_, _||_, true≢false}
 use mathlib.Core.List.{List}
 use Prim.Native.Nat.{ℕ, _+_, _≤_, _<_}
 use native.Mathlib.Omega.{arith}
 use lib.ListN.{length, getD}
 use lib.Seq.{ext-getD}
-use lib.Dec.{ltb}
+use lib.Dec.{ltb, eqb}
 use borrow.Author.Tests.{ltb-false}
+use Rattle.definitions.specs.Reply.{refusal}
 use Rattle.definitions.specs.Bytes.{Order, little, span, bytesFor}
 use Rattle.definitions.specs.Unicode.{stopped}
 use Rattle.definitions.specs.DataType.{DataType, unsignedInteger, signedInteger, float, complex, string, byteArray, mimeSample, mimeStream, canOpenDate, canOpenTime, unknown, Kind, integer, floating, whole, undecoded, kindOf}
-use Rattle.definitions.specs.Channel.{Channel, Value, unsigned, signed, text, variableLength, bitSpan, spanIn, doubleValue, floatBits, numberIn, decoded, isNumber, valueBy, valueOf}
+use Rattle.definitions.specs.Channel.{Channel, Value, unsigned, signed, text, variableLength, startOf, bitSpan, spanIn, spanOf, doubleValue, floatBits, numberIn, decoded, isInteger, isFloating, isNumber, valueBy, valueOf}
 use Rattle.definitions.specs.Bytes.{twosComplement}
+use Rattle.definitions.proofs.Replies.{not-answered}
 use Rattle.words.proofs.Numbers.{Bytes}
 use Rattle.words.proofs.Locality as words
 use Rattle.words.proofs.Spans.{length-span, getD-span}
-use Rattle.fields.proofs.Fields.{tested, value-tested}
+use Rattle.fields.proofs.Fields.{inTurn, tested, value-tested}
 use Rattle.fields.proofs.Types.{number-types}
 
 -- the byte order of a number
@@ -130,3 +133,31 @@ module _ (s t : List ℕ) (idSize : ℕ) (c : Channel) (fixed : variableLength c
           by-span (c .dataType) s t from count c other
           (ext-getD 0 (span s from count) (span t from count) (ls ∙ sym lt)
           (λ i l. let w : i < count = omega arith in getD-span s from count i w ∙ same i w ∙ sym (getD-span t from count i w)))
+
+-- ---- refusals
+
+-- a refusal says nothing of the bytes
+whatever-stands : (k : Kind) (at n l : ℕ) (c : Channel) (v w : Value) (number size : ℕ) → tested k at n l c v ≡ refusal number size → tested k at n l c w ≡ refusal number size
+whatever-stands k at n l c v w number size h =
+    go (isNumber k && eqb (c .bitCount) 0) (isNumber k && ltb 7 (c .bitOffset)) (isInteger k && ltb 64 (c .bitCount))
+    (ltb l (at + n)) (isFloating k && not (eqb (c .bitCount) 32 || eqb (c .bitCount) 64)) h
+  where
+    go : (a b d e f : Bool) → inTurn a b d e f (at + n) v ≡ refusal number size → inTurn a b d e f (at + n) w ≡ refusal number size
+    go true b d e f h = h
+    go false true d e f h = h
+    go false false true e f h = h
+    go false false false true f h = h
+    go false false false false true h = h
+    go false false false false false h = not-answered v number size (sym h)
+
+-- it depends on the description, and on how many bytes there are
+pub refusal-locality : (s t : List ℕ) (idSize : ℕ) (c : Channel) (number size : ℕ) → length s ≡ length t
+    → valueOf s idSize c ≡ refusal number size → valueOf t idSize c ≡ refusal number size
+unfolding valueOf
+refusal-locality s t idSize c number size el e =
+    let k : Kind = kindOf (c .dataType) in
+    let at : ℕ = startOf idSize c in
+    let v : Value = decoded (c .dataType) s at (spanOf s c) c in
+    value-tested k at (spanOf t c) t c
+    ∙ whatever-stands k at (spanOf t c) (length t) c v _ number size
+    (ap (λ (l : ℕ). tested k at (spanIn (variableLength c) k l c) l c v) (sym el) ∙ sym (value-tested k at (spanOf s c) s c) ∙ e)

@@ -268,7 +268,7 @@ module _ (f : List ℕ) (start k size : ℕ) (out : List ℕ) where
 
   module _ (idSize dataBytes : ℕ) (c : Channel) where
     -- and its field is read from those bytes alone
-    value-of-record : (h : Fetchable f start k size out)
+    pub value-of-record : (h : Fetchable f start k size out)
         → valueFetched f start k size idSize dataBytes c out .reply ≡ validValueOf (span (joined f (h .blocks)) (k * size) size) idSize dataBytes c
     unfolding valueFetched
     value-of-record h =

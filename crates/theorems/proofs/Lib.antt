@@ -17,14 +17,16 @@ pub mod TwoFiles
 pub mod TwoFilesRead
 pub mod Answers
 pub mod RefusalNumbers
+pub mod Causes
 pub mod LeftAlone
 pub mod LeftAloneByCalls
 pub mod AnswersByCalls
-pub mod LocalityByCalls
 pub mod RoundTripsInBuffers
 pub mod RoundTripsByCalls
 pub mod TextClausesToC
 pub mod ToldToC
+pub mod CausesByCalls
+pub mod LocalityByCalls
 pub mod AnswersToC
 pub mod LeftAloneToC
 pub mod RoundTripsToC

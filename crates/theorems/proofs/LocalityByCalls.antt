@@ -1,28 +1,31 @@
 -- Two records that are alike in a fixed field give the same value and the same double, and with the invalidation bit the same
--- validity: about each call's own clause.
+-- validity. Two of one length are refused alike, whatever their bits. About each call's own clause.
 use mathlib.Core.Path.{_≡_, refl, sym, ap, ap₂, _∙_}
 use mathlib.Core.Bool.{Bool, true, false}
 use mathlib.Core.List.{List}
 use Prim.Native.Nat.{ℕ, _+_, _≤_, _<_}
 use contract.Lifetimes.{Lfts}
 use lib.ListN.{length, getD}
-use Rattle.definitions.specs.Reply.{Reply, answer, andThen}
+use Rattle.definitions.specs.Reply.{Reply, answer, refusal, andThen}
 use Rattle.definitions.specs.Bytes.{bytesFor}
 use Rattle.definitions.specs.DataType.{kindOf}
-use Rattle.definitions.specs.Channel.{Channel, Value, variableLength, spanIn, isNumber, valueOf, validValueOf, doubleIn, recordDouble}
+use Rattle.definitions.specs.Channel.{Channel, Value, ValidValue, variableLength, spanIn, isNumber, valueOf, validOf, validValueOf, doubleIn, recordDouble}
+use Rattle.definitions.proofs.Replies.{not-answered}
 use Rattle.words.proofs.Numbers.{Bytes}
 use Rattle.words.proofs.Locality.{recordBit}
-use Rattle.fields.proofs.Locality.{orderOf, locality, content-locality}
+use Rattle.fields.proofs.Locality.{orderOf, locality, content-locality, refusal-locality}
 use Rattle.fields.proofs.OneBit.{invalidationBitIn, one-bit}
 use Rattle.decoder.proofs.Doubles.{double-fixed}
 use Rattle.fields.proofs.Back.{value-one, valid-value-one}
-use Rattle.fields.specs.Meaning.{channelMeant}
+use Rattle.fields.specs.Meaning.{channelMeant, valueReply, validValueReply}
 use Rattle.fields.specs.declared.channel.Channel.{Channel as Description}
 use Rattle.fields.specs.declared.value.ValueRead.{ValueRead}
 use Rattle.fields.specs.declared.value.ValidValueRead.{ValidValueRead}
+use Rattle.replies.proofs.ToldToC.{valueReplyAgain, validValueAgain}
 use Rattle.mf4.specs.Clauses.{Slice}
 use Rattle.theorems.specs.Clauses.{ReadsValue, ReadsValidValue, ChecksValidity, ReadsDouble}
 use Rattle.theorems.specs.ClausesToC.{ReadsValueC, ReadsValidValueC, ChecksValidityC, ReadsDoubleC}
+use Rattle.theorems.proofs.ToldToC.{mf4-decode-value-told, mf4-decode-valid-value-told}
 use Rattle.replies.specs.Replies.{flagC}
 use Rattle.replies.specs.Values.{channelGiven, valueC, validValueC}
 use Rattle.replies.specs.declared.channel.Mf4Channel.{Mf4Channel}
@@ -69,6 +72,29 @@ module _ (κs : Lfts 1) (s t : Slice) (idSize : ℕ) (channel : Description) (h 
       → (y z : ValidValueRead) → ReadsValidValue κs s idSize dataBytes channel y → ReadsValidValue κs t idSize dataBytes channel z → y ≡ z
   valid-value-read-alike dataBytes e y z p q = valid-value-one y z (p ∙ same-valid-value (s .now) (t .now) idSize (channelMeant channel) h dataBytes e ∙ sym q)
 
+-- ---- a refusal
+
+module _ (s t : List ℕ) (idSize : ℕ) (c : Channel) (long : length s ≡ length t) (n m : ℕ) where
+  pub same-refusal : valueOf s idSize c ≡ refusal n m → valueOf t idSize c ≡ refusal n m
+  same-refusal e = refusal-locality s t idSize c n m long e
+
+  pub same-valid-refusal : (dataBytes : ℕ) → validValueOf s idSize dataBytes c ≡ refusal n m → validValueOf t idSize dataBytes c ≡ refusal n m
+  unfolding validValueOf
+  same-valid-refusal dataBytes e = rw (same-refusal (go (valueOf s idSize c) e))
+    where
+      go : (r : Reply Value) → andThen {B = ValidValue} r (λ v. answer (record { value = v; valid = validOf s idSize dataBytes c })) ≡ refusal n m → r ≡ refusal n m
+      go (answer v) h = not-answered _ n m (sym h)
+      go (refusal k u) h = let en : k ≡ n = cc in let eu : u ≡ m = cc in ap₂ refusal en eu
+
+module _ (κs : Lfts 1) (s t : Slice) (idSize : ℕ) (channel : Description) (long : length (s .now) ≡ length (t .now)) (n m : ℕ) where
+  pub value-read-refused : (y z : ValueRead) → ReadsValue κs s idSize channel y → ReadsValue κs t idSize channel z
+      → valueReply y ≡ refusal n m → valueReply z ≡ refusal n m
+  value-read-refused y z p q e = q ∙ same-refusal (s .now) (t .now) idSize (channelMeant channel) long n m (sym p ∙ e)
+
+  pub valid-value-read-refused : (dataBytes : ℕ) (y z : ValidValueRead) → ReadsValidValue κs s idSize dataBytes channel y
+      → ReadsValidValue κs t idSize dataBytes channel z → validValueReply y ≡ refusal n m → validValueReply z ≡ refusal n m
+  valid-value-read-refused dataBytes y z p q e = q ∙ same-valid-refusal (s .now) (t .now) idSize (channelMeant channel) long n m dataBytes (sym p ∙ e)
+
 -- validity alone reads that one bit
 pub validity-alike : (κs : Lfts 1) (s t : Slice) (idSize dataBytes : ℕ) (channel : Description)
     → invalidationBitIn (s .now) idSize dataBytes (channelMeant channel) ≡ invalidationBitIn (t .now) idSize dataBytes (channelMeant channel)
@@ -88,6 +114,20 @@ module _ (κs : Lfts 1) (s t : Slice) (idSize : ℕ) (channel : Mf4Channel) (h :
       → (y z : Mf4ValidValue) → ReadsValidValueC κs s idSize dataBytes channel y → ReadsValidValueC κs t idSize dataBytes channel z → y ≡ z
   mf4-decode-valid-value-alike dataBytes e y z p q =
       p ∙ ap validValueC (same-valid-value (s .now) (t .now) idSize (channelGiven channel) h dataBytes e) ∙ sym q
+
+-- of the reply that the struct tells
+module _ (κs : Lfts 1) (s t : Slice) (idSize : ℕ) (channel : Mf4Channel) (long : length (s .now) ≡ length (t .now)) (n m : ℕ) where
+  pub mf4-decode-value-refused : (y z : Mf4Value) → ReadsValueC κs s idSize channel y → ReadsValueC κs t idSize channel z
+      → valueReplyAgain y ≡ refusal n m → valueReplyAgain z ≡ refusal n m
+  mf4-decode-value-refused y z p q e =
+      mf4-decode-value-told κs t idSize channel z q
+      ∙ same-refusal (s .now) (t .now) idSize (channelGiven channel) long n m (sym (mf4-decode-value-told κs s idSize channel y p) ∙ e)
+
+  pub mf4-decode-valid-value-refused : (dataBytes : ℕ) (y z : Mf4ValidValue) → ReadsValidValueC κs s idSize dataBytes channel y
+      → ReadsValidValueC κs t idSize dataBytes channel z → validValueAgain y ≡ refusal n m → validValueAgain z ≡ refusal n m
+  mf4-decode-valid-value-refused dataBytes y z p q e =
+      mf4-decode-valid-value-told κs t idSize dataBytes channel z q
+      ∙ same-valid-refusal (s .now) (t .now) idSize (channelGiven channel) long n m dataBytes (sym (mf4-decode-valid-value-told κs s idSize dataBytes channel y p) ∙ e)
 
 pub mf4-check-validity-alike : (κs : Lfts 1) (s t : Slice) (idSize dataBytes : ℕ) (channel : Mf4Channel)
     → invalidationBitIn (s .now) idSize dataBytes (channelGiven channel) ≡ invalidationBitIn (t .now) idSize dataBytes (channelGiven channel)

@@ -3,3 +3,4 @@ pub mod Sole
 pub mod Clauses
 pub mod ClausesToC
 pub mod Exactly
+pub mod Causes
