@@ -1,9 +1,11 @@
 // What the library answered, against the answer in the line.
 use crate::words::Counted;
 use crate::words::WRONG;
+use crate::words::byte_at;
 use crate::words::bytes;
 use crate::words::next_if;
 use crate::words::number;
+use crate::words::sign;
 use mf4::Mf4Written;
 
 // A lent buffer is full of these, so that a byte written where none should be shows
@@ -17,6 +19,14 @@ pub(crate) fn same_number(line: &[u8], at: usize, given: u64) -> usize {
 pub(crate) fn same_reply(line: &[u8], at: usize, reply: u32, told: u64) -> usize {
     let next = same_number(line, at, reply as u64);
     same_number(line, next, told)
+}
+
+// The crate tells no cause where it has no value: its answer is then `-`, and any cause is right
+pub(crate) fn same_field_reply(line: &[u8], at: usize, reply: u32, told: u64) -> usize {
+    if byte_at(line, at) == b'-' {
+        return next_if(18 <= reply && reply <= 22, sign(line, at, b'-'));
+    }
+    same_reply(line, at, reply, told)
 }
 
 fn byte_due(due: &[u8], at: usize) -> u8 {

@@ -1,7 +1,7 @@
 // Values, validity and doubles of channels.
 use crate::answers::no_value;
+use crate::answers::same_field_reply;
 use crate::answers::same_number;
-use crate::answers::same_reply;
 use crate::answers::same_value;
 use crate::kinds::BOTH;
 use crate::kinds::VALIDITY;
@@ -72,7 +72,7 @@ pub(crate) fn field_words(line: &[u8], at: usize) -> FieldWords {
 
 fn same_decoded(line: &[u8], at: usize, record: &[u8], id_size: u64, channel: Mf4Channel) -> usize {
     let given = mf4_decode_value(record, id_size, channel);
-    let next = same_reply(line, at, given.reply, given.told);
+    let next = same_field_reply(line, at, given.reply, given.told);
     if given.reply == 0 {
         same_value(line, next, given.kind, given.number, given.at, given.length)
     } else {
@@ -81,7 +81,7 @@ fn same_decoded(line: &[u8], at: usize, record: &[u8], id_size: u64, channel: Mf
 }
 
 pub(crate) fn same_valid_value(line: &[u8], at: usize, given: Mf4ValidValue) -> usize {
-    let next = same_reply(line, at, given.reply, given.told);
+    let next = same_field_reply(line, at, given.reply, given.told);
     if given.reply == 0 {
         let next = same_value(line, next, given.kind, given.number, given.at, given.length);
         same_number(line, next, given.is_valid as u64)
