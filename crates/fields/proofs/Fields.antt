@@ -38,25 +38,26 @@ pub value-tested : (k : Kind) (at n : ℕ) (s : List ℕ) (c : Channel) → valu
 unfolding valueBy
 value-tested k at n s c = refl
 
--- each test in turn refuses
+-- what the five tests said of n bytes at `at`
+pub record Asked (k : Kind) (at n : ℕ) (s : List ℕ) (c : Channel) (a b d e f : Bool) : Type 0 where
+  pub bits : a ≡ isNumber k && eqb (c .bitCount) 0
+  pub offset : b ≡ isNumber k && ltb 7 (c .bitOffset)
+  pub word : d ≡ isInteger k && ltb 64 (c .bitCount)
+  pub end : e ≡ ltb (length s) (at + n)
+  pub width : f ≡ isFloating k && not (eqb (c .bitCount) 32 || eqb (c .bitCount) 64)
+
+-- where these are the field, they decide its reply
+pub by-tests : (payload : Bool) {k : Kind} {at n : ℕ} {s : List ℕ} {c : Channel} {a b d e f : Bool} → n ≡ spanIn payload k (length s) c → Asked k at n s c a b d e f
+    → valueAt k payload s at c ≡ inTurn a b d e f (at + n) (decoded (c .dataType) s at n c)
+unfolding valueBy
+by-tests payload {k} {at} {n} {s} {c} en t =
+    ap (λ (m : ℕ). valueBy k at m s c) (sym en) ∙ rw (← t .bits, ← t .offset, ← t .word, ← t .end, ← t .width)
+
+-- the first and the last test, each by itself
 module _ (k : Kind) (at n : ℕ) (s : List ℕ) (c : Channel) where
   pub no-bits : isNumber k && eqb (c .bitCount) 0 ≡ true → valueBy k at n s c ≡ refusal 18 0
   unfolding valueBy
   no-bits a = rw a
-
-  pub past-a-byte : isNumber k && eqb (c .bitCount) 0 ≡ false → isNumber k && ltb 7 (c .bitOffset) ≡ true → valueBy k at n s c ≡ refusal 19 0
-  unfolding valueBy
-  past-a-byte a b = rw (a, b)
-
-  pub over-a-word : isNumber k && eqb (c .bitCount) 0 ≡ false → isNumber k && ltb 7 (c .bitOffset) ≡ false
-      → isInteger k && ltb 64 (c .bitCount) ≡ true → valueBy k at n s c ≡ refusal 20 0
-  unfolding valueBy
-  over-a-word a b d = rw (a, b, d)
-
-  pub ends-outside : isNumber k && eqb (c .bitCount) 0 ≡ false → isNumber k && ltb 7 (c .bitOffset) ≡ false
-      → isInteger k && ltb 64 (c .bitCount) ≡ false → ltb (length s) (at + n) ≡ true → valueBy k at n s c ≡ refusal 21 (told (at + n))
-  unfolding valueBy
-  ends-outside a b d e = rw (a, b, d, e)
 
   pub no-float-width : isNumber k && eqb (c .bitCount) 0 ≡ false → isNumber k && ltb 7 (c .bitOffset) ≡ false
       → isInteger k && ltb 64 (c .bitCount) ≡ false → ltb (length s) (at + n) ≡ false

@@ -98,21 +98,26 @@ pub fn find_field(
 ) -> FieldFound
     ensures { λ r. ⌜ FieldTold (formKind form) (valueAt (formKind form) payload (now («record» .entry)) (skipped + «byte_offset») (channelMeant channel)) (now («record» .entry)) (channelMeant channel) r × FieldPlaced (skipped + «byte_offset») (spanIn payload (formKind form) (length (now («record» .entry))) (channelMeant channel)) r ⌝ }
 {
-    if has_no_bits(form, channel.bit_count) {
+    let length = span_in(payload, form, record.len(), channel);
+    let no_bits = has_no_bits(form, channel.bit_count);
+    let past_a_byte = starts_past_a_byte(form, channel.bit_offset);
+    let over_a_word = is_over_a_word(form, channel.bit_count);
+    let outside = ends_outside(record.len(), skipped, byte_offset, length);
+    let needed = bytes_needed(skipped, byte_offset, length);
+    let no_float_width = is_no_float_width(form, channel.bit_count);
+    if no_bits {
         return FieldFound::Refused(Refusal::NoBits);
     }
-    if starts_past_a_byte(form, channel.bit_offset) {
+    if past_a_byte {
         return FieldFound::Refused(Refusal::BadBitOffset);
     }
-    if is_over_a_word(form, channel.bit_count) {
+    if over_a_word {
         return FieldFound::Refused(Refusal::IntegerTooWide);
     }
-    let length = span_in(payload, form, record.len(), channel);
-    if ends_outside(record.len(), skipped, byte_offset, length) {
-        let needed = bytes_needed(skipped, byte_offset, length);
+    if outside {
         return FieldFound::Refused(Refusal::FieldOutside(needed));
     }
-    if is_no_float_width(form, channel.bit_count) {
+    if no_float_width {
         return FieldFound::Refused(Refusal::BadFloatWidth);
     }
     FieldFound::Field {

@@ -1,85 +1,67 @@
--- The tests in turn, each with what the ones before it left.
+-- All five tests are made, and the first that holds is returned.
 use borrow.Author.Needs.{needs}
-use mathlib.Core.Path.{_≡_, refl, sym, ap, _∙_}
-use mathlib.Core.Bool.{false, _&&_}
+use mathlib.Core.Path.{refl, sym, _∙_}
 use native.Mathlib.Omega.{arith}
 use Prim.Native.Nat.{_+_}
 use lib.ListN.{length}
-use lib.Dec.{ltb, eqb}
 use denote.Ref.{now}
 use borrow.Author.Tests.{ltb-false}
-use Rattle.definitions.specs.Reply.{refusal}
-use Rattle.definitions.specs.Channel.{isNumber, isInteger}
+use Rattle.fields.specs.Meaning.{channelMeant}
 use Rattle.fields.specs.Form.{formKind}
-use Rattle.fields.proofs.Fields.{no-bits, past-a-byte, over-a-word, ends-outside, no-float-width, found}
-use Rattle.fields.proofs.Tests.{same-end, same-needed}
+use Rattle.fields.proofs.Fields.{Asked, by-tests, found}
 use Rattle.fields.proofs.field.find_field.Statement.{statement}
 use Rattle.fields.proofs.field.find_field.Tie as tie
 
-some-bits : (c : tie.Else1) → isNumber (formKind (c .before .before .before .args .form)) && eqb (c .before .before .before .args .channel .«bit_count») 0 ≡ false
-some-bits c = sym (c .before .has-no-bits .ensures) ∙ c .if1 .left
-
-in-a-byte : (c : tie.Else2) → isNumber (formKind (c .before .before .before .before .before .args .form)) && ltb 7 (c .before .before .before .before .before .args .channel .«bit_offset») ≡ false
-in-a-byte c = sym (c .before .starts-past-a-byte .ensures) ∙ c .if2 .left
-
-in-a-word : (c : tie.Else3) → isInteger (formKind (c .before .before .before .before .before .before .before .args .form)) && ltb 64 (c .before .before .before .before .before .before .before .args .channel .«bit_count») ≡ false
-in-a-word c = sym (c .before .is-over-a-word .ensures) ∙ c .if3 .left
+asked : (c : tie.After-is-no-float-width)
+    → (let needed = c .before in
+    let end = needed .before in
+    let word = end .before in
+    let offset = word .before in
+    let bits = offset .before in
+    let span = bits .before in
+    let a = span .before .before .args in
+    Asked (formKind (a .form)) (a .skipped + a .byte-offset) (span .span-in .result) (now (a .«record»)) (channelMeant (a .channel))
+    (bits .has-no-bits .result) (offset .starts-past-a-byte .result) (word .is-over-a-word .result) (end .ends-outside .result) (c .is-no-float-width .result))
+asked c = record {
+  bits = c .before .before .before .before .before .has-no-bits .ensures;
+  offset = c .before .before .before .before .starts-past-a-byte .ensures;
+  word = c .before .before .before .is-over-a-word .ensures;
+  end = c .before .before .ends-outside .ensures;
+  width = c .is-no-float-width .ensures;
+}
 
 returns : tie.Need-returns
-returns c = (record { told = no-bits _ _ _ _ _ (sym (c .before .has-no-bits .ensures) ∙ c .if1 .taken) }, tt)
+returns c = let a = c .before in (record { told = by-tests _ (a .before .before .before .before .before .before .span-in .ensures) (asked a) ∙ rw (c .if1 .taken) }, tt)
 
 returns-2 : tie.Need-returns-2
-returns-2 c = (record { told = past-a-byte _ _ _ _ _ (some-bits (c .before .before)) (sym (c .before .starts-past-a-byte .ensures) ∙ c .if2 .taken) }, tt)
+returns-2 c = let a = c .before .before in (record { told = by-tests _ (a .before .before .before .before .before .before .span-in .ensures) (asked a) ∙ rw (c .before .if1 .left, c .if2 .taken) }, tt)
 
 returns-3 : tie.Need-returns-3
-returns-3 c = (
-  record {
-    told = over-a-word _ _ _ _ _ (some-bits (c .before .before .before .before)) (in-a-byte (c .before .before)) (sym (c .before .is-over-a-word .ensures) ∙ c .if3 .taken);
-  },
-  tt,
-)
+returns-3 c = let a = c .before .before .before in (record { told = by-tests _ (a .before .before .before .before .before .before .span-in .ensures) (asked a) ∙ rw (c .before .before .if1 .left, c .before .if2 .left, c .if3 .taken) }, tt)
 
 returns-4 : tie.Need-returns-4
-returns-4 c =
-    let e = c .before in (
-      record {
-        told =
-            ends-outside _ _ _ _ _ (some-bits (e .before .before .before .before .before .before .before)) (in-a-byte (e .before .before .before .before .before)) (in-a-word (e .before .before .before))
-            (same-end _ _ _ (e .before .before .span-in .ensures) (e .before .ends-outside .ensures) ∙ e .if4 .taken)
-            ∙ ap (refusal 21) (same-needed _ _ (e .before .before .span-in .ensures) (c .bytes-needed .ensures));
-      },
-      tt,
-    )
+returns-4 c = let a = c .before .before .before .before in (record { told = by-tests _ (a .before .before .before .before .before .before .span-in .ensures) (asked a) ∙ rw (c .before .before .before .if1 .left, c .before .before .if2 .left, c .before .if3 .left, c .if4 .taken, ← a .before .bytes-needed .ensures) }, tt)
 
 returns-5 : tie.Need-returns-5
-returns-5 c =
-    let e = c .before .before in (
-      record {
-        told =
-            no-float-width _ _ _ _ _ (some-bits (e .before .before .before .before .before .before .before)) (in-a-byte (e .before .before .before .before .before)) (in-a-word (e .before .before .before))
-            (same-end _ _ _ (e .before .before .span-in .ensures) (e .before .ends-outside .ensures) ∙ e .if4 .left)
-            (sym (c .before .is-no-float-width .ensures) ∙ c .if5 .taken);
-      },
-      tt,
-    )
+returns-5 c = let a = c .before .before .before .before .before in (record { told = by-tests _ (a .before .before .before .before .before .before .span-in .ensures) (asked a) ∙ rw (c .before .before .before .before .if1 .left, c .before .before .before .if2 .left, c .before .before .if3 .left, c .before .if4 .left, c .if5 .taken) }, tt)
 
-add-t15 : tie.Need-add-t15
-add-t15 c =
-    let e = c .before .before in
-    let a = e .before .before .before .before .before .before .before .before .before .before .args in
+add-t14 : tie.Need-add-t14
+add-t14 c =
+    let a = c .before .before .before .before .before in
+    let of = a .before .before .before .before .before .before .before .before .args in
     omega
-    (arith, ltb-false (length (now (a .«record»))) (a .skipped + a .byte-offset + e .before .before .span-in .result) (sym (e .before .ends-outside .ensures) ∙ e .if4 .left))
+    (arith, ltb-false (length (now (of .«record»))) (of .skipped + of .byte-offset + a .before .before .before .before .before .before .span-in .result) (sym (asked a .end) ∙ c .before .if4 .left))
 
 returns-6 : tie.Need-returns-6
 returns-6 c =
-    let e = c .before .before in (
+    let a = c .before .before .before .before .before in
+    let q = asked a in (
       record {
         told =
-            found _ _ _ _ _ _ (e .before .before .span-in .ensures) (some-bits (e .before .before .before .before .before .before .before)) (in-a-byte (e .before .before .before .before .before)) (in-a-word (e .before .before .before))
-            (sym (e .before .ends-outside .ensures) ∙ e .if4 .left)
-            (sym (c .before .is-no-float-width .ensures) ∙ c .if5 .left);
+            found _ _ _ _ _ _ (a .before .before .before .before .before .before .span-in .ensures) (sym (q .bits) ∙ c .before .before .before .before .if1 .left) (sym (q .offset) ∙ c .before .before .before .if2 .left)
+            (sym (q .word) ∙ c .before .before .if3 .left) (sym (q .end) ∙ c .before .if4 .left) (sym (q .width) ∙ c .if5 .left);
       },
-      (refl, e .before .before .span-in .ensures),
+      (refl, a .before .before .before .before .before .before .span-in .ensures),
     )
 
 pub find-field-spec : {M : Type 1} → statement M
@@ -87,16 +69,16 @@ find-field-spec =
     tie.close
     (tie.spec
     (λ c κs. search needs)
+    (λ c κs. search needs)
+    (λ c κs. search needs)
+    (λ c κs. search needs)
+    (λ c κs. search needs)
+    (λ c κs. search needs)
+    (λ c κs. search needs)
     returns
-    (λ c κs. search needs)
     returns-2
-    (λ c κs. search needs)
     returns-3
-    (λ c κs. search needs)
-    (λ c κs. search needs)
-    (λ c κs. search needs)
     returns-4
-    (λ c κs. search needs)
     returns-5
-    add-t15
+    add-t14
     returns-6)
