@@ -25,9 +25,9 @@
 #include <string.h>
 
 #define MF4_VERSION_MAJOR 0
-#define MF4_VERSION_MINOR 1
+#define MF4_VERSION_MINOR 2
 #define MF4_VERSION_PATCH 0
-#define MF4_VERSION "0.1.0"
+#define MF4_VERSION "0.2.0"
 
 #ifdef __cplusplus
 extern "C" {
@@ -44,7 +44,7 @@ extern "C" {
 
 enum mf4_reply {
     MF4_ANSWER = 0,              /* the answer's fields hold                                                      */
-    MF4_NO_VALUE = 1,            /* a field that cannot be decoded                                                */
+    /* 1 is given no more and is not used again: 18 to 22 say why a field cannot be decoded. */
     MF4_TOO_FEW_BYTES = 2,       /* a block that ends too early; told: the size that it needs, at most 2^64-1     */
     MF4_OTHER_ID = 3,            /* a block, but not the kind that was asked for                                  */
     MF4_NO_LINKS = 4,            /* a data list whose link count is 0                                             */
@@ -61,6 +61,11 @@ enum mf4_reply {
     MF4_BAD_RECORD_SIZE = 15,    /* a record size of 0, over 16,384, or over the record buffer's                  */
     MF4_NO_SUCH_RECORD = 16,     /* a record that the joined data does not hold whole                             */
     MF4_TOO_FEW_LINKS = 17,      /* a channel block whose link count is below 8                                   */
+    MF4_NO_BITS = 18,            /* a number whose bit count is 0                                                 */
+    MF4_BAD_BIT_OFFSET = 19,     /* a number whose bit offset is over 7                                           */
+    MF4_INTEGER_TOO_WIDE = 20,   /* an integer whose bit count is over 64                                         */
+    MF4_FIELD_OUTSIDE = 21,      /* a field that ends outside the slice; told: the size needed, at most 2^64-1    */
+    MF4_BAD_FLOAT_WIDTH = 22,    /* a float whose bit count is neither 32 nor 64                                  */
 
     /* Numbers from 256 on are those of this header's own helpers, never the library's. */
     MF4_NO_TEXT_TYPE = 256       /* mf4_text_by_type: a data type that is no text                                 */
@@ -71,7 +76,6 @@ static inline const char *mf4_reply_text(uint32_t reply)
 {
     switch (reply) {
     case MF4_ANSWER: return "an answer";
-    case MF4_NO_VALUE: return "the field has no value";
     case MF4_TOO_FEW_BYTES: return "the block has too few bytes";
     case MF4_OTHER_ID: return "the block has another id";
     case MF4_NO_LINKS: return "the data list has no links";
@@ -88,6 +92,11 @@ static inline const char *mf4_reply_text(uint32_t reply)
     case MF4_BAD_RECORD_SIZE: return "the record size is 0 or over 16384, or the buffer is too short";
     case MF4_NO_SUCH_RECORD: return "the record is not inside the data";
     case MF4_TOO_FEW_LINKS: return "the channel block has fewer than 8 links";
+    case MF4_NO_BITS: return "the description gives the number no bits";
+    case MF4_BAD_BIT_OFFSET: return "the description's bit offset is over 7";
+    case MF4_INTEGER_TOO_WIDE: return "the description gives the integer over 64 bits";
+    case MF4_FIELD_OUTSIDE: return "the field ends outside the record or payload, which has too few bytes";
+    case MF4_BAD_FLOAT_WIDTH: return "the description gives the float neither 32 nor 64 bits";
     case MF4_NO_TEXT_TYPE: return "the data type is no text";
     default: return "no reply of this library";
     }
@@ -312,19 +321,22 @@ static inline double mf4_double_of(uint64_t number)
 /* record_id_size: the bytes of the record id in front of each record. data_bytes: the bytes of channel data behind it; the
  * invalidation bits begin where they end. */
 
-/* The value of a channel in a record, or in a payload where channel_type is 1 and data is not 0. Refuses with 1. */
+/* The value of a channel in a record, or in a payload where channel_type is 1 and data is not 0. Refuses with 18, 19, 20,
+ * 21, 22, tested in this order; all but 21 are for numbers alone. 21 tells how many bytes would be needed from the front of
+ * the record, its id counted, or of the payload; at most 2^64-1. The bytes themselves play no part: what is refused in one
+ * record is refused alike in every other of its size. */
 mf4_value mf4_decode_value(const uint8_t *record, size_t record_len, uint64_t record_id_size, mf4_channel channel);
 
 /* 1 if the value is valid, 0 if not, by the channel's flags; an invalidation bit beyond the record counts as valid. */
 uint8_t mf4_check_validity(const uint8_t *record, size_t record_len, uint64_t record_id_size, uint32_t data_bytes,
                            mf4_channel channel);
 
-/* Both. Refuses with 1, and then says nothing of validity. */
+/* Both. Refuses as mf4_decode_value, and then says nothing of validity. */
 mf4_valid_value mf4_decode_valid_value(const uint8_t *record, size_t record_len, uint64_t record_id_size,
                                        uint32_t data_bytes, mf4_channel channel);
 
 /* The value as a double's 64-bit pattern: integers rounded to the nearest double, ties to even. NaN, 0x7FF8000000000000,
- * for a payload, no value, or no number. */
+ * for a payload, for what mf4_decode_value refuses, and for no number. */
 uint64_t mf4_decode_double(const uint8_t *record, size_t record_len, uint64_t record_id_size, mf4_channel channel);
 
 /* ---- texts ------------------------------------------------------------------------------------------------------ */
@@ -398,8 +410,8 @@ typedef struct mf4_fetched {
 mf4_fetched mf4_read_record(const uint8_t *file, size_t file_len, uint64_t start, uint64_t number, uint64_t record_size,
                             uint8_t *buffer, size_t buffer_len);
 
-/* The record, and then one channel's value and validity in it. Refuses as mf4_read_record, then with 1, where the record
- * stays in the buffer. */
+/* The record, and then one channel's value and validity in it. Refuses as mf4_read_record, then as mf4_decode_value, where
+ * the record stays in the buffer. */
 mf4_valid_value mf4_record_value(const uint8_t *file, size_t file_len, uint64_t start, uint64_t number,
                                  uint64_t record_size, uint64_t record_id_size, uint32_t data_bytes, mf4_channel channel,
                                  uint8_t *buffer, size_t buffer_len);
