@@ -285,7 +285,13 @@ static const described descriptions[] = {
     { DESCRIBED("00 00 03 04", "00", "04", "00", "00"), 0, "F0", 0, 0, SIGNED_IS(-1), 1 },
     { DESCRIBED("00 00 04 00", "02", "20", "00", "00"), 9, "FF FF FF 00 00 80 3F", 1, 0,
       DOUBLE_IS(UINT64_C(0x3FF0000000000000)), 1 },
-    { DESCRIBED("00 00 05 00", "00", "10", "00", "00"), 0, "3F 80 00 00", 0, 0, NO_VALUE, 0 },
+    /* each of a field's refusals: no bits, bit offset 8, 65 bits, too few bytes, half a float */
+    { DESCRIBED("00 00 00 00", "00", "00", "00", "00"), 0, "34 12", 0, 0, REFUSED_WITH(18), 0 },
+    { DESCRIBED("00 00 00 08", "00", "08", "00", "00"), 0, "34 12", 0, 0, REFUSED_WITH(19), 0 },
+    { DESCRIBED("00 00 02 00", "00", "41", "00", "00"), 0, "34 12", 0, 0, REFUSED_WITH(20), 0 },
+    { DESCRIBED("00 00 00 00", "03", "10", "00", "00"), 0, "FF FF 34 12", 2, 0, OUTSIDE(7), 0 },
+    { DESCRIBED("01 00 00 00", "63", "18", "00", "00"), 7, "34 12", 3, 0, OUTSIDE(3), 0 },
+    { DESCRIBED("00 00 05 00", "00", "10", "00", "00"), 0, "3F 80 00 00", 0, 0, REFUSED_WITH(22), 0 },
     { DESCRIBED("00 00 07 00", "01", "18", "00", "00"), 0, "50 58 31 00", 0, 0, TEXT_STANDS(1, 2), 1 },
     { DESCRIBED("00 00 0A 00", "01", "18", "00", "00"), 0, "50 58 31 00", 0, 0, STANDS(MF4_KIND_BYTES, 1, 3), 1 },
     /* a payload; no data link; another channel type */
@@ -298,7 +304,7 @@ static const described descriptions[] = {
     { DESCRIBED("00 00 80 00", "00", "10", "00", "00"), 0, "34 12", 0, 0, UNKNOWN_IS, 1 },
     { DESCRIBED("00 00 FE 00", "00", "10", "00", "00"), 0, "34 12", 0, 0, UNKNOWN_IS, 1 },
     { DESCRIBED("00 00 FF 00", "00", "10", "00", "00"), 0, "34 12", 0, 0, UNKNOWN_IS, 1 },
-    { DESCRIBED("00 00 11 00", "00", "11", "00", "00"), 0, "34 12", 0, 0, NO_VALUE, 0 },
+    { DESCRIBED("00 00 11 00", "00", "11", "00", "00"), 0, "34 12", 0, 0, OUTSIDE(3), 0 },
     { DESCRIBED("01 00 11 00", "63", "40", "00", "00"), 7, "34 12", 0, 0, UNKNOWN_IS, 1 },
     /* invalid by the flags, by the record's bit, and valid by another bit */
     { DESCRIBED("00 00 00 00", "00", "10", "01", "09"), 0, "34 12 00 02", 0, 2, UNSIGNED_IS(4660), 0 },

@@ -62,10 +62,22 @@ static void check_channel_names(void)
     CHECK(MF4_UNKNOWN_TYPE == 255 && MF4_CHANNEL_BLOCK_SIZE == 160);
 }
 
+static void check_names_of_refused_fields(void)
+{
+    name_case("names of a field's refusals");
+    CHECK(MF4_NO_BITS == 18 && strcmp(mf4_reply_text(18), "the description gives the number no bits") == 0);
+    CHECK(MF4_BAD_BIT_OFFSET == 19 && strcmp(mf4_reply_text(19), "the description's bit offset is over 7") == 0);
+    CHECK(MF4_INTEGER_TOO_WIDE == 20 && strcmp(mf4_reply_text(20), "the description gives the integer over 64 bits") == 0);
+    CHECK(MF4_FIELD_OUTSIDE == 21
+          && strcmp(mf4_reply_text(21), "the field ends outside the record or payload, which has too few bytes") == 0);
+    CHECK(MF4_BAD_FLOAT_WIDTH == 22
+          && strcmp(mf4_reply_text(22), "the description gives the float neither 32 nor 64 bits") == 0);
+}
+
 static void check_reply_of_helpers(void)
 {
     name_case("the helpers' own reply");
-    CHECK(MF4_NO_TEXT_TYPE == 256 && strcmp(mf4_reply_text(MF4_NO_TEXT_TYPE), mf4_reply_text(18)) != 0);
+    CHECK(MF4_NO_TEXT_TYPE == 256 && strcmp(mf4_reply_text(MF4_NO_TEXT_TYPE), mf4_reply_text(23)) != 0);
 }
 
 void check_helpers(void)
@@ -75,5 +87,6 @@ void check_helpers(void)
     check_numbers();
     check_text_room();
     check_channel_names();
+    check_names_of_refused_fields();
     check_reply_of_helpers();
 }

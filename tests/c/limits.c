@@ -102,6 +102,7 @@ static void check_everything(void)
     check_channels();
     check_channel_writing();
     check_values();
+    check_refused_fields();
     check_doubles();
     check_texts();
     check_records();

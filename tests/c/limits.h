@@ -43,6 +43,7 @@ void check_list_writing(void);
 void check_channels(void);
 void check_channel_writing(void);
 void check_values(void);
+void check_refused_fields(void);
 void check_doubles(void);
 void check_texts(void);
 void check_records(void);

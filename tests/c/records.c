@@ -111,17 +111,39 @@ static void check_record_value_answers(void)
     CHECK(valid_value_is(record_value(1, 3, 1, text_channel, buffer), text, 1) && holds_only_hex(buffer, "04 05 06"));
 }
 
+typedef struct refused_field {
+    uint64_t id_size;
+    mf4_channel channel;
+    uint32_t reply;
+    uint64_t told;
+} refused_field;
+
+static const refused_field refused_fields[] = {
+    { 0, FIELD(MF4_UNSIGNED_LE, 0, 0, 0), 18, 0 },
+    { 0, FIELD(MF4_SIGNED_BE, 8, 0, 8), 19, 0 },
+    { 0, FIELD(MF4_UNSIGNED_BE, 0, 0, 65), 20, 0 },
+    { 0, FIELD(MF4_UNSIGNED_LE, 0, 2, 16), 21, 4 },
+    { 1, FIELD(MF4_LATIN1, 0, 2, 16), 21, 5 },
+    { 9, PAYLOAD(MF4_SIGNED_LE, 0, 32), 21, 4 },
+    { MOST, FIELD(MF4_UNSIGNED_LE, 0, 0, 8), 21, MOST },
+    { 0, FIELD(MF4_FLOAT_LE, 0, 0, 16), 22, 0 },
+};
+
 /* The field is refused and the record stays. The marks behind the record are no part of it. */
 static void check_record_value_refusals(void)
 {
-    const mf4_channel too_far = FIELD(MF4_UNSIGNED_LE, 0, 2, 16), good = FIELD(MF4_UNSIGNED_LE, 0, 0, 8);
-    lent buffer;
-    name_case("a record's field refused");
+    size_t i;
     make_cut_file();
-    buffer = lend_marked(OUTPUT, 9);
-    CHECK(valid_value_refused(record_value(1, 3, 0, too_far, buffer), 1, 0) && holds_only_hex(buffer, "04 05 06"));
-    buffer = lend_marked(OUTPUT, 3);
-    CHECK(valid_value_refused(record_value(0, 3, MOST, good, buffer), 1, 0) && holds_only_hex(buffer, "01 02 03"));
+    for (i = 0; i < COUNT(refused_fields); i++) {
+        const refused_field a = refused_fields[i];
+        lent buffer = lend_marked(OUTPUT, 9);
+        name_row("a record's field refused", i);
+        CHECK(valid_value_refused(record_value(1, 3, a.id_size, a.channel, buffer), a.reply, a.told));
+        CHECK(holds_only_hex(buffer, "04 05 06"));
+        buffer = lend_marked(OUTPUT, 3);
+        CHECK(valid_value_refused(record_value(0, 3, a.id_size, a.channel, buffer), a.reply, a.told));
+        CHECK(holds_only_hex(buffer, "01 02 03"));
+    }
 }
 
 static void check_refused_records(void)
