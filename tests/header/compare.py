@@ -2,18 +2,19 @@
 
     compare.py BUILD_DIR [COMPILER]    from the repository's root
 
-The structs and calls of the source, in the words of C, must be those of the header, one by one: fields and arguments by
-name, type and order; sizes and offsets as a C compiler lays them out. Each struct NAME must have its theorem NAME-fields
-and each call NAME its theorem NAME-arguments, with the fields and arguments in that order. Exit status: 0 if all agree, 1 if
-not.
+The replies, structs and calls of the source, in the words of C, must be those of the header, one by one: replies by name
+and number; fields and arguments by name, type and order; sizes and offsets as a C compiler lays them out. Each struct NAME
+must have its theorem NAME-fields and each call NAME its theorem NAME-arguments, with the fields and arguments in that order.
+Exit status: 0 if all agree, 1 if not.
 """
 
 import sys
 
 import theorems
 from header import Header
-from source import Source, Unreadable
+from source import Source, Unreadable, replies
 
+REFUSALS = "crates/refusals/src/lib.rt"
 SOURCE = ["crates/replies/src", "crates/mf4/src"]
 THEOREMS = ["crates/replies/proofs/Structs.antt", "crates/mf4/proofs/Border.antt"]
 INCLUDE, HEADER = "include", "include/mf4.h"
@@ -46,11 +47,13 @@ def expected_layout(source):
 
 def differences(compiler, build):
     source, header = Source(SOURCE), Header(HEADER)
+    yield from one_by_one("reply", replies(REFUSALS), HEADER, header.replies)
     yield from one_by_one("struct", declarations(source.structs), HEADER, declarations(header.structs))
     yield from one_by_one("the layout of", expected_layout(source), HEADER, header.measured(compiler, INCLUDE, build))
     yield from one_by_one("call", source.calls, HEADER, header.calls)
     yield from one_by_one("theorem", theorems.expected(source), " and ".join(THEOREMS), theorems.stated(THEOREMS))
-    print(f"header: {len(header.structs)} structs and {len(header.calls)} calls compared with the source and the theorems")
+    counts = f"{len(header.replies)} replies, {len(header.structs)} structs and {len(header.calls)} calls"
+    print(f"header: {counts} compared with the source and the theorems")
 
 
 def main():

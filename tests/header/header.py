@@ -1,13 +1,18 @@
-"""The structs and prototypes of mf4.h, and what a C compiler makes of the structs."""
+"""The replies, structs and prototypes of mf4.h, and what a C compiler makes of the structs."""
 
 import os
 import re
 import subprocess
 from pathlib import Path
 
+REPLIES = re.compile(r"enum mf4_reply \{([^}]*)\}")
+REPLY = re.compile(r"(MF4_\w+) = (\d+)")
 STRUCT = re.compile(r"typedef struct (\w+) \{([^}]*)\} \1;")
 INLINE = re.compile(r"static inline [^{]*\{.*?\n\}\n", re.S)
 PROTOTYPE = re.compile(r"^([\w ]+ \*?(\w+)\([^)]*\));", re.M)
+
+# Replies from here on are those of the header's own helpers.
+FIRST_OF_HELPERS = 256
 
 
 def spaced(text):
@@ -15,10 +20,12 @@ def spaced(text):
 
 
 class Header:
-    """structs: for each its fields as (name, type). calls: for each its prototype."""
+    """replies: for each its number. structs: for each its fields as (name, type). calls: for each its prototype."""
 
     def __init__(self, path):
         text = re.sub(r"/\*.*?\*/", "", Path(path).read_text(encoding="utf-8"), flags=re.S)
+        self.replies = {name: number for name, number in REPLY.findall(REPLIES.search(text)[1])
+                        if int(number) < FIRST_OF_HELPERS}
         self.structs = {name: self.fields(body) for name, body in STRUCT.findall(text)}
         self.calls = {name: spaced(prototype) for prototype, name in PROTOTYPE.findall(INLINE.sub("", text))}
 

@@ -1,4 +1,4 @@
-"""The structs and calls for C of the library's own source, in the words of C."""
+"""The replies, structs and calls for C of the library's own source, in the words of C."""
 
 import re
 from pathlib import Path
@@ -9,6 +9,8 @@ SIZES = {"uint8_t": 1, "uint16_t": 2, "uint32_t": 4, "uint64_t": 8, "int64_t": 8
 STRUCT = re.compile(r"#\[repr\(C\)\]\s*pub struct (\w+) \{(.*?)\}", re.S)
 CALL = re.compile(r'#\[no_mangle\]\s*pub extern "C" fn (\w+)\((.*?)\) -> (\w+)', re.S)
 MARKED = re.compile(r"#\[(?:repr\(C\)|no_mangle)\]")
+NUMBERED = re.compile(r"pub fn number\(self\) -> u32.*?\n    \}\n", re.S)
+REFUSAL = re.compile(r"Refusal::(\w+)(?:\(_\))? => (\d+),")
 
 
 class Unreadable(Exception):
@@ -40,6 +42,15 @@ def named(text):
     """The (name, type) pairs of a struct's body or of an argument list."""
     pairs = [part.strip().removeprefix("pub ") for part in text.split(",") if part.strip()]
     return [tuple(word.strip() for word in pair.split(":")) for pair in pairs]
+
+
+def replies(path):
+    """The number of each reply by its name in C: the answer's, and what the source's one enum of refusals numbers."""
+    numbered = NUMBERED.findall(Path(path).read_text(encoding="utf-8"))
+    refusals = [refusal for body in numbered for refusal in REFUSAL.findall(body)]
+    if len(numbered) != 1 or len(refusals) != numbered[0].count("=>"):
+        raise Unreadable(f"{path}: the refusals are numbered in another way than this test knows")
+    return {"MF4_ANSWER": "0"} | {f"MF4_{snake(name).upper()}": number for name, number in refusals}
 
 
 class Source:
