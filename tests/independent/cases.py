@@ -227,11 +227,31 @@ def place_boundaries(rng):
         for bit_count, record_size in ((8, 12), (7, 12), (64, 16), (32, 0), (0, 9), (0, 0)):
             channel = Channel(data_type, 0, 0, 0, bit_count)
             at_end = record_size - id_size - span_size(channel)
-            for byte_offset in {at_end - 1, at_end, at_end + 1, at_end + 2, 2**64 - id_size, 2**64 - id_size + 1, U32}:
+            at_most = U64 - id_size - span_size(channel)  # the largest sum that can be told
+            past = {at_most - 1, at_most, at_most + 1, 2**64 - id_size, 2**64 - id_size + 1, U32}
+            for byte_offset in {at_end - 1, at_end, at_end + 1, at_end + 2} | past:
                 if 0 <= byte_offset <= U32:
                     record = some_bytes(rng, record_size)
                     calls = [rng.choice(["decode_value", "decode_valid_value", "decode_double"])]
                     yield from value_cases(rng, record, id_size, channel._replace(byte_offset=byte_offset), calls)
+
+
+def refusal_boundaries(rng):
+    """Each cause of a field's refusal beside each other one: in a record that is empty, a byte short or long enough, behind
+    an id with which the bytes needed pass 2^64, and in a payload."""
+    widths = (0, 1, 16, 31, 32, 33, 63, 64, 65, 128, U32)
+    for data_type, bit_offset, bit_count in itertools.product(TYPE_CODES, (0, 1, 7, 8, 9, 255), widths):
+        id_size, byte_offset = rng.choice(ID_SIZES), rng.randint(0, 9)
+        channel = Channel(data_type, rng.choice([0, 2]), bit_offset, byte_offset, bit_count)
+        span = span_size(channel)
+        needed = id_size + byte_offset + span
+        calls = ["decode_value", rng.choice(["decode_valid_value", "decode_double"])]
+        for length in (0, max(0, needed - 1), needed):
+            yield from value_cases(rng, some_bytes(rng, length), id_size, channel, calls)
+        far = channel._replace(byte_offset=rng.choice([0, byte_offset, U32]))
+        yield from value_cases(rng, some_bytes(rng, needed), rng.choice(HUGE_ID_SIZES), far, calls)
+        payload = some_bytes(rng, rng.choice([0, max(0, span - 1), span]))
+        yield from value_cases(rng, payload, edge_number(rng, U64), as_payload(rng, channel), calls)
 
 
 def payload_boundaries(rng):
@@ -1011,6 +1031,20 @@ def record_value_boundaries(rng):
             yield "record_value", (file, chain.start, number, 5, 1, 2, as_payload(rng, channel), b"\xee" * room)
 
 
+def record_refusal_boundaries(rng):
+    """Each cause of a field's refusal in a record that is fetched, which then stays in the buffer."""
+    chain = Chain(rng, [b"\1\x34\x12", b"\0\2\x3f\x80\0\0\1"], [([0, 1], False)])
+    file = chain.file()
+    widths = (0, 1, 16, 24, 32, 33, 64, 65, U32)
+    for data_type, bit_offset, bit_count in itertools.product(NUMBER_TYPES, (0, 7, 8, 255), widths):
+        for number, id_size in itertools.product((0, 1), (0, 1, rng.choice(HUGE_ID_SIZES))):
+            channel = Channel(data_type, 0, bit_offset, rng.choice([0, 0, 1, 5, U32]), bit_count, rng.choice([0, 1, 2]))
+            buffer = out_buffer(rng, rng.choice([5, 9]))
+            yield "record_value", (file, chain.start, number, 5, id_size, 4, channel, buffer)
+            if id_size == 0:
+                yield "record_value", (file, chain.start, number, 5, id_size, 4, as_payload(rng, channel), buffer)
+
+
 def asked_by_every_call(chain_cases):
     """The same cases; and each chain that is asked for records is also asked once for its length and for a value."""
     asked = None
@@ -1026,17 +1060,18 @@ def asked_by_every_call(chain_cases):
 
 BOUNDARIES = (header_boundaries, type_boundaries, list_read_boundaries, list_id_and_link_boundaries, list_write_boundaries,
               channel_read_boundaries, channel_id_and_link_boundaries, channel_type_boundaries, channel_limit_boundaries,
-              channel_write_boundaries, field_boundaries, place_boundaries, payload_boundaries, text_field_boundaries,
-              validity_boundaries, number_boundaries, text_boundaries, text_helper_boundaries)
+              channel_write_boundaries, field_boundaries, place_boundaries, refusal_boundaries, payload_boundaries,
+              text_field_boundaries, validity_boundaries, number_boundaries, text_boundaries, text_helper_boundaries)
 
 CHAIN_BOUNDARIES = (cut_boundaries, query_boundaries, long_file_boundaries, loop_boundaries, order_boundaries,
-                    limit_boundaries, large_record_boundaries, record_value_boundaries)
+                    limit_boundaries, large_record_boundaries, record_value_boundaries, record_refusal_boundaries)
 
 RANDOM_CASES = ([random_header_case] + [random_list_case] * 2 + [random_channel_block_case] * 2 + [random_value_case] * 6
                 + [random_text_case] * 4 + [random_chain_case] * 5)
 
 # The replies of each call that has any, which the boundary cases reach. Reply 14 has no case: 4,096 fragments of at most
 # 2^40 bytes never pass 2^63-1.
+FIELD_REPLIES = {0, 18, 19, 20, 21, 22}
 CHAIN_REPLIES = {0, 2, 3, 4, 7, 8, 9, 10, 11, 12, 13}
 REPLIES = {
     "read_header": {0, 2},
@@ -1046,13 +1081,13 @@ REPLIES = {
     "write_list_variable": {0, 5, 6},
     "read_channel": {0, 2, 3, 17},
     "write_channel": {0, 6},
-    "decode_value": {0, 1},
-    "decode_valid_value": {0, 1},
+    "decode_value": FIELD_REPLIES,
+    "decode_valid_value": FIELD_REPLIES,
     **{call: {0, 6} for call in TEXT_CALLS},
     "text_by_type": {0, 6, 256},
     "data_length": CHAIN_REPLIES,
     "read_record": CHAIN_REPLIES | {15, 16},
-    "record_value": CHAIN_REPLIES | {1, 15, 16},
+    "record_value": CHAIN_REPLIES | FIELD_REPLIES | {15, 16},
 }
 
 

@@ -25,7 +25,6 @@ MOST_RECORD_BYTES = 16384
 # ---- replies -----------------------------------------------------------------------------------------------------------
 
 ANSWER = 0
-NO_VALUE = 1
 TOO_FEW_BYTES = 2
 OTHER_ID = 3
 NO_LINKS = 4
@@ -42,7 +41,15 @@ DATA_TOO_LONG = 14
 BAD_RECORD_SIZE = 15
 NO_SUCH_RECORD = 16
 TOO_FEW_LINKS = 17
+NO_BITS = 18
+BAD_BIT_OFFSET = 19
+INTEGER_TOO_WIDE = 20
+FIELD_OUTSIDE = 21
+BAD_FLOAT_WIDTH = 22
 NO_TEXT_TYPE = 256  # of a helper of mf4.h, not of the library
+
+# A field is refused with one of these, the first that holds.
+FIELD_REFUSALS = (NO_BITS, BAD_BIT_OFFSET, INTEGER_TOO_WIDE, FIELD_OUTSIDE, BAD_FLOAT_WIDTH)
 
 
 class Refusal(Exception):
@@ -429,23 +436,22 @@ def span_of(channel):
 
 
 def place_and_span(record, id_size, channel):
-    """Where the bytes of the field stand in the record or payload, and how many they are."""
+    """Where the bytes of the field stand in the record or payload, and how many they are; refused if it has not as many."""
     if not is_variable_length(channel):
         place, span = id_size + channel.byte_offset, span_of(channel)
     elif channel.data_type in NUMBERS:
         place, span = 0, span_of(channel)
     else:
         place, span = 0, len(record)
-    refuse_if(place + span > len(record), NO_VALUE)
+    refuse_if(place + span > len(record), FIELD_OUTSIDE, place + span)
     return place, span
 
 
 def check_number_shape(channel):
-    refuse_if(channel.bit_count == 0 or channel.bit_offset > 7, NO_VALUE)
-    if channel.data_type in FLOATS:
-        refuse_if(channel.bit_count not in (32, 64), NO_VALUE)
-    else:
-        refuse_if(channel.bit_count > 64, NO_VALUE)
+    """All that a number is refused for before its place is looked at."""
+    refuse_if(channel.bit_count == 0, NO_BITS)
+    refuse_if(channel.bit_offset > 7, BAD_BIT_OFFSET)
+    refuse_if(channel.data_type in INTEGERS and channel.bit_count > 64, INTEGER_TOO_WIDE)
 
 
 def number_of(span_bytes, channel):
@@ -476,6 +482,7 @@ def value_of(record, id_size, channel):
     if channel.data_type in NUMBERS:
         check_number_shape(channel)
     place, span = place_and_span(record, id_size, channel)
+    refuse_if(channel.data_type in FLOATS and channel.bit_count not in (32, 64), BAD_FLOAT_WIDTH)
     field = record[place:place + span]
     if channel.data_type in NUMBERS:
         return number_of(field, channel)

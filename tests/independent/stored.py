@@ -10,6 +10,7 @@ import sys
 import reference
 
 LEFT_ALONE = 0xA5  # fills a lent buffer
+NO_CAUSE = "-"  # stored where mf4-rs gives no value and tells no cause: any of a field's refusals is right
 
 
 class Words:
@@ -182,13 +183,21 @@ ANSWERS = {
 }
 
 
+def agrees(kind, found, stored):
+    if kind in ("value", "both") and stored == NO_CAUSE:
+        return int(found.split()[0], 16) in reference.FIELD_REFUSALS
+    return found == stored
+
+
 def is_stored(line):
     given, stored = line.split(" = ")
     words = Words(given)
-    found = " ".join(ANSWERS[words.word()](words))
-    if found != stored:
+    kind = words.word()
+    found = " ".join(ANSWERS[kind](words))
+    if not agrees(kind, found, stored):
         print(f"DIFFERENCE\n  stored    {line}\n  reference {found}")
-    return found == stored
+        return False
+    return True
 
 
 def main():

@@ -1,6 +1,7 @@
 """Tests of reference.py: the rules' examples, Python's own float() and codecs, and vectors from outside."""
 
 import codecs
+import collections
 import random
 import struct
 import sys
@@ -58,7 +59,9 @@ def bits_of(double):
     return struct.unpack("<Q", struct.pack("<d", double))[0]
 
 
-NOTHING = Value(1)
+def refused(reply, told=0):
+    return Value(reply, told=told)
+
 
 # ---- the rules' examples -------------------------------------------------------------------------------------------
 
@@ -76,14 +79,14 @@ def example_integers():
     nine = bytes(8) + b"\x0f"
     check("64 bits in 9 bytes", value(nine, field(r.SIGNED_LE, 64, 4)),
           Value(kind=r.SIGNED_KIND, number=2**64 - 1152921504606846976))
-    check("64 bits in 8 bytes", r.decode_value(nine[:8], 0, field(r.SIGNED_LE, 64, 4)), NOTHING)
+    check("64 bits in 8 bytes", r.decode_value(nine[:8], 0, field(r.SIGNED_LE, 64, 4)), refused(21, 9))
 
 
 def example_floats():
     check("1.0", value(hexed("00 00 80 3F"), field(r.FLOAT_LE, 32)), Value(kind=r.DOUBLE_KIND, number=bits_of(1.0)))
     check("smallest single", value(hexed("01 00 00 00"), field(r.FLOAT_LE, 32)),
           Value(kind=r.DOUBLE_KIND, number=0x36A0000000000000))
-    check("float of 16 bits", r.decode_value(hexed("00 00 80 3F"), 0, field(r.FLOAT_LE, 16)), NOTHING)
+    check("float of 16 bits", r.decode_value(hexed("00 00 80 3F"), 0, field(r.FLOAT_LE, 16)), refused(22))
 
 
 def example_doubles():
@@ -97,10 +100,24 @@ def example_texts():
     check("Latin-1 stops at NUL", value(serial, field(r.LATIN1, 40)), Value(kind=r.TEXT_KIND, at=0, length=3))
     for data_type in r.TEXTS:
         check("7 bits at the end", value(b"ab", field(data_type, 7, 0, 2)), Value(kind=r.TEXT_KIND, at=2, length=0))
-        check("7 bits past the end", r.decode_value(b"ab", 0, field(data_type, 7, 0, 3)), NOTHING)
+        check("7 bits past the end", r.decode_value(b"ab", 0, field(data_type, 7, 0, 3)), refused(21, 3))
     check("UTF-16 with an odd byte", r.text_utf16_le(hexed("41 00 42"), b"...."), (r.Text(count=1), b"A..."))
     check("half a pair", r.text_utf16_le(hexed("00 D8"), b"." * 18), (r.Text(count=17, damaged=1), b"<Invalid UTF16LE>."))
     check("Latin-1 as UTF-8", r.text_latin1(hexed("E9"), b"..."), (r.Text(count=2), hexed("C3 A9") + b"."))
+
+
+def example_refusals():
+    check("a float of 65 bits in nothing", r.decode_value(b"", 0, field(r.FLOAT_LE, 65)), refused(21, 9))
+    check("a float of 65 bits", r.decode_value(bytes(9), 0, field(r.FLOAT_LE, 65)), refused(22))
+    check("behind an id of 2", r.decode_value(bytes(6), 2, field(r.UNSIGNED_LE, 16, 0, 3)), refused(21, 7))
+    check("24 bits of a payload of 2 bytes", r.decode_value(bytes(2), 9, Channel(r.SIGNED_BE, 1, 0, 5, 24, data=7)),
+          refused(21, 3))
+    date = field(r.CANOPEN_DATE, 0, 9)
+    check("a date of no bits in 2 bytes", r.decode_value(bytes(2), 0, date), Value(kind=r.UNKNOWN_KIND))
+    check("a date of no bits in 1 byte", r.decode_value(bytes(1), 0, date), refused(21, 2))
+    check("a text of no bits", r.decode_value(bytes(1), 0, field(r.LATIN1, 0, 9)), Value(kind=r.TEXT_KIND))
+    for length in (0, 1, 8, 9, 20):
+        check(f"65 bits in {length} bytes", r.decode_value(bytes(length), 0, field(r.UNSIGNED_LE, 65)), refused(20))
 
 
 def example_validity():
@@ -179,7 +196,7 @@ def example_chain():
         check("field of record 1", r.record_value(chain.file(), chain.start, 1, 2, 0, 2, field(r.UNSIGNED_LE, 16), b".."),
               (r.ValidValue(kind=r.UNSIGNED_KIND, number=0x0403, is_valid=1), hexed("03 04")))
         check("refused field of record 1", r.record_value(chain.file(), chain.start, 1, 2, 1, 2, field(0, 16), b".."),
-              (r.ValidValue(1), hexed("03 04")))
+              (r.ValidValue(21, told=3), hexed("03 04")))
 
 
 # ---- rules without an example ------------------------------------------------------------------------------------------
@@ -242,19 +259,78 @@ def rules_of_values():
     payload = Channel(r.UNSIGNED_LE, 1, 4, 99, 8, data=7)
     check("payload number", r.decode_value(hexed("34 12"), 2**64 - 1, payload),
           Value(kind=r.UNSIGNED_KIND, number=0x23))
-    check("payload number too short", r.decode_value(hexed("34"), 0, payload), NOTHING)
+    check("payload number too short", r.decode_value(hexed("34"), 0, payload), refused(21, 2))
     check("payload as a double", r.decode_double(hexed("34 12"), 0, payload), r.NAN)
     check("payload text", r.decode_value(b"abc", 5, payload._replace(data_type=r.UTF8, bit_count=0)),
           Value(kind=r.TEXT_KIND, at=0, length=3))
-    check("no payload without a data link", r.decode_value(b"abc", 5, payload._replace(data=0)), NOTHING)
-    check("sum past 2^64", r.decode_value(b"abc", 2**64 - 1, field(0, 8, 0, 1)), NOTHING)
-    check("65 bits", r.decode_value(bytes(20), 0, field(0, 65)), NOTHING)
+    check("no payload without a data link", r.decode_value(b"abc", 5, payload._replace(data=0)), refused(21, 106))
     check("unknown type", r.decode_value(b"a", 0, field(99, 0)), Value(kind=r.UNKNOWN_KIND))
-    check("unknown type past the end", r.decode_value(b"", 0, field(99, 0)), NOTHING)
+    check("unknown type past the end", r.decode_value(b"", 0, field(99, 0)), refused(21, 1))
     check("64-bit NaN keeps its bits", value(hexed("01 00 00 00 00 00 f0 7f"), field(r.FLOAT_LE, 64)).number,
           0x7FF0000000000001)
     check("32-bit NaN", value(hexed("ff ff ff ff"), field(r.FLOAT_LE, 32)).number, r.NAN)
     check("text as a double", r.decode_double(b"1", 0, field(r.UTF8, 8)), r.NAN)
+
+
+def rules_of_refusals():
+    """The first cause that holds, in the order of the rules; beside it the one NaN, and the validity alone."""
+    def asked(wanted, record, id_size, channel):
+        check(f"{channel} in {len(record)} bytes", r.decode_value(record, id_size, channel), wanted)
+        both = r.decode_valid_value(record, id_size, 0, channel)
+        check("with validity", both, r.ValidValue(*wanted, int(wanted.reply == 0)))
+        if wanted.reply != 0:
+            check("as a double", r.decode_double(record, id_size, channel), r.NAN)
+            check("validity alone", r.check_validity(record, id_size, 0, channel), 1)
+
+    for data_type in r.NUMBERS:
+        for record in (b"", bytes(20)):
+            asked(refused(18), record, 0, field(data_type, 0))
+            asked(refused(18), record, 0, field(data_type, 0, 8))
+            for bits in (1, 16, 32, 64, 65, 2**32 - 1):
+                asked(refused(19), record, 2**64 - 1, field(data_type, bits, 8))
+        asked(refused(21, 1), b"", 0, field(data_type, 1, 7))
+        asked(refused(21, 9), bytes(8), 0, field(data_type, 64, 7))
+    for data_type in r.INTEGERS:
+        asked(refused(20), b"", 2**64 - 1, field(data_type, 65, 7))
+        asked(refused(20), bytes(20), 0, field(data_type, 2**32 - 1))
+    for data_type in r.FLOATS:
+        asked(refused(21, 2), bytes(1), 0, field(data_type, 16))
+        for bits in (1, 16, 31, 33, 63, 65, 128):
+            asked(refused(22), bytes(20), 0, field(data_type, bits, 7))
+    for data_type in set(range(256)) - set(r.NUMBERS):
+        check("no number", r.decode_value(bytes(70), 1, field(data_type, 0, 255)).reply, 0)
+        check("no number, wide", r.decode_value(bytes(70), 1, field(data_type, 65, 8)).reply, 0)
+        asked(refused(21, 8), bytes(7), 2, field(data_type, 24, 0, 3))
+        check("a payload", r.decode_value(b"", 2**64 - 1, Channel(data_type, 1, 255, 9, 2**32 - 1, data=7)).reply, 0)
+
+
+def rules_of_told_bytes():
+    """Start and span summed without wrapping, and told as 2^64 - 1 where that is passed."""
+    for id_size, byte_offset, bits, told in (
+            (2**64 - 3, 0, 8, 2**64 - 2), (2**64 - 2, 0, 8, 2**64 - 1), (2**64 - 1, 0, 8, 2**64 - 1),
+            (2**64 - 1, 1, 8, 2**64 - 1), (2**64 - 1, 2**32 - 1, 64, 2**64 - 1), (2**64 - 2**32, 2**32 - 1, 8, 2**64 - 1),
+            (2**64 - 2**32 - 1, 2**32 - 1, 8, 2**64 - 1), (2**64 - 2**32 - 2, 2**32 - 1, 8, 2**64 - 2),
+            (2**32 - 1, 2**32 - 1, 8, 2**33 - 1), (0, 2**32 - 1, 64, 2**32 + 7)):
+        for data_type in (r.UNSIGNED_LE, r.SIGNED_BE, r.LATIN1, r.BYTE_ARRAY, r.CANOPEN_DATE, 99):
+            check(f"told behind {id_size} and {byte_offset}",
+                  r.decode_value(b"abc", id_size, field(data_type, bits, 0, byte_offset)), refused(21, told))
+    check("bits that sum past 2^32", r.decode_value(b"", 0, field(r.FLOAT_LE, 2**32 - 1, 7)), refused(21, 2**29 + 1))
+    check("a text's whole bytes", r.decode_value(b"", 0, field(r.UTF8, 2**32 - 1, 7)), refused(21, 2**29 - 1))
+
+
+def cases_of_refusals():
+    """The cases reach each cause often, in records that are fetched too, and sums that are told as 2^64 - 1."""
+    reached = collections.Counter()
+    for boundaries in (cases.refusal_boundaries, cases.record_refusal_boundaries):
+        for call, arguments in boundaries(random.Random(12)):
+            if call != "decode_double":
+                result = protocol.CALLS[call][0](*arguments)
+                value = result[0] if call == "record_value" else result
+                reached[call, value.reply] += 1
+                reached[call, "2^64 - 1"] += value.told == 2**64 - 1
+    for call in ("decode_value", "decode_valid_value", "record_value"):
+        for what in (*r.FIELD_REFUSALS, "2^64 - 1"):
+            check(f"{call} {what} is reached often", reached[call, what] >= 20, True)
 
 
 def rules_of_text_helpers():
@@ -478,6 +554,7 @@ def main():
     section("example: floats", example_floats)
     section("example: doubles", example_doubles)
     section("example: texts", example_texts)
+    section("example: refusals of a field", example_refusals)
     section("example: validity", example_validity)
     section("example: lists", example_lists)
     section("example: channels", example_channels)
@@ -487,6 +564,9 @@ def main():
     section("rules of writing lists", rules_of_writing)
     section("rules of channels", rules_of_channels)
     section("rules of values", rules_of_values)
+    section("rules of a field's refusals", rules_of_refusals)
+    section("rules of the bytes told", rules_of_told_bytes)
+    section("cases of a field's refusals", cases_of_refusals)
     section("rules of the helpers for texts", rules_of_text_helpers)
     section("rules of chains", rules_of_chains)
     section("IEEE 754 vectors", outside_doubles)
