@@ -76,8 +76,8 @@ static void exercise_record_value(query asked, mf4_fetched fetched, lent record)
     lent buffer = lend_marked(TWIN_OUTPUT, asked.buffer_length);
     mf4_valid_value answer = record_value(asked, asked.file.length, buffer), expected;
     memset(&expected, 0, sizeof expected);
-    check_reply(RECORD_VALUE, answer.reply, answer.told, RECORD_REPLIES | REPLY(1));
-    note(RECORD_VALUE, 20 + answer.kind);
+    check_reply(RECORD_VALUE, answer.reply, answer.told, RECORD_REPLIES | FIELD_REFUSALS);
+    note(RECORD_VALUE, 32 + answer.kind);
     if (fetched.reply == MF4_ANSWER)
         expected = mf4_decode_valid_value(record.bytes, (size_t)asked.record_size, asked.how.id_size, asked.how.data_bytes,
                                           asked.how.channel);

@@ -141,7 +141,7 @@ static void exercise_read(lent input, mf4_channel_block block, reading how)
     exercise_value(input, how);
     if (block.channel.data_type == MF4_UNKNOWN_TYPE) {
         mf4_value value = mf4_decode_value(input.bytes, input.length, how.id_size, how.channel);
-        MUST(value.reply == MF4_ANSWER ? value.kind == MF4_KIND_UNKNOWN : value.reply == MF4_NO_VALUE);
+        MUST(value.reply == MF4_ANSWER ? value.kind == MF4_KIND_UNKNOWN : value.reply == MF4_FIELD_OUTSIDE);
     }
     exercise_write(block);
 }

@@ -28,8 +28,8 @@ void note(enum call call, unsigned what) { seen[call][what % 64] = 1; }
 void check_reply(enum call call, uint32_t reply, uint64_t told, uint32_t allowed)
 {
     note(call, reply);
-    MUST(reply <= MF4_TOO_FEW_LINKS && (allowed >> reply & 1) == 1);
-    MUST(told == 0 || reply == MF4_TOO_FEW_BYTES || reply == MF4_NO_ROOM);
+    MUST(reply <= MF4_BAD_FLOAT_WIDTH && (allowed >> reply & 1) == 1);
+    MUST(told == 0 || reply == MF4_TOO_FEW_BYTES || reply == MF4_NO_ROOM || reply == MF4_FIELD_OUTSIDE);
     MUST(strcmp(mf4_reply_text(reply), "no reply of this library") != 0);
 }
 

@@ -20,6 +20,7 @@ enum call {
 void note(enum call call, unsigned what);
 
 #define REPLY(number) (1u << (number))
+#define FIELD_REFUSALS (REPLY(18) | REPLY(19) | REPLY(20) | REPLY(21) | REPLY(22))
 
 /* The reply is one of those allowed, and tells something only where it may. */
 void check_reply(enum call call, uint32_t reply, uint64_t told, uint32_t allowed);

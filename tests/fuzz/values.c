@@ -47,6 +47,7 @@ static int is_payload(mf4_channel channel)
 
 static int is_integer(mf4_channel channel) { return channel.data_type <= MF4_SIGNED_BE; }
 static int is_number(mf4_channel channel) { return channel.data_type <= MF4_FLOAT_BE; }
+static int is_float(mf4_channel channel) { return is_number(channel) && !is_integer(channel); }
 
 /* The field bit by bit, lowest first: slow, and told quite otherwise than by words and shifts. */
 static uint64_t field_of(const uint8_t *span, size_t span_length, mf4_channel channel)
@@ -92,44 +93,69 @@ static void check_number(mf4_value value, uint64_t field, mf4_channel channel)
     MUST(value.at == 0 && value.length == 0);
 }
 
-/* Is the number's field inside the record, and of a shape that has a value? Written without a sum that could wrap. */
-static int number_has_value(lent record, uint64_t id_size, mf4_channel channel, uint64_t *place, uint64_t *span)
+/* At most 2^64-1, which is more bytes than a slice has. */
+static uint64_t sum_of(uint64_t a, uint64_t b) { return a <= UINT64_MAX - b ? a + b : UINT64_MAX; }
+
+static uint64_t start_of(reading how)
 {
-    *place = 0;
-    *span = ((uint64_t)channel.bit_offset + channel.bit_count + 7) / 8;
-    if (channel.bit_count == 0 || channel.bit_offset > 7)
-        return 0;
-    if (is_integer(channel) ? channel.bit_count > 64 : channel.bit_count != 32 && channel.bit_count != 64)
-        return 0;
-    if (!is_payload(channel)) {
-        if (id_size > record.length || channel.byte_offset > record.length - id_size)
-            return 0;
-        *place = id_size + channel.byte_offset;
-    }
-    return *span <= record.length - *place;
+    return is_payload(how.channel) ? 0 : sum_of(how.id_size, how.channel.byte_offset);
 }
 
-static void check_number_field(lent record, reading how, mf4_value answer)
+/* All of a payload that is no number; the whole bytes of a text or of bytes; else all that the bits reach into. */
+static uint64_t span_of(size_t length, mf4_channel channel)
 {
-    uint64_t place, span;
-    int has_value = number_has_value(record, how.id_size, how.channel, &place, &span);
-    MUST((answer.reply == MF4_ANSWER) == has_value);
-    if (has_value)
-        check_number(answer, field_of(record.bytes + place, (size_t)span, how.channel), how.channel);
+    const uint64_t bits = (uint64_t)channel.bit_offset + channel.bit_count;
+    if (is_payload(channel) && !is_number(channel))
+        return length;
+    if (channel.data_type >= MF4_LATIN1 && channel.data_type <= MF4_MIME_STREAM)
+        return channel.bit_count / 8;
+    return bits > 0 ? (bits + 7) / 8 : 1;
+}
+
+static uint64_t bytes_needed(size_t length, reading how) { return sum_of(start_of(how), span_of(length, how.channel)); }
+
+/* The first cause in the order of the rules, or the answer. */
+static uint32_t reply_due(size_t length, reading how)
+{
+    const mf4_channel channel = how.channel;
+    if (is_number(channel) && channel.bit_count == 0)
+        return MF4_NO_BITS;
+    if (is_number(channel) && channel.bit_offset > 7)
+        return MF4_BAD_BIT_OFFSET;
+    if (is_integer(channel) && channel.bit_count > 64)
+        return MF4_INTEGER_TOO_WIDE;
+    if (bytes_needed(length, how) > length)
+        return MF4_FIELD_OUTSIDE;
+    if (is_float(channel) && channel.bit_count != 32 && channel.bit_count != 64)
+        return MF4_BAD_FLOAT_WIDTH;
+    return MF4_ANSWER;
+}
+
+static void check_refusal(size_t length, reading how, mf4_value answer)
+{
+    MUST(answer.told == (answer.reply == MF4_FIELD_OUTSIDE ? bytes_needed(length, how) : 0));
+    MUST(answer.kind == MF4_KIND_NOTHING && answer.number == 0 && answer.at == 0 && answer.length == 0);
+    note(DECODE, 48u + (answer.told == UINT64_MAX));
+}
+
+static uint64_t field_in(lent record, reading how)
+{
+    return field_of(record.bytes + start_of(how), (size_t)span_of(record.length, how.channel), how.channel);
 }
 
 static void check_value(lent record, reading how, mf4_value answer)
 {
-    check_reply(DECODE, answer.reply, answer.told, REPLY(0) | REPLY(1));
-    note(DECODE, 20 + answer.kind);
-    if (is_number(how.channel))
-        check_number_field(record, how, answer);
-    else
-        MUST(answer.number == 0);
+    check_reply(DECODE, answer.reply, answer.told, REPLY(0) | FIELD_REFUSALS);
+    note(DECODE, 32 + answer.kind);
+    MUST(answer.reply == reply_due(record.length, how));
     if (answer.reply != MF4_ANSWER) {
-        MUST(answer.kind == MF4_KIND_NOTHING && answer.number == 0 && answer.at == 0 && answer.length == 0);
+        check_refusal(record.length, how, answer);
         return;
     }
+    if (is_number(how.channel))
+        check_number(answer, field_in(record, how), how.channel);
+    else
+        MUST(answer.number == 0);
     MUST(answer.kind >= MF4_KIND_UNSIGNED && answer.kind <= MF4_KIND_UNKNOWN);
     MUST(answer.at <= record.length && answer.length <= record.length - answer.at);
     if (answer.kind == MF4_KIND_TEXT && how.channel.data_type <= MF4_UTF8 && answer.length > 0)
@@ -185,7 +211,7 @@ static uint8_t exercise_validity(lent record, reading how)
 static void exercise_both(lent record, reading how, mf4_value value, uint8_t is_valid)
 {
     mf4_valid_value both = mf4_decode_valid_value(record.bytes, record.length, how.id_size, how.data_bytes, how.channel);
-    check_reply(DECODE_VALID, both.reply, both.told, REPLY(0) | REPLY(1));
+    check_reply(DECODE_VALID, both.reply, both.told, REPLY(0) | FIELD_REFUSALS);
     MUST(same_value(value_in(both), value));
     MUST(both.is_valid == (both.reply == MF4_ANSWER ? is_valid : 0));
     MUST(same_valid_value(both, mf4_decode_valid_value(record.bytes, record.length, how.id_size, how.data_bytes,
