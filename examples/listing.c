@@ -64,7 +64,38 @@ static void print_place(const mf4_channel_block *block)
     printf("\n");
 }
 
-void print_channels(const mdf_channel *channels, size_t count)
+mf4_value field_reply(const mdf_group *group, const mf4_channel *channel)
+{
+    static const uint8_t any_record[MF4_MAX_RECORD_SIZE];
+    static const mf4_value nothing_said;
+    if (is_elsewhere(channel))
+        return nothing_said;
+    return mf4_decode_value(any_record, (size_t)group->record_size, group->record_id_size, *channel);
+}
+
+void print_refusal(const mdf_group *group, mf4_value refused)
+{
+    printf("refused (%" PRIu32 "): %s", refused.reply, mf4_reply_text(refused.reply));
+    if (refused.told != 0)
+        printf("; it needs %" PRIu64 " bytes, the record has %" PRIu64, refused.told, group->record_size);
+    printf("\n");
+}
+
+static void print_channel(const mdf_group *group, const mdf_channel *channel, int name, int type, int unit)
+{
+    const mf4_value reply = field_reply(group, &channel->block.channel);
+    print_cell(channel->name, name, 0);
+    print_cell(type_name(channel->block.channel.data_type), type, 0);
+    printf("  %4" PRIu32, channel->block.channel.bit_count);
+    print_cell(channel->unit, unit, 0);
+    print_place(&channel->block);
+    if (reply.reply != MF4_ANSWER) {
+        printf("    ");
+        print_refusal(group, reply);
+    }
+}
+
+void print_channels(const mdf_group *group, const mdf_channel *channels, size_t count)
 {
     int name = columns_of("name"), type = columns_of("type"), unit = columns_of("unit");
     size_t i;
@@ -78,13 +109,8 @@ void print_channels(const mdf_channel *channels, size_t count)
     printf("  bits");
     print_cell("unit", unit, 0);
     printf("  place\n");
-    for (i = 0; i < count; i++) {
-        print_cell(channels[i].name, name, 0);
-        print_cell(type_name(channels[i].block.channel.data_type), type, 0);
-        printf("  %4" PRIu32, channels[i].block.channel.bit_count);
-        print_cell(channels[i].unit, unit, 0);
-        print_place(&channels[i].block);
-    }
+    for (i = 0; i < count; i++)
+        print_channel(group, &channels[i], name, type, unit);
 }
 
 /* ---- values ----------------------------------------------------------------------------------------------------- */

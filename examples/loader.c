@@ -1,8 +1,8 @@
 /*
  * Reads a pump log with the library: which channels it has, what each record says, and which pumps are due for service. All
  * of it is found in the file, by its links from the header block on; of pumps the loader knows the name of one channel and
- * the hours of a service. Then it shows two refusals: a record past the end, and a copy of the log in which a list tells
- * an untrue offset.
+ * the hours of a service. Then it shows three refusals: a record past the end, a field that a wrong description puts past
+ * its record's end, and a copy of the log in which a list tells an untrue offset.
  *
  *     loader FILE
  */
@@ -103,8 +103,29 @@ static int show_group(mdf_file *file, uint64_t address, mdf_group *group)
     if (!mdf_read_group(file, address, group) || !mdf_read_channels(file, group, channels, &count))
         return 0;
     printf("\ndata group at %" PRIu64 ": %u channels\n", address, (unsigned)count);
-    print_channels(channels, count);
+    print_channels(group, channels, count);
     return show_data(file, group, count);
+}
+
+/* Lets the last number of the records begin where they end, in a copy of its description. */
+static int show_field_outside(mdf_file *file, const mdf_group *group)
+{
+    size_t left;
+    if (!mdf_read_channels(file, group, channels, &left))
+        return 0;
+    while (left-- > 0) {
+        mf4_channel described = channels[left].block.channel;
+        mf4_value value = field_reply(group, &described);
+        if (value.kind < MF4_KIND_UNSIGNED || value.kind > MF4_KIND_DOUBLE)
+            continue;
+        described.byte_offset = (uint32_t)group->record_size;
+        value = field_reply(group, &described);
+        printf("\nthe same log with a description that puts %s at byte %" PRIu32 ":\n  ", channels[left].name,
+               described.byte_offset);
+        print_refusal(group, value);
+        return value.reply == MF4_FIELD_OUTSIDE || mdf_trouble(file, "the field outside its record should be refused");
+    }
+    return 1;
 }
 
 /* Makes the last offset of a list untrue by one, in the copy. A list that tells one length has none. */
@@ -123,7 +144,7 @@ static int show_untrue_offset(mdf_file *file, const mdf_group *group)
 
 static int show_file(mdf_file *file)
 {
-    mdf_group group, chain = { 0 };
+    mdf_group group = { 0 }, chain = { 0 };
     uint64_t address;
     if (!mdf_first_group(file, &address))
         return 0;
@@ -133,7 +154,7 @@ static int show_file(mdf_file *file)
         if (group.is_chain && !chain.is_chain)
             chain = group;
     }
-    return !chain.is_chain || show_untrue_offset(file, &chain);
+    return show_field_outside(file, &group) && (!chain.is_chain || show_untrue_offset(file, &chain));
 }
 
 int main(int count, char **words)
