@@ -161,7 +161,6 @@ static void change_fields(void)
     changed(block("##CG", 0) + 72 + 24, UINT64_MAX, 8, 1, "records of 8589934590 bytes");
     changed(block("##CN", 1) + 88 + 2, 99, 1, 0, "unknown");
     changed(block("##CN", 1) + 88 + 2, 3, 1, 0, "signed BE");
-    changed(block("##CN", 1) + 88 + 4, 1000, 4, 0, "refused (");
     changed(block("##CN", 1) + 88 + 12, 1, 4, 0, "invalid  hours unknown");
     changed(block("##CN", 1) + 88 + 12, 1, 4, 0, "all invalid");
     changed(block("##TX", 1) + 24, 'H', 1, 0, "no channel is named hours");
@@ -174,6 +173,55 @@ static void change_fields(void)
     put(block("##CN", 1) + 88, 1, 1);
     put(link_at("##CN", 1, 5), 8, 8);
     must_say(&bad, "values in other blocks", 0, "elsewhere");
+    put(block("##CN", 1) + 88 + 8, 0, 4);
+    must_say(&bad, "values of no bits in other blocks", 0, "elsewhere");
+    must_hold(strstr(tried_out, "\n    refused (") == NULL, "values of no bits in other blocks", 0);
+}
+
+static unsigned times_said(const char *words)
+{
+    const char *at = tried_out;
+    unsigned times = 0;
+    for (; (at = strstr(at, words)) != NULL; at++)
+        times++;
+    return times;
+}
+
+/* A channel whose field is refused then: below the channel stands once why, and in each of the six records the number. */
+static void changed_field(uint64_t at, uint64_t value, int size, unsigned number, const char *why)
+{
+    char refused[32], because[32], words[160];
+    snprintf(refused, sizeof refused, "refused (%u)", number);
+    snprintf(because, sizeof because, "refused (%u): ", number);
+    snprintf(words, sizeof words, "\n    %s%s\n", because, why);
+    changed(at, value, size, 0, words);
+    must_hold(times_said("\n    refused (") == 1 && times_said(refused) == 6 + times_said(because), words, number);
+}
+
+#define OUTSIDE(needed, size) \
+    "the field ends outside the record or payload, which has too few bytes; it needs " needed " bytes, the record has " size
+
+static void refuse_fields(void)
+{
+    const uint64_t serial = block("##CN", 0) + 88, hours = block("##CN", 1) + 88, temperature = block("##CN", 2) + 88;
+    changed_field(hours + 8, 0, 4, 18, "the description gives the number no bits");
+    changed_field(hours + 3, 8, 1, 19, "the description's bit offset is over 7");
+    changed_field(hours + 8, 65, 4, 20, "the description gives the integer over 64 bits");
+    changed_field(hours + 4, 1000, 4, 21, OUTSIDE("1009", "20"));
+    must_hold(times_said("  hours unknown\n") == 6, "refused hours", 0);
+    changed_field(serial + 4, 15, 4, 21, OUTSIDE("21", "20"));
+    changed_field(temperature + 8, 16, 4, 22, "the description gives the float neither 32 nor 64 bits");
+}
+
+/* The loader's own wrong description is that of the last number which is answered. */
+static void put_outside(void)
+{
+    const uint64_t hours = block("##CN", 1) + 88, temperature = block("##CN", 2) + 88;
+    changed(temperature + 8, 16, 4, 0, "puts hours at byte 20:\n  refused (21): " OUTSIDE("29", "20") "\n");
+    put(hours + 8, 0, 4);
+    must_say(&bad, "no number is answered", 0, "refused (18)");
+    must_hold(times_said(" puts ") == 0, "no number is answered", 0);
+    changed(block("##DG", 0) + 56, 1, 1, 0, "puts temperature at byte 21:\n  refused (21): " OUTSIDE("26", "21") "\n");
 }
 
 /* A name of 100 bytes, behind the log's end. */
@@ -226,6 +274,8 @@ int main(int count, char **words)
     change_identification();
     change_headers();
     change_fields();
+    refuse_fields();
+    put_outside();
     lengthen_name();
     add_group();
     report("demo: the loader ended in order on %u logs: cut, or with a link, a field or a byte changed\n", tried_count);
