@@ -1,5 +1,7 @@
 //! What both sides answer, in one vocabulary: the library's terms.
 
+use std::ops::RangeInclusive;
+
 use crate::cases::Channel;
 
 /// A numbered refusal, and what it tells beside its number (0 where it tells nothing).
@@ -11,11 +13,14 @@ pub struct Refusal {
 
 pub type Reply<T> = Result<T, Refusal>;
 
-pub const NO_VALUE: Refusal = Refusal { number: 1, told: 0 };
 pub const OTHER_ID: Refusal = Refusal { number: 3, told: 0 };
 pub const NO_LINKS: Refusal = Refusal { number: 4, told: 0 };
 pub const UNWRITABLE_LIST: Refusal = Refusal { number: 5, told: 0 };
 pub const TOO_FEW_LINKS: Refusal = Refusal { number: 17, told: 0 };
+pub const NO_BITS: Refusal = Refusal { number: 18, told: 0 };
+pub const BAD_BIT_OFFSET: Refusal = Refusal { number: 19, told: 0 };
+pub const INTEGER_TOO_WIDE: Refusal = Refusal { number: 20, told: 0 };
+pub const BAD_FLOAT_WIDTH: Refusal = Refusal { number: 22, told: 0 };
 
 pub fn too_few_bytes(needed: u64) -> Refusal {
     Refusal { number: 2, told: needed }
@@ -24,6 +29,13 @@ pub fn too_few_bytes(needed: u64) -> Refusal {
 pub fn no_room(needed: u64) -> Refusal {
     Refusal { number: 6, told: needed }
 }
+
+pub fn field_outside(end: u64) -> Refusal {
+    Refusal { number: 21, told: end }
+}
+
+/// The numbers of the causes for which a field has no value.
+pub const FIELD_REFUSALS: RangeInclusive<u32> = 18..=22;
 
 /// The one NaN for whatever is no number.
 pub const NAN_BITS: u64 = 0x7FF8_0000_0000_0000;
@@ -121,6 +133,35 @@ pub enum Answer {
     Both(Reply<(Value, bool)>),
     Double(u64),
     Text(Reply<Text>),
+}
+
+impl Answer {
+    /// The number of the cause, where a field has no value.
+    pub fn field_refusal(&self) -> Option<u32> {
+        match self {
+            Answer::Value(Err(refusal)) | Answer::Both(Err(refusal)) => {
+                Some(refusal.number).filter(|number| FIELD_REFUSALS.contains(number))
+            }
+            _ => None,
+        }
+    }
+}
+
+/// What the crate says. Where a field has no value, it tells no cause.
+#[derive(Debug, Clone, PartialEq, Eq)]
+pub enum Said {
+    Answer(Answer),
+    NoValue,
+}
+
+impl Said {
+    /// Where the crate tells no cause, each of the library's is right.
+    pub fn allows(&self, ours: &Answer) -> bool {
+        match self {
+            Said::Answer(theirs) => ours == theirs,
+            Said::NoValue => ours.field_refusal().is_some(),
+        }
+    }
 }
 
 /// Bytes into a lent buffer: written where there is room.

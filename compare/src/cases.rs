@@ -1,6 +1,6 @@
 //! Inputs, and their form as a line of text.
 
-use crate::answers::{Answer, ChannelBlock, Header};
+use crate::answers::{Answer, ChannelBlock, Header, Said};
 
 /// A channel's description, as the library takes it.
 #[derive(Debug, Clone, Copy, PartialEq, Eq)]
@@ -72,6 +72,18 @@ pub struct Field {
     pub id_size: u64,
     pub data_bytes: u32,
     pub channel: Channel,
+}
+
+impl Field {
+    /// A payload does not depend on places in a record, which may lie where the crate's sums stop it.
+    pub fn without_places(&self) -> Field {
+        let mut field = self.clone();
+        if field.channel.is_payload() {
+            field.id_size = 0;
+            field.channel.byte_offset = 0;
+        }
+        field
+    }
 }
 
 #[derive(Debug, Clone, Copy, PartialEq, Eq)]
@@ -282,6 +294,15 @@ impl Answer {
             | Answer::Text(Err(refusal)) => line.numbers(&[u64::from(refusal.number), refusal.told]),
         }
         line.0
+    }
+}
+
+impl Said {
+    pub fn line(&self) -> String {
+        match self {
+            Said::Answer(answer) => answer.line(),
+            Said::NoValue => "= -".to_string(),
+        }
     }
 }
 

@@ -1,6 +1,6 @@
 //! One input, asked of both sides.
 
-use crate::answers::{Answer, Place, Text, Value};
+use crate::answers::{Answer, Place, Said, Text, Value};
 use crate::cases::{Case, Encoding, Field};
 use crate::library::{self, Owed};
 use crate::original::{self, Stopped};
@@ -17,35 +17,28 @@ pub enum Verdict {
     Unlisted(String),
 }
 
-/// The answer due: the crate's inside the domain, and outside it what the listed difference says.
-pub fn due(case: &Case) -> Result<Answer, Stopped> {
-    match outside::due(case) {
-        Some((_, answer)) => Ok(answer),
-        None => original::answer(case),
-    }
-}
-
-pub fn judge(case: &Case) -> Verdict {
+/// Due is what the crate says inside the domain, and outside it what the listed difference says.
+pub fn judge(case: &Case, ours: &Owed<Answer>) -> Verdict {
     let theirs = original::answer(case);
     let (due, difference) = match outside::due(case) {
-        Some((difference, answer)) => (Ok(answer), Some(difference)),
+        Some((difference, answer)) => (Ok(Said::Answer(answer)), Some(difference)),
         None => (theirs.clone(), None),
     };
-    let ours = ask_library(case);
-    if let Some(why) = contradiction(case, &ours, &due) {
+    if let Some(why) = contradiction(case, ours, &due) {
         return Verdict::Unlisted(why);
     }
+    let crate_too = matches!((ours, &theirs), (Ok(ours), Ok(theirs)) if theirs.allows(ours));
     match difference {
         None => Verdict::Equal,
-        Some(difference) => Verdict::Listed { difference, crate_too: theirs == due },
+        Some(difference) => Verdict::Listed { difference, crate_too },
     }
 }
 
-fn contradiction(case: &Case, ours: &Owed<Answer>, due: &Result<Answer, Stopped>) -> Option<String> {
+fn contradiction(case: &Case, ours: &Owed<Answer>, due: &Result<Said, Stopped>) -> Option<String> {
     match (ours, due) {
         (Err(why), _) => Some(format!("the library gives {why}")),
         (Ok(ours), Err(stopped)) => Some(format!("the library gives {ours:x?}; the crate stops: {}", stopped.0)),
-        (Ok(ours), Ok(due)) if ours != due => Some(format!("the library gives {ours:x?}; due is {due:x?}")),
+        (Ok(ours), Ok(due)) if !due.allows(ours) => Some(format!("the library gives {ours:x?}; due is {due:x?}")),
         _ => wrong_text(case, ours.as_ref().ok()?),
     }
 }
@@ -80,21 +73,11 @@ fn wrong_text(case: &Case, answer: &Answer) -> Option<String> {
         return None;
     };
     let encoding = field.channel.encoding()?;
-    let theirs = original::text_of(&without_places(field)).ok()??.into_bytes();
+    let theirs = original::text_of(&field.without_places()).ok()??.into_bytes();
     match text_at(field, encoding, place, theirs.len()) {
         Ok(Some(ours)) if ours.utf8 == theirs => None,
         other => Some(format!("the text at {place:x?} is {other:x?}; the crate's is {theirs:x?}")),
     }
-}
-
-/// A payload's text does not depend on places in a record, which may lie where the crate's sums stop it.
-fn without_places(field: &Field) -> Field {
-    let mut field = field.clone();
-    if field.channel.is_payload() {
-        field.id_size = 0;
-        field.channel.byte_offset = 0;
-    }
-    field
 }
 
 fn text_at(field: &Field, encoding: Encoding, place: &Place, room: usize) -> Owed<Option<Text>> {

@@ -1,7 +1,7 @@
 //! Answers that come neither from the crate nor from the library: those of IEEE 754, of Unicode, and worked examples.
 
 use crate::cases::Case;
-use crate::check::{due, judge, Verdict};
+use crate::check::{ask_library, judge, Verdict};
 
 /// What `replay` holds the library to. The crate reads no chains, so records are not for it.
 fn lines() -> impl Iterator<Item = &'static str> {
@@ -14,13 +14,13 @@ pub fn failures() -> Vec<String> {
     lines().filter_map(failure).collect()
 }
 
+/// A line may tell a cause where the crate tells none, so it is held to the library's answer, and that to the crate.
 fn failure(line: &str) -> Option<String> {
     let case = Case::parse(line).unwrap_or_else(|| panic!("no input: {line}"));
-    let given = due(&case).map(|answer| format!("{} {}", case.line(), answer.line()));
-    match (given, judge(&case)) {
-        (Ok(given), _) if given != line => Some(format!("the example says {line}\n  due is {given}")),
-        (Err(stopped), _) => Some(format!("the crate stops at {line}: {}", stopped.0)),
-        (_, Verdict::Unlisted(why)) => Some(format!("{why}\n  --replay '{line}'")),
-        _ => None,
+    let ours = ask_library(&case);
+    if let Verdict::Unlisted(why) = judge(&case, &ours) {
+        return Some(format!("{why}\n  --replay '{line}'"));
     }
+    let given = format!("{} {}", case.line(), ours.ok()?.line());
+    (given != line).then(|| format!("the example says {line}\n  the library gives {given}"))
 }

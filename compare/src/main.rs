@@ -4,8 +4,9 @@
 //!     compare --replay LINE           gives both answers to the one input of a line, as a failing run prints it
 //!     compare --sample COUNT FILE     writes COUNT inputs with the crate's answers, for a replay without Rust
 //!
-//! Inside the domain every answer must be equal. Outside it, the difference must be a listed one and the library must
-//! give what is due there; `outside.rs` knows both. The exit status is 1 where an answer is neither.
+//! Inside the domain every answer must be equal; where the crate has no value it tells no cause, and any refusal from
+//! 18 to 22 counts as equal. Outside it, the difference must be a listed one and the library must give what is due
+//! there; `outside.rs` knows both. The exit status is 1 where an answer is neither.
 //!
 //! # Lines
 //!
@@ -40,7 +41,8 @@
 //! The answers in a sample are the crate's, so inputs outside the domain are left out, and so are channel blocks, whose
 //! measure is the standard alone. Where the crate has no such notion they are put into the library's terms: its errors
 //! as numbers, 6 where ROOM is too small for the bytes that it gives, places instead of copies, the one NaN for every
-//! NaN but those of 64-bit fields, and the one code for every unknown type that is read.
+//! NaN but those of 64-bit fields, and the one code for every unknown type that is read. Where it has no value, the
+//! whole answer of `value` and `both` is the word `-`, which stands for any refusal from 18 to 22.
 
 mod answers;
 mod c;
@@ -58,6 +60,7 @@ use std::fs::File;
 use std::io::{self, BufWriter, Write};
 use std::process::ExitCode;
 
+use answers::Answer;
 use cases::Case;
 use check::{ask_library, judge, Verdict};
 use generate::Generator;
@@ -103,7 +106,8 @@ fn compare(count: u64, seed: u64) -> ExitCode {
     wrong_examples.iter().for_each(|why| println!("EXAMPLE: {why}"));
     let mut tally = Tally::default();
     for case in Generator::new(seed).cases().take(count as usize) {
-        let verdict = judge(&case);
+        let ours = ask_library(&case);
+        let verdict = judge(&case, &ours);
         if let Verdict::Unlisted(why) = &verdict {
             if tally.unlisted() < MOST_SHOWN {
                 println!("DIFFERENT: {why}\n  --replay '{}'", case.line());
@@ -129,8 +133,9 @@ fn replay(line: &str) -> ExitCode {
         return ExitCode::from(2);
     };
     println!("the crate:   {}", crate_line(&case));
-    println!("the library: {}", ask_library(&case).map_or_else(|why| why, |answer| answer.line()));
-    match judge(&case) {
+    let ours = ask_library(&case);
+    println!("the library: {}", ours.as_ref().map_or_else(String::clone, Answer::line));
+    match judge(&case, &ours) {
         Verdict::Equal => println!("equal"),
         Verdict::Listed { difference, crate_too: true } => println!("{}: both give what is due", difference.name()),
         Verdict::Listed { difference, .. } => println!("listed difference: {}", difference.name()),
@@ -144,7 +149,7 @@ fn replay(line: &str) -> ExitCode {
 
 fn crate_line(case: &Case) -> String {
     match original::answer(case) {
-        Ok(answer) => answer.line(),
+        Ok(said) => said.line(),
         Err(stopped) => format!("stops: {}", stopped.0),
     }
 }
@@ -176,8 +181,8 @@ fn write_sample(count: u64, file: &str) -> io::Result<()> {
 }
 
 fn sample_line(case: &Case) -> io::Result<String> {
-    let answer = original::answer(case).map_err(|stopped| io::Error::other(stopped.0))?;
-    Ok(format!("{} {}", case.line(), answer.line()))
+    let said = original::answer(case).map_err(|stopped| io::Error::other(stopped.0))?;
+    Ok(format!("{} {}", case.line(), said.line()))
 }
 
 fn exit_code(good: bool) -> ExitCode {

@@ -14,8 +14,8 @@ use mf4_rs::parsing::decoder::{
 };
 
 use crate::answers::{
-    self, into_room, too_few_bytes, Answer, Header, List, Place, Refusal, Reply, Text, Value, NAN_BITS, NO_LINKS,
-    NO_VALUE, OTHER_ID, UNKNOWN_TYPE,
+    self, into_room, too_few_bytes, Answer, Header, List, Place, Refusal, Reply, Said, Text, Value, NAN_BITS, NO_LINKS,
+    OTHER_ID, UNKNOWN_TYPE,
 };
 use crate::cases::{Case, Channel, Encoding, Field};
 
@@ -23,30 +23,35 @@ use crate::cases::{Case, Channel, Encoding, Field};
 #[derive(Debug, Clone, PartialEq, Eq)]
 pub struct Stopped(pub String);
 
-pub fn answer(case: &Case) -> Result<Answer, Stopped> {
-    match case {
-        Case::Type { code } => guarded(|| type_of(*code)),
-        Case::HeaderRead { bytes } => Ok(Answer::Header(guarded(|| read_header(bytes))?)),
-        Case::HeaderWrite { header, room } => written(*room, || header_of(header).to_bytes()),
-        Case::ListRead { bytes } => Ok(Answer::List(guarded(|| read_list(bytes))?)),
+pub fn answer(case: &Case) -> Result<Said, Stopped> {
+    let answer = match case {
+        Case::Type { code } => guarded(|| type_of(*code))?,
+        Case::HeaderRead { bytes } => Answer::Header(guarded(|| read_header(bytes))?),
+        Case::HeaderWrite { header, room } => written(*room, || header_of(header).to_bytes())?,
+        Case::ListRead { bytes } => Answer::List(guarded(|| read_list(bytes))?),
         Case::ListWriteEqual { room, next, length, links } => {
-            written(*room, || write_list(DataListBlock::new_equal(links.clone(), *length), *next))
+            written(*room, || write_list(DataListBlock::new_equal(links.clone(), *length), *next))?
         }
         Case::ListWriteVariable { room, next, links, offsets } => {
-            written(*room, || write_list(DataListBlock::new_variable(links.clone(), offsets.clone()), *next))
+            written(*room, || write_list(DataListBlock::new_variable(links.clone(), offsets.clone()), *next))?
         }
-        Case::ChannelRead { bytes } => Ok(Answer::Channel(read_channel(bytes)?)),
-        Case::ChannelWrite { block, room } => write_channel(block, *room),
-        Case::Value(field) => Ok(Answer::Value(value(field)?)),
-        Case::Validity(field) => Ok(Answer::Validity(validity(field)?)),
-        Case::Both(field) => Ok(Answer::Both(both(field)?)),
-        Case::Double(field) => Ok(Answer::Double(double(field)?)),
+        Case::ChannelRead { bytes } => Answer::Channel(read_channel(bytes)?),
+        Case::ChannelWrite { block, room } => write_channel(block, *room)?,
+        Case::Value(field) => return Ok(said(value(field)?, Answer::Value)),
+        Case::Validity(field) => Answer::Validity(validity(field)?),
+        Case::Both(field) => return Ok(said(both(field)?, Answer::Both)),
+        Case::Double(field) => Answer::Double(double(field)?),
         Case::Text { encoding, bytes, room } => {
             let text = text(*encoding, bytes)?;
             let damaged = text.damaged;
-            Ok(Answer::Text(into_room(text.utf8, *room).map(|utf8| Text { utf8, damaged })))
+            Answer::Text(into_room(text.utf8, *room).map(|utf8| Text { utf8, damaged }))
         }
-    }
+    };
+    Ok(Said::Answer(answer))
+}
+
+fn said<T>(decoded: Option<T>, form: fn(Reply<T>) -> Answer) -> Said {
+    decoded.map_or(Said::NoValue, |decoded| Said::Answer(form(Ok(decoded))))
 }
 
 // ---- headers and types
@@ -212,9 +217,9 @@ fn block_of(block: &answers::ChannelBlock) -> ChannelBlock {
 
 // ---- values
 
-pub fn value(field: &Field) -> Result<Reply<Value>, Stopped> {
+pub fn value(field: &Field) -> Result<Option<Value>, Stopped> {
     let decoded = decoded(field)?;
-    Ok(decoded.map(|value| value_in(field, &value)).ok_or(NO_VALUE))
+    Ok(decoded.map(|value| value_in(field, &value)))
 }
 
 pub fn validity(field: &Field) -> Result<bool, Stopped> {
@@ -228,12 +233,12 @@ pub fn double(field: &Field) -> Result<u64, Stopped> {
     Ok(bits_in(&field.channel, double))
 }
 
-fn both(field: &Field) -> Result<Reply<(Value, bool)>, Stopped> {
+fn both(field: &Field) -> Result<Option<(Value, bool)>, Stopped> {
     let channel = channel_of(&field.channel);
     let decoded = guarded(|| {
         decode_channel_value_with_validity(&field.record, field.id_size as usize, field.data_bytes, &channel)
     })?;
-    Ok(decoded.map(|both| (value_in(field, &both.value), both.is_valid)).ok_or(NO_VALUE))
+    Ok(decoded.map(|both| (value_in(field, &both.value), both.is_valid)))
 }
 
 fn decoded(field: &Field) -> Result<Option<DecodedValue>, Stopped> {

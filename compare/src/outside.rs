@@ -2,8 +2,8 @@
 //! difference has a row in docs/DIFFERENCES.md.
 
 use crate::answers::{
-    into_room, too_few_bytes, Answer, ChannelBlock, Header, Reply, Value, NAN_BITS, NO_VALUE, TOO_FEW_LINKS,
-    UNWRITABLE_LIST,
+    field_outside, into_room, too_few_bytes, Answer, ChannelBlock, Header, Refusal, Reply, Value, BAD_BIT_OFFSET,
+    BAD_FLOAT_WIDTH, INTEGER_TOO_WIDE, NAN_BITS, NO_BITS, TOO_FEW_LINKS, UNWRITABLE_LIST,
 };
 use crate::cases::{Case, Channel, Field};
 use crate::original;
@@ -140,23 +140,53 @@ fn plain_channel(block: &ChannelBlock, room: usize) -> Due<Answer> {
 // ---- values
 
 fn value(field: &Field) -> Due<Reply<Value>> {
-    if passes_64_bits(&start_terms(field)) && field.channel.is_payload() {
-        return Some((Difference::WrappingSum, payload_value(field)?));
-    }
-    if !field.channel.is_payload() && passes_64_bits(&end_terms(field, field.channel.span())) {
-        return Some((Difference::WrappingSum, Err(NO_VALUE)));
-    }
-    let difference = integer_difference(&field.channel)?;
-    Some((difference, integer(field, difference).map(|integer| integer.value()).ok_or(NO_VALUE)))
+    Some((value_difference(field)?, decoded(field)?))
 }
 
-/// A payload's value has nothing to do with places in a record, so it is the one at place 0.
-fn payload_value(field: &Field) -> Option<Reply<Value>> {
-    let channel = Channel { byte_offset: 0, ..field.channel };
-    let at_zero = Field { id_size: 0, channel, ..field.clone() };
-    match value(&at_zero) {
-        Some((_, answer)) => Some(answer),
-        None => original::value(&at_zero).ok(),
+fn value_difference(field: &Field) -> Option<Difference> {
+    let wraps = if field.channel.is_payload() {
+        passes_64_bits(&start_terms(field))
+    } else {
+        passes_64_bits(&end_terms(field, field.channel.span()))
+    };
+    if wraps {
+        return Some(Difference::WrappingSum);
+    }
+    integer_difference(&field.channel)
+}
+
+/// The value, or the cause for which there is none; inside the domain too, where the crate tells none.
+fn decoded(field: &Field) -> Option<Reply<Value>> {
+    if let Some(refusal) = field_refusal(field) {
+        return Some(Err(refusal));
+    }
+    let value = match integer_difference(&field.channel) {
+        Some(difference) => integer(field, difference)?.value(),
+        None => original::value(&field.without_places()).ok()??,
+    };
+    Some(Ok(value))
+}
+
+/// The cause for which a field has no value: the first that holds, in the order of the rules.
+fn field_refusal(field: &Field) -> Option<Refusal> {
+    let channel = &field.channel;
+    let end = end(field);
+    let tests = [
+        (channel.is_number() && channel.bit_count == 0, NO_BITS),
+        (channel.is_number() && channel.bit_offset > 7, BAD_BIT_OFFSET),
+        (channel.is_integer() && channel.bit_count > 64, INTEGER_TOO_WIDE),
+        (end > field.record.len() as u128, field_outside(u64::try_from(end).unwrap_or(u64::MAX))),
+        (channel.is_float() && !matches!(channel.bit_count, 32 | 64), BAD_FLOAT_WIDTH),
+    ];
+    tests.into_iter().find(|(holds, _)| *holds).map(|(_, refusal)| refusal)
+}
+
+/// Where the field ends in the slice given. Of a payload, all but a number takes the whole.
+fn end(field: &Field) -> u128 {
+    match (field.channel.is_payload(), field.channel.is_number()) {
+        (false, _) => sum(&end_terms(field, field.channel.span())),
+        (true, true) => u128::from(field.channel.bits_span()),
+        (true, false) => field.record.len() as u128,
     }
 }
 
@@ -180,17 +210,13 @@ fn validity(field: &Field) -> Due<bool> {
 }
 
 fn both(field: &Field) -> Due<Reply<(Value, bool)>> {
-    let (value, validity) = (value(field), validity(field));
-    let (difference, _) = value.map(|(name, _)| (name, ())).or(validity.map(|(name, _)| (name, ())))?;
-    let value = match value {
-        Some((_, value)) => value,
-        None => original::value(field).ok()?,
-    };
+    let validity = validity(field);
+    let difference = value_difference(field).or(validity.map(|(difference, _)| difference))?;
     let is_valid = match validity {
         Some((_, is_valid)) => is_valid,
         None => original::validity(field).ok()?,
     };
-    Some((difference, value.map(|value| (value, is_valid))))
+    Some((difference, decoded(field)?.map(|value| (value, is_valid))))
 }
 
 fn start_terms(field: &Field) -> [u64; 2] {
@@ -202,7 +228,11 @@ fn end_terms(field: &Field, span: u64) -> [u64; 3] {
 }
 
 fn passes_64_bits(terms: &[u64]) -> bool {
-    terms.iter().map(|&term| u128::from(term)).sum::<u128>() > u128::from(u64::MAX)
+    sum(terms) > u128::from(u64::MAX)
+}
+
+fn sum(terms: &[u64]) -> u128 {
+    terms.iter().map(|&term| u128::from(term)).sum()
 }
 
 // ---- integers past 64 bits
