@@ -113,7 +113,7 @@ fn compare(count: u64, seed: u64) -> ExitCode {
                 println!("DIFFERENT: {why}\n  --replay '{}'", case.line());
             }
         }
-        tally.count(case.kind(), &verdict);
+        tally.count(case.kind(), &ours, &verdict);
     }
     print!("{tally}");
     println!("{} worked examples with another answer", wrong_examples.len());

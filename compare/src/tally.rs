@@ -1,15 +1,18 @@
-//! Counts for each kind of input.
+//! Counts for each kind of input, and for each cause for which a field has no value.
 
 use std::collections::BTreeMap;
 use std::fmt;
 
+use crate::answers::{Answer, FIELD_REFUSALS};
 use crate::cases::KINDS;
 use crate::check::Verdict;
+use crate::library::Owed;
 use crate::outside::Difference;
 
 #[derive(Default)]
 pub struct Tally {
     kinds: BTreeMap<&'static str, Counts>,
+    refusals: BTreeMap<u32, Refused>,
 }
 
 #[derive(Default)]
@@ -27,9 +30,19 @@ struct Listed {
     crate_too: u64,
 }
 
+/// Fields that are rightly refused, inside the domain and outside it.
+#[derive(Default, Clone, Copy)]
+struct Refused {
+    inside: u64,
+    outside: u64,
+}
+
 impl Tally {
-    pub fn count(&mut self, kind: &'static str, verdict: &Verdict) {
+    pub fn count(&mut self, kind: &'static str, ours: &Owed<Answer>, verdict: &Verdict) {
         self.kinds.entry(kind).or_default().count(verdict);
+        if let Some(number) = ours.as_ref().ok().and_then(Answer::field_refusal) {
+            self.refusals.entry(number).or_default().count(verdict);
+        }
     }
 
     pub fn unlisted(&self) -> u64 {
@@ -59,6 +72,16 @@ impl Counts {
     }
 }
 
+impl Refused {
+    fn count(&mut self, verdict: &Verdict) {
+        match verdict {
+            Verdict::Equal => self.inside += 1,
+            Verdict::Listed { .. } => self.outside += 1,
+            Verdict::Unlisted(_) => {}
+        }
+    }
+}
+
 impl fmt::Display for Tally {
     fn fmt(&self, f: &mut fmt::Formatter<'_>) -> fmt::Result {
         writeln!(f, "{:<20} {:>10} {:>10} {:>10}", "kind", "compared", "equal", "unlisted")?;
@@ -69,6 +92,10 @@ impl fmt::Display for Tally {
                 let Listed { different, crate_too } = listed;
                 writeln!(f, "  listed: {}: {different} different, {crate_too} equal", difference.name())?;
             }
+        }
+        for number in FIELD_REFUSALS {
+            let Refused { inside, outside } = self.refusals.get(&number).copied().unwrap_or_default();
+            writeln!(f, "fields refused with {number}: {inside} inside the domain, {outside} outside")?;
         }
         writeln!(f, "{} inputs compared, {} unlisted differences", self.compared(), self.unlisted())
     }
