@@ -72,7 +72,7 @@ pub(crate) fn number_form(data_type: DataType, bit_count: u32) -> NumberForm
     let Form::Number(number, big_endian) = form else {
         return NumberForm::Other;
     };
-    if is_no_float_width(form, bit_count) {
+    if is_no_float_width(number, bit_count) {
         return NumberForm::Other;
     }
     if bit_count == 0 {

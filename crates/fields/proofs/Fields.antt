@@ -10,16 +10,18 @@ use lib.Dec.{ltb, eqb}
 use borrow.Author.Tests.{ltb-false, eqb-false}
 use Rattle.definitions.specs.Reply.{Reply, answer, refusal, if_then_else_, told}
 use Rattle.definitions.specs.DataType.{Kind, integer, floating, whole, undecoded}
-use Rattle.definitions.specs.Channel.{Channel, Value, decoded, isNumber, isInteger, isFloating, spanIn, valueBy}
+use Rattle.definitions.specs.Channel.{Channel, Value, decoded, isNumber, isInteger, isFloating, bitSpan, spanIn, valueBy}
 use Rattle.words.proofs.Bits.{field-below}
 use Rattle.definitions.specs.Bytes.{numberOf, span, bytesFor, fieldAt}
-use Rattle.fields.specs.Form.{orderMeant, numberKind, formKind}
-use Rattle.fields.specs.Known.{valueAt, FieldBounds, Sound, Valued, Fitting}
+use Rattle.fields.specs.Form.{orderMeant, numberKind, contentKind, formKind}
+use Rattle.fields.specs.Known.{valueAt, FieldBounds, Sound, Valued, FieldTold, FieldPlaced, Fitting}
 use Rattle.fields.specs.declared.form.Number.{Number}
 use Rattle.fields.specs.declared.form.Number.the-variants.{Float}
+use Rattle.fields.specs.declared.form.Content.{Content}
+use Rattle.fields.specs.declared.field.FieldFound.{FieldFound}
 use Rattle.fields.specs.declared.form.Form.{Form}
 use Rattle.fields.specs.declared.form.Form.the-variants.{Number as numbered}
-use Rattle.fields.proofs.Forms.{is-number}
+use Rattle.fields.proofs.Forms.{is-number, number-span, other-number, other-integer, other-floating}
 use Rattle.fields.proofs.Tests.{float-width}
 
 -- the five tests in turn: what each says, the bytes that the fourth tells, and v where all are passed
@@ -37,21 +39,6 @@ tested k at n l c v =
 pub value-tested : (k : Kind) (at n : ℕ) (s : List ℕ) (c : Channel) → valueBy k at n s c ≡ tested k at n (length s) c (decoded (c .dataType) s at n c)
 unfolding valueBy
 value-tested k at n s c = refl
-
--- what the five tests said of n bytes at `at`
-pub record Asked (k : Kind) (at n : ℕ) (s : List ℕ) (c : Channel) (a b d e f : Bool) : Type 0 where
-  pub bits : a ≡ isNumber k && eqb (c .bitCount) 0
-  pub offset : b ≡ isNumber k && ltb 7 (c .bitOffset)
-  pub word : d ≡ isInteger k && ltb 64 (c .bitCount)
-  pub end : e ≡ ltb (length s) (at + n)
-  pub width : f ≡ isFloating k && not (eqb (c .bitCount) 32 || eqb (c .bitCount) 64)
-
--- where these are the field, they decide its reply
-pub by-tests : (payload : Bool) {k : Kind} {at n : ℕ} {s : List ℕ} {c : Channel} {a b d e f : Bool} → n ≡ spanIn payload k (length s) c → Asked k at n s c a b d e f
-    → valueAt k payload s at c ≡ inTurn a b d e f (at + n) (decoded (c .dataType) s at n c)
-unfolding valueBy
-by-tests payload {k} {at} {n} {s} {c} en t =
-    ap (λ (m : ℕ). valueBy k at m s c) (sym en) ∙ rw (← t .bits, ← t .offset, ← t .word, ← t .end, ← t .width)
 
 -- the first and the last test, each by itself
 module _ (k : Kind) (at n : ℕ) (s : List ℕ) (c : Channel) where
@@ -161,3 +148,53 @@ pub narrow : {number : Number} {count x : ℕ} → Fitting number count x → nu
 narrow {number} {count} {x} h e other =
     let w : count ≡ 32 = h .width (ap (λ (m : Number). isFloating (numberKind m)) e) other in
     subst (λ (k : ℕ). x < 2 ^ k) w (h .below)
+
+-- ---- a number
+
+-- what the five tests said of n bytes at `at`
+pub record Asked (number : Number) (at n : ℕ) (s : List ℕ) (c : Channel) (a b d e f : Bool) : Type 0 where
+  pub span : n ≡ bitSpan c
+  pub bits : a ≡ eqb (c .bitCount) 0
+  pub offset : b ≡ ltb 7 (c .bitOffset)
+  pub word : d ≡ isInteger (numberKind number) && ltb 64 (c .bitCount)
+  pub end : e ≡ ltb (length s) (at + n)
+  pub width : f ≡ isFloating (numberKind number) && not (eqb (c .bitCount) 32 || eqb (c .bitCount) 64)
+
+module _ {number : Number} {at n : ℕ} {s : List ℕ} {c : Channel} {a b d e f : Bool} (t : Asked number at n s c a b d e f) where
+  abbrev k : Kind
+  k = numberKind number
+
+  same-span : valueBy k at (bitSpan c) s c ≡ valueBy k at n s c
+  same-span = ap (λ (m : ℕ). valueBy k at m s c) (sym (t .span))
+
+  -- they decide the reply
+  pub by-tests : valueBy k at (bitSpan c) s c ≡ inTurn a b d e f (at + n) (decoded (c .dataType) s at n c)
+  unfolding valueBy
+  by-tests = same-span ∙ rw (is-number number, ← t .bits, ← t .offset, ← t .word, ← t .end, ← t .width)
+
+  pub number-there : a ≡ false → b ≡ false → d ≡ false → e ≡ false → f ≡ false → Valued k (valueBy k at (bitSpan c) s c) s at n c
+  number-there ea eb ed ee ef =
+      let some : isNumber k && eqb (c .bitCount) 0 ≡ false = rw (is-number number) (sym (t .bits) ∙ ea) in
+      let low : isNumber k && ltb 7 (c .bitOffset) ≡ false = rw (is-number number) (sym (t .offset) ∙ eb) in
+      let v = found k false at n s c (t .span ∙ number-span number false (length s) c) some low (sym (t .word) ∙ ed) (sym (t .end) ∙ ee) (sym (t .width) ∙ ef) in
+      record { value = ap (λ (m : ℕ). valueBy k at m s c) (number-span number false (length s) c) ∙ v .value; sound = v .sound }
+
+-- a number has the same span in a payload
+pub number-placed : (number : Number) (payload : Bool) (at : ℕ) (s : List ℕ) (c : Channel) {r : FieldFound}
+    → FieldTold (numberKind number) (valueBy (numberKind number) at (bitSpan c) s c) s c r × FieldPlaced at (bitSpan c) r
+    → FieldTold (numberKind number) (valueAt (numberKind number) payload s at c) s c r × FieldPlaced at (spanIn payload (numberKind number) (length s) c) r
+number-placed number payload at s c {r} h =
+    subst (λ (n : ℕ). FieldTold (numberKind number) (valueBy (numberKind number) at n s c) s c r × FieldPlaced at n r) (number-span number payload (length s) c) h
+
+-- ---- what is no number
+
+module _ (content : Content) (payload : Bool) (at : ℕ) {n : ℕ} (s : List ℕ) (c : Channel) {e : Bool} (span : n ≡ spanIn payload (contentKind content) (length s) c)
+    (end : e ≡ ltb (length s) (at + n)) where
+  pub content-outside : e ≡ true → valueAt (contentKind content) payload s at c ≡ refusal 21 (told (at + n))
+  unfolding valueBy
+  content-outside h =
+      ap (λ (m : ℕ). valueBy (contentKind content) at m s c) (sym span)
+      ∙ rw (other-number content (eqb (c .bitCount) 0), other-number content (ltb 7 (c .bitOffset)), other-integer content (ltb 64 (c .bitCount)), ← end, h)
+
+  pub content-there : e ≡ false → Valued (contentKind content) (valueAt (contentKind content) payload s at c) s at n c
+  content-there h = found (contentKind content) payload at n s c span (other-number content _) (other-number content _) (other-integer content _) (sym end ∙ h) (other-floating content _)

@@ -74,19 +74,16 @@ whole-payload content n c = content-kinds (λ k. n ≡ spanIn true k n c) refl r
 pub is-number : (number : Number) → isNumber (numberKind number) ≡ true
 is-number number = number-kinds (λ k. isNumber k ≡ true) refl refl number
 
--- a test of numbers, integers or floats fails at any other form, and goes by the rest of it at a number
-module _ {form : Form} (t : Bool) where
-  pub other-number : {content : Content} → form ≡ Other content → false ≡ isNumber (formKind form) && t
-  other-number {content} e = rw e (content-kinds (λ k. false ≡ isNumber k && t) refl refl content)
+-- what is no number passes the tests of numbers, integers and floats, whatever these find
+module _ (content : Content) (t : Bool) where
+  pub other-number : isNumber (contentKind content) && t ≡ false
+  other-number = content-kinds (λ k. isNumber k && t ≡ false) refl refl content
 
-  pub other-integer : {content : Content} → form ≡ Other content → false ≡ isInteger (formKind form) && t
-  other-integer {content} e = rw e (content-kinds (λ k. false ≡ isInteger k && t) refl refl content)
+  pub other-integer : isInteger (contentKind content) && t ≡ false
+  other-integer = content-kinds (λ k. isInteger k && t ≡ false) refl refl content
 
-  pub other-floating : {content : Content} → form ≡ Other content → false ≡ isFloating (formKind form) && t
-  other-floating {content} e = rw e (content-kinds (λ k. false ≡ isFloating k && t) refl refl content)
-
-  pub number-tested : {number : Number} {order : Bool} → form ≡ numbered number order → t ≡ isNumber (formKind form) && t
-  number-tested {number} e = rw e (number-kinds (λ k. t ≡ isNumber k && t) refl refl number)
+  pub other-floating : isFloating (contentKind content) && t ≡ false
+  other-floating = content-kinds (λ k. isFloating k && t ≡ false) refl refl content
 
 -- what is no number is none
 abbrev IsNumbered : Form → Type 0

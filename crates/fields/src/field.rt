@@ -4,16 +4,18 @@ ghost use mathlib.Core.Bool.{not, _&&_, _||_};
 ghost use Prim.Native.Nat.{_+_};
 ghost use lib.Dec.{ltb, eqb};
 ghost use lib.ListN.{length};
-ghost use Rattle.definitions.specs.Channel.{isNumber, isInteger, isFloating, spanIn};
+ghost use Rattle.definitions.specs.Channel.{isInteger, isFloating, bitSpan, spanIn, valueBy};
 ghost use Rattle.fields.specs.Meaning.{channelMeant};
-ghost use Rattle.fields.specs.Form.{formKind};
+ghost use Rattle.fields.specs.Form.{numberKind, contentKind, formKind};
 ghost use Rattle.fields.specs.Known.{valueAt, FieldTold, FieldPlaced};
 use crate::channel::Channel;
+use crate::form::Content;
 use crate::form::Form;
 use crate::form::Number;
+use crate::span::bit_span;
 use crate::span::bytes_needed;
+use crate::span::content_span;
 use crate::span::ends_outside;
-use crate::span::span_in;
 use refusals::Refusal;
 
 pub enum FieldFound {
@@ -34,30 +36,9 @@ impl FieldFound {
     }
 }
 
-fn has_no_bits(form: Form, bit_count: u32) -> bool
-    ensures { λ r. ⌜ r ≡ isNumber (formKind form) && eqb «bit_count» 0 ⌝ }
+fn is_over_a_word(number: Number, bit_count: u32) -> bool
+    ensures { λ r. ⌜ r ≡ isInteger (numberKind number) && ltb 64 «bit_count» ⌝ }
 {
-    let Form::Number(_, _) = form else {
-        return false;
-    };
-    bit_count == 0
-}
-
-fn starts_past_a_byte(form: Form, bit_offset: u8) -> bool
-    ensures { λ r. ⌜ r ≡ isNumber (formKind form) && ltb 7 «bit_offset» ⌝ }
-{
-    let Form::Number(_, _) = form else {
-        return false;
-    };
-    7 < bit_offset
-}
-
-fn is_over_a_word(form: Form, bit_count: u32) -> bool
-    ensures { λ r. ⌜ r ≡ isInteger (formKind form) && ltb 64 «bit_count» ⌝ }
-{
-    let Form::Number(number, _) = form else {
-        return false;
-    };
     match number {
         Number::Unsigned => 64 < bit_count,
         Number::Signed => 64 < bit_count,
@@ -74,12 +55,9 @@ fn is_float_width(bit_count: u32) -> bool
     bit_count == 64
 }
 
-pub fn is_no_float_width(form: Form, bit_count: u32) -> bool
-    ensures { λ r. ⌜ r ≡ isFloating (formKind form) && not (eqb «bit_count» 32 || eqb «bit_count» 64) ⌝ }
+pub fn is_no_float_width(number: Number, bit_count: u32) -> bool
+    ensures { λ r. ⌜ r ≡ isFloating (numberKind number) && not (eqb «bit_count» 32 || eqb «bit_count» 64) ⌝ }
 {
-    let Form::Number(number, _) = form else {
-        return false;
-    };
     match number {
         Number::Unsigned => false,
         Number::Signed => false,
@@ -87,24 +65,23 @@ pub fn is_no_float_width(form: Form, bit_count: u32) -> bool
     }
 }
 
-// The field of a form that starts `byte_offset` bytes after those skipped. All refusals of a value are decided here, in turn.
-pub fn find_field(
+// A number's field, which starts `byte_offset` bytes after those skipped, or the first cause to have none
+fn find_number(
     record: &[u8],
     skipped: usize,
     byte_offset: usize,
-    payload: bool,
-    form: Form,
+    number: Number,
     channel: Channel,
 ) -> FieldFound
-    ensures { λ r. ⌜ FieldTold (formKind form) (valueAt (formKind form) payload (now («record» .entry)) (skipped + «byte_offset») (channelMeant channel)) (now («record» .entry)) (channelMeant channel) r × FieldPlaced (skipped + «byte_offset») (spanIn payload (formKind form) (length (now («record» .entry))) (channelMeant channel)) r ⌝ }
+    ensures { λ r. ⌜ FieldTold (numberKind number) (valueBy (numberKind number) (skipped + «byte_offset») (bitSpan (channelMeant channel)) (now («record» .entry)) (channelMeant channel)) (now («record» .entry)) (channelMeant channel) r × FieldPlaced (skipped + «byte_offset») (bitSpan (channelMeant channel)) r ⌝ }
 {
-    let length = span_in(payload, form, record.len(), channel);
-    let no_bits = has_no_bits(form, channel.bit_count);
-    let past_a_byte = starts_past_a_byte(form, channel.bit_offset);
-    let over_a_word = is_over_a_word(form, channel.bit_count);
+    let length = bit_span(channel);
+    let no_bits = channel.bit_count == 0;
+    let past_a_byte = 7 < channel.bit_offset;
+    let over_a_word = is_over_a_word(number, channel.bit_count);
     let outside = ends_outside(record.len(), skipped, byte_offset, length);
     let needed = bytes_needed(skipped, byte_offset, length);
-    let no_float_width = is_no_float_width(form, channel.bit_count);
+    let no_float_width = is_no_float_width(number, channel.bit_count);
     if no_bits {
         return FieldFound::Refused(Refusal::NoBits);
     }
@@ -123,5 +100,46 @@ pub fn find_field(
     FieldFound::Field {
         at: skipped + byte_offset,
         length,
+    }
+}
+
+// What is no number has only to end inside the slice.
+fn find_content(
+    record: &[u8],
+    skipped: usize,
+    byte_offset: usize,
+    payload: bool,
+    content: Content,
+    channel: Channel,
+) -> FieldFound
+    ensures { λ r. ⌜ FieldTold (contentKind content) (valueAt (contentKind content) payload (now («record» .entry)) (skipped + «byte_offset») (channelMeant channel)) (now («record» .entry)) (channelMeant channel) r × FieldPlaced (skipped + «byte_offset») (spanIn payload (contentKind content) (length (now («record» .entry))) (channelMeant channel)) r ⌝ }
+{
+    let length = content_span(payload, content, record.len(), channel);
+    if ends_outside(record.len(), skipped, byte_offset, length) {
+        let bytes = bytes_needed(skipped, byte_offset, length);
+        return FieldFound::Refused(Refusal::FieldOutside(bytes));
+    }
+    FieldFound::Field {
+        at: skipped + byte_offset,
+        length,
+    }
+}
+
+// The field of a form. All refusals of a value are decided here.
+pub fn find_field(
+    record: &[u8],
+    skipped: usize,
+    byte_offset: usize,
+    payload: bool,
+    form: Form,
+    channel: Channel,
+) -> FieldFound
+    ensures { λ r. ⌜ FieldTold (formKind form) (valueAt (formKind form) payload (now («record» .entry)) (skipped + «byte_offset») (channelMeant channel)) (now («record» .entry)) (channelMeant channel) r × FieldPlaced (skipped + «byte_offset») (spanIn payload (formKind form) (length (now («record» .entry))) (channelMeant channel)) r ⌝ }
+{
+    match form {
+        Form::Number(number, _) => find_number(record, skipped, byte_offset, number, channel),
+        Form::Other(content) => {
+            find_content(record, skipped, byte_offset, payload, content, channel)
+        }
     }
 }

@@ -5,12 +5,11 @@ ghost use lib.Dec.{ltb};
 ghost use Rattle.definitions.specs.Reply.{told};
 ghost use Rattle.definitions.specs.Channel.{bitSpan, spanIn};
 ghost use Rattle.fields.specs.Meaning.{channelMeant};
-ghost use Rattle.fields.specs.Form.{contentKind, formKind};
+ghost use Rattle.fields.specs.Form.{contentKind};
 use crate::channel::Channel;
 use crate::form::Content;
-use crate::form::Form;
 
-fn bit_span(channel: Channel) -> usize
+pub(crate) fn bit_span(channel: Channel) -> usize
     ensures { λ r. ⌜ r ≡ bitSpan (channelMeant channel) ⌝ }
 {
     let bits = channel.bit_offset as usize + channel.bit_count as usize;
@@ -18,7 +17,12 @@ fn bit_span(channel: Channel) -> usize
 }
 
 // A payload of `length` bytes is taken whole where it is no number.
-fn content_span(payload: bool, content: Content, length: usize, channel: Channel) -> usize
+pub(crate) fn content_span(
+    payload: bool,
+    content: Content,
+    length: usize,
+    channel: Channel,
+) -> usize
     ensures { λ r. ⌜ r ≡ spanIn payload (contentKind content) length (channelMeant channel) ⌝ }
 {
     if payload {
@@ -31,15 +35,6 @@ fn content_span(payload: bool, content: Content, length: usize, channel: Channel
         Content::MimeSample => bytes,
         Content::MimeStream => bytes,
         Content::Undecoded => bit_span(channel),
-    }
-}
-
-pub(crate) fn span_in(payload: bool, form: Form, length: usize, channel: Channel) -> usize
-    ensures { λ r. ⌜ r ≡ spanIn payload (formKind form) length (channelMeant channel) ⌝ }
-{
-    match form {
-        Form::Number(_, _) => bit_span(channel),
-        Form::Other(content) => content_span(payload, content, length, channel),
     }
 }
 
