@@ -40,7 +40,7 @@ pub value-tested : (k : Kind) (at n : ℕ) (s : List ℕ) (c : Channel) → valu
 unfolding valueBy
 value-tested k at n s c = refl
 
--- the first and the last test, each by itself
+-- the first and the last test, and past them all
 module _ (k : Kind) (at n : ℕ) (s : List ℕ) (c : Channel) where
   pub no-bits : isNumber k && eqb (c .bitCount) 0 ≡ true → valueBy k at n s c ≡ refusal 18 0
   unfolding valueBy

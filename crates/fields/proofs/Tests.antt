@@ -1,12 +1,11 @@
 -- Tests, as the code makes them and as the definitions do.
-use mathlib.Core.Path.{_≡_, refl, sym, ap, _∙_}
+use mathlib.Core.Path.{_≡_, refl, sym}
 use mathlib.Core.Logic.{_⊎_, inl, inr}
 use mathlib.Core.Bool.{Bool, true, false, not, _||_}
 use Prim.Native.Nat.{ℕ, _+_, _-_, _≤_, _<_}
 use native.Mathlib.Omega.{arith}
 use lib.Dec.{ltb, eqb}
 use borrow.Author.Tests.{lt-ltb, le-ltb, ltb-true, ltb-false, eqb-true}
-use Rattle.definitions.specs.Reply.{told}
 
 -- a test by its two outcomes
 ltb-is : (a b : ℕ) (t : Bool) → (t ≡ true → a < b) → (t ≡ false → b ≤ a) → ltb a b ≡ t
@@ -26,14 +25,6 @@ starts-outside length skipped offset span h = sym (lt-ltb length (skipped + offs
 
 pub lies-outside : (length skipped offset span : ℕ) → length - skipped < offset → true ≡ ltb length (skipped + offset + span)
 lies-outside length skipped offset span h = sym (lt-ltb length (skipped + offset + span) (omega arith))
-
--- the same end, by an equal span
-pub same-end : (length at span : ℕ) {n : ℕ} {t : Bool} → n ≡ span → t ≡ ltb length (at + n) → ltb length (at + span) ≡ t
-same-end length at span e h = sym (h ∙ ap (λ (m : ℕ). ltb length (at + m)) e)
-
--- and the bytes that it needs
-pub same-needed : (at span : ℕ) {n t : ℕ} → n ≡ span → t ≡ told (at + n) → told (at + span) ≡ t
-same-needed at span e h = sym (h ∙ ap (λ (m : ℕ). told (at + m)) e)
 
 -- one of two tests holds
 either : (a b : Bool) → not (a || b) ≡ false → (a ≡ true) ⊎ (b ≡ true)

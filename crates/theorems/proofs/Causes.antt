@@ -1,15 +1,15 @@
 -- When each of 18 to 22 is given, exactly, and that there is no other reply without a value.
-use mathlib.Core.Path.{_≡_, refl, sym, ap₂, _∙_}
+use mathlib.Core.Path.{_≡_, refl, sym, ap₂}
 use mathlib.Core.Bool.{Bool, true, false, not, _&&_, _||_, true≢false}
 use mathlib.Core.List.{List}
-use Prim.Native.Nat.{ℕ, _+_, _≤_, _<_}
+use Prim.Native.Nat.{ℕ, _≤_, _<_}
 use native.Mathlib.Omega.{arith}
 use lib.ListN.{length}
 use lib.Dec.{ltb, eqb}
 use borrow.Author.Tests.{ltb-true, lt-ltb, eqb-true, eq-eqb, eqb-false, ne-eqb}
-use Rattle.definitions.specs.Reply.{Reply, answer, refusal, if_then_else_, andThen, told}
+use Rattle.definitions.specs.Reply.{Reply, answer, refusal, if_then_else_, andThen}
 use Rattle.definitions.specs.DataType.{Kind, kindOf}
-use Rattle.definitions.specs.Channel.{Channel, startOf, spanOf, isInteger, isFloating, isNumber, valueBy, valueOf, validValueOf}
+use Rattle.definitions.specs.Channel.{Channel, isInteger, isFloating, isNumber, valueBy, valueOf, validValueOf}
 use Rattle.definitions.proofs.Replies.{not-answered, both}
 use Rattle.theorems.proofs.Answers.{value-exactly, valid-value-exactly}
 use Rattle.theorems.proofs.RefusalNumbers.{between, value-numbered, valid-value-numbered}
