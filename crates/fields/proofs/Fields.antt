@@ -164,20 +164,19 @@ module _ {number : Number} {at n : ℕ} {s : List ℕ} {c : Channel} {a b d e f 
   abbrev k : Kind
   k = numberKind number
 
-  same-span : valueBy k at (bitSpan c) s c ≡ valueBy k at n s c
-  same-span = ap (λ (m : ℕ). valueBy k at m s c) (sym (t .span))
-
   -- they decide the reply
   pub by-tests : valueBy k at (bitSpan c) s c ≡ inTurn a b d e f (at + n) (decoded (c .dataType) s at n c)
   unfolding valueBy
-  by-tests = same-span ∙ rw (is-number number, ← t .bits, ← t .offset, ← t .word, ← t .end, ← t .width)
+  by-tests = rw (← t .span, is-number number, ← t .bits, ← t .offset, ← t .word, ← t .end, ← t .width)
 
   pub number-there : a ≡ false → b ≡ false → d ≡ false → e ≡ false → f ≡ false → Valued k (valueBy k at (bitSpan c) s c) s at n c
   number-there ea eb ed ee ef =
       let some : isNumber k && eqb (c .bitCount) 0 ≡ false = rw (is-number number) (sym (t .bits) ∙ ea) in
       let low : isNumber k && ltb 7 (c .bitOffset) ≡ false = rw (is-number number) (sym (t .offset) ∙ eb) in
-      let v = found k false at n s c (t .span ∙ number-span number false (length s) c) some low (sym (t .word) ∙ ed) (sym (t .end) ∙ ee) (sym (t .width) ∙ ef) in
-      record { value = ap (λ (m : ℕ). valueBy k at m s c) (number-span number false (length s) c) ∙ v .value; sound = v .sound }
+      record {
+        value = by-tests ∙ rw (ea, eb, ed, ee, ef);
+        sound = sound k false at n s c (t .span ∙ number-span number false (length s) c) some low (sym (t .word) ∙ ed) (sym (t .end) ∙ ee) (sym (t .width) ∙ ef);
+      }
 
 -- a number has the same span in a payload
 pub number-placed : (number : Number) (payload : Bool) (at : ℕ) (s : List ℕ) (c : Channel) {r : FieldFound}

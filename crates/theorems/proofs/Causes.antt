@@ -12,7 +12,7 @@ use Rattle.definitions.specs.DataType.{Kind, kindOf}
 use Rattle.definitions.specs.Channel.{Channel, isInteger, isFloating, isNumber, valueBy, valueOf, validValueOf}
 use Rattle.definitions.proofs.Replies.{not-answered, both}
 use Rattle.theorems.proofs.Answers.{value-exactly, valid-value-exactly}
-use Rattle.theorems.proofs.RefusalNumbers.{between, value-numbered, valid-value-numbered}
+use Rattle.theorems.proofs.RefusalNumbers.{between, value-numbered}
 use Rattle.theorems.specs.Exactly.{Exactly, FieldStands}
 use Rattle.theorems.specs.Causes.{ExactlyRefused, Not, Unless, NoBits, BadBitOffset, IntegerTooWide, needed, FieldOutside, BadFloatWidth, FieldReplies}
 
@@ -158,33 +158,30 @@ module _ {A B : Type 0} (g : A → B) where
   abbrev made : Reply A → Reply B
   made r = andThen r (λ a. answer (g a))
 
-  refused-on : {P : Type 0} {n t : ℕ} (r : Reply A) → ExactlyRefused P n t r → ExactlyRefused P n t (made r)
-  refused-on {n = n} {t = t} (answer a) h = record {
-    given = λ p. not-answered a n t (sym (h .given p));
-    only = λ m e. not-answered (g a) n m (sym e);
-  }
-  refused-on (refusal k u) h = record {
-    given = λ p. same (h .given p);
-    only = λ m e. h .only m (same e);
-  }
-    where
-      same : {X Y : Type 0} {n t : ℕ} → _≡_ {A = Reply X} (refusal k u) (refusal n t) → _≡_ {A = Reply Y} (refusal k u) (refusal n t)
-      same {n = n} {t = t} e = let en : k ≡ n = cc in let et : u ≡ t = cc in ap₂ refusal en et
+  pub refused-made : (r : Reply A) (n t : ℕ) → r ≡ refusal n t → made r ≡ refusal n t
+  refused-made r n t e = rw e
 
-  made-of : {s : List ℕ} {idSize : ℕ} {c : Channel} (r : Reply A) → Exactly (FieldStands s idSize c) (made r)
-      → ((n t : ℕ) → made r ≡ refusal n t → (18 ≤ n) × (n ≤ 22)) → FieldReplies s idSize c r → FieldReplies s idSize c (made r)
-  made-of r answers few h = record {
+  pub made-refused : (r : Reply A) (n t : ℕ) → made r ≡ refusal n t → r ≡ refusal n t
+  made-refused (answer a) n t e = not-answered (g a) n t (sym e)
+  made-refused (refusal k u) n t e = let en : k ≡ n = cc in let et : u ≡ t = cc in ap₂ refusal en et
+
+  refused-on : {P : Type 0} {n t : ℕ} (r : Reply A) → ExactlyRefused P n t r → ExactlyRefused P n t (made r)
+  refused-on {n = n} {t = t} r h = record {
+    given = λ p. refused-made r n t (h .given p);
+    only = λ m e. h .only m (made-refused r n m e);
+  }
+
+  made-of : {s : List ℕ} {idSize : ℕ} {c : Channel} (r : Reply A) → Exactly (FieldStands s idSize c) (made r) → FieldReplies s idSize c r → FieldReplies s idSize c (made r)
+  made-of r answers h = record {
     answers = answers;
     no-bits = refused-on r (h .no-bits);
     bad-bit-offset = refused-on r (h .bad-bit-offset);
     too-wide = refused-on r (h .too-wide);
     outside = refused-on r (h .outside);
     bad-float-width = refused-on r (h .bad-float-width);
-    no-other = few;
+    no-other = λ n t e. h .no-other n t (made-refused r n t e);
   }
 
 pub valid-value-replies : (s : List ℕ) (idSize dataBytes : ℕ) (c : Channel) → FieldReplies s idSize c (validValueOf s idSize dataBytes c)
 unfolding validValueOf
-valid-value-replies s idSize dataBytes c =
-    made-of _ (valueOf s idSize c) (valid-value-exactly s idSize c dataBytes)
-    (λ n t e. between 18 22 n (valid-value-numbered s idSize c dataBytes n t e)) (value-replies s idSize c)
+valid-value-replies s idSize dataBytes c = made-of _ (valueOf s idSize c) (valid-value-exactly s idSize c dataBytes) (value-replies s idSize c)

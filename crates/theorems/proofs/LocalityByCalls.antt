@@ -9,8 +9,7 @@ use lib.ListN.{length, getD}
 use Rattle.definitions.specs.Reply.{Reply, answer, refusal, andThen}
 use Rattle.definitions.specs.Bytes.{bytesFor}
 use Rattle.definitions.specs.DataType.{kindOf}
-use Rattle.definitions.specs.Channel.{Channel, Value, ValidValue, variableLength, spanIn, isNumber, valueOf, validOf, validValueOf, doubleIn, recordDouble}
-use Rattle.definitions.proofs.Replies.{not-answered}
+use Rattle.definitions.specs.Channel.{Channel, Value, variableLength, spanIn, isNumber, valueOf, validValueOf, doubleIn, recordDouble}
 use Rattle.words.proofs.Numbers.{Bytes}
 use Rattle.words.proofs.Locality.{recordBit}
 use Rattle.fields.proofs.Locality.{orderOf, locality, content-locality, refusal-locality}
@@ -25,6 +24,7 @@ use Rattle.replies.proofs.ToldToC.{valueReplyAgain, validValueAgain}
 use Rattle.mf4.specs.Clauses.{Slice}
 use Rattle.theorems.specs.Clauses.{ReadsValue, ReadsValidValue, ChecksValidity, ReadsDouble}
 use Rattle.theorems.specs.ClausesToC.{ReadsValueC, ReadsValidValueC, ChecksValidityC, ReadsDoubleC}
+use Rattle.theorems.proofs.Causes.{refused-made, made-refused}
 use Rattle.theorems.proofs.ToldToC.{mf4-decode-value-told, mf4-decode-valid-value-told}
 use Rattle.replies.specs.Replies.{flagC}
 use Rattle.replies.specs.Values.{channelGiven, valueC, validValueC}
@@ -80,11 +80,7 @@ module _ (s t : List ℕ) (idSize : ℕ) (c : Channel) (long : length s ≡ leng
 
   pub same-valid-refusal : (dataBytes : ℕ) → validValueOf s idSize dataBytes c ≡ refusal n m → validValueOf t idSize dataBytes c ≡ refusal n m
   unfolding validValueOf
-  same-valid-refusal dataBytes e = rw (same-refusal (go (valueOf s idSize c) e))
-    where
-      go : (r : Reply Value) → andThen {B = ValidValue} r (λ v. answer (record { value = v; valid = validOf s idSize dataBytes c })) ≡ refusal n m → r ≡ refusal n m
-      go (answer v) h = not-answered _ n m (sym h)
-      go (refusal k u) h = let en : k ≡ n = cc in let eu : u ≡ m = cc in ap₂ refusal en eu
+  same-valid-refusal dataBytes e = refused-made _ (valueOf t idSize c) n m (same-refusal (made-refused _ (valueOf s idSize c) n m e))
 
 module _ (κs : Lfts 1) (s t : Slice) (idSize : ℕ) (channel : Description) (long : length (s .now) ≡ length (t .now)) (n m : ℕ) where
   pub value-read-refused : (y z : ValueRead) → ReadsValue κs s idSize channel y → ReadsValue κs t idSize channel z
