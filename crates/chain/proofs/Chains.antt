@@ -8,12 +8,13 @@ use lib.ListN.{length, drop, length-append}
 use lib.Dec.{eqb}
 use Rattle.definitions.specs.Reply.{Reply, answer, if_then_else_}
 use Rattle.definitions.specs.DataList.{DataList}
-use Rattle.definitions.specs.Chain.{Block, listLimit, fragmentLimit, dataOf, joined, total, fragmentOf, fragments, listAt, lists, chainOf}
+use Rattle.definitions.specs.Chain.{Block, listLimit, fragmentLimit, dataOf, joined, total, fragmentOf, fragments, listAt, Declaration, declarationOf, chainedAt, lists, chainOf}
 use Rattle.definitions.proofs.Replies.{not-answered}
 use Rattle.chain.specs.Walk.{Inside, Stand}
 use Rattle.words.proofs.Spans.{length-span}
 use Rattle.chain.proofs.Answers.{followed, answered}
 use Rattle.chain.proofs.Lists.{list-stands}
+use Rattle.chain.proofs.Declarations.{chained-answer}
 use Rattle.chain.proofs.Fragments.{Taken, fragment-stands}
 
 -- ---- one block more
@@ -66,18 +67,20 @@ module _ (id f : List ℕ) where
   next-stand true r cs bs h g e = subst (Stand f) (answered e) h
   next-stand false r cs bs h g e = g e
 
-  lists-stand : (k a : ℕ) (before bs : List Block) → Stand f before → lists id f k a before ≡ answer bs → Stand f bs
+  lists-stand : (first : Declaration) (k a : ℕ) (before bs : List Block) → Stand f before → lists id f first k a before ≡ answer bs → Stand f bs
   unfolding lists
-  lists-stand zero a before bs h e = not-answered bs 8 0 e
-  lists-stand (suc k) a before bs h e =
-      let listed = followed (listAt f (length before) a) _ bs e in
+  lists-stand first zero a before bs h e = not-answered bs 8 0 e
+  lists-stand first (suc k) a before bs h e =
+      let listed = followed (chainedAt first f (length before) a) _ bs e in
       let d = listed .0 in
       let read = followed (fragments id f (drop a f) d 0 (d .links) before) _ bs (listed .2) in
-      let few = list-stands f (length before) a d (listed .1) .1 .few in
+      let few = list-stands f (length before) a d (chained-answer first f (length before) a d (listed .1) .0) .1 .few in
       let cs = fragments-stand (drop a f) d (d .links) 0 before (read .0) h few (read .1) in
-      next-stand (eqb (d .next) 0) (lists id f k (d .next) (read .0)) (read .0) bs cs (lists-stand k (d .next) (read .0) bs cs) (read .2)
+      next-stand (eqb (d .next) 0) (lists id f first k (d .next) (read .0)) (read .0) bs cs (lists-stand first k (d .next) (read .0) bs cs) (read .2)
 
   -- the blocks of an accepted chain lie in the file, are not too many, and hold no more data than a chain may
   pub chain-stands : (start : ℕ) (bs : List Block) → chainOf id f start ≡ answer bs → Stand f bs
   unfolding chainOf Inside total
-  chain-stands start bs e = lists-stand listLimit start [] bs (record { inside = tt; few = omega arith; bounded = omega arith }) e
+  chain-stands start bs e =
+      let read = followed (listAt f 0 start) (λ d. lists id f (declarationOf (drop start f) d) listLimit start []) bs e in
+      lists-stand _ listLimit start [] bs (record { inside = tt; few = omega arith; bounded = omega arith }) (read .2)

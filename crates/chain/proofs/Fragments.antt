@@ -1,28 +1,25 @@
 -- The ways through a fragment, and what an answer tells of it.
-use mathlib.Core.Path.{_≡_, sym, ap, _∙_}
-use mathlib.Core.Bool.{true, false, not}
+use mathlib.Core.Path.{_≡_, refl, sym, ap, _∙_}
+use mathlib.Core.Bool.{Bool, true, false, not, _&&_}
 use mathlib.Core.List.{List}
 use Prim.Native.Nat.{ℕ, _+_, _-_, _*_, _%_, _≤_, _<_}
-use native.Mathlib.Nat.{div-one}
 use native.Mathlib.Omega.{arith}
 use lib.ListN.{length, drop}
 use lib.Dec.{leb, ltb, eqb}
-use borrow.Author.Tests.{eq-eqb, ne-eqb, lt-ltb, le-ltb, ltb-false}
-use Rattle.definitions.specs.Reply.{answer, refusal}
-use Rattle.definitions.specs.Bytes.{u64At, bit}
+use borrow.Author.Tests.{ne-eqb, lt-leb, le-leb, ltb-false, eqb-true, eqb-false}
+use Rattle.definitions.specs.Reply.{answer, refusal, if_then_else_}
+use Rattle.definitions.specs.Bytes.{u64At}
 use Rattle.definitions.specs.DataList.{DataList, oneLength}
-use Rattle.definitions.specs.Chain.{Block, dataLimit, blockAt, declared, judged, fragmentOf, listAt}
+use Rattle.definitions.specs.Chain.{Block, dataLimit, blockAt, isLast, declared, judged, fragmentOf, listAt}
 use Rattle.blocks.proofs.Lists.{rest-one, rest-many}
 use Rattle.chain.specs.Walk.{Opens, LinkWithin, fragmentAt}
 use Rattle.chain.specs.declared.place.OpenList.{OpenList}
 use Rattle.chain.specs.declared.place.Place.{Place}
 use Rattle.chain.proofs.Answers.{passed, followed, answered}
 use Rattle.chain.proofs.Blocks.{block-stands}
+use Rattle.chain.proofs.Declarations.{flag-set, flag-clear}
 
 -- ---- what the list declares
-
-flag-is : (flags : ℕ) → bit flags 0 ≡ flags % 2
-flag-is flags = ap (λ (x : ℕ). x % 2) (div-one flags)
 
 -- there is room for it in the bytes
 module _ (s : List ℕ) (l : OpenList) (i : ℕ) (w : LinkWithin s l i) where
@@ -32,30 +29,51 @@ module _ (s : List ℕ) (l : OpenList) (i : ℕ) (w : LinkWithin s l i) where
   pub room-each : (l .flags % 2 ≡ 1 → ⊥) → l .«rest_at» + i * 8 + 8 ≤ length s
   room-each o = omega (arith, w .one, w .rest, rest-many (l .flags) (l .links) o)
 
+-- of two tests the second counts only where the first holds
+module _ (a t : Bool) where
+  pub first-fails : a ≡ false → false ≡ (a && t)
+  first-fails e = rw e
+
+  pub first-holds : a ≡ true → t ≡ (a && t)
+  first-holds e = rw e
+
+-- a shorter fragment is the last, and any other has the length
+module _ (size n : ℕ) where
+  by-last : (last : Bool) → size < n → last ≡ (if last then leb size n else eqb size n)
+  by-last true h = let l : size ≤ n = omega arith in sym (le-leb _ _ l)
+  by-last false h = let z : size ≡ n → ⊥ = λ e. omega arith in sym (ne-eqb _ _ z)
+
+  no-longer : (t : Bool) → eqb size n ≡ t → n ≤ size → t ≡ leb size n
+  no-longer true e h = let l : size ≤ n = omega (arith, eqb-true size n e) in sym (le-leb _ _ l)
+  no-longer false e h = let l : n < size = omega (arith, eqb-false size n e) in sym (lt-leb _ _ l)
+
+  by-length : (last : Bool) → n ≤ size → eqb size n ≡ (if last then leb size n else eqb size n)
+  by-length true h = no-longer (eqb size n) refl h
+  by-length false h = refl
+
 module _ (s : List ℕ) (l : OpenList) (i p size : ℕ) (d : DataList) (k : Opens l d) where
   flags-are : d .flags % 2 ≡ l .flags % 2
   flags-are = ap (λ (x : OpenList). x .flags % 2) (sym k)
 
-  links-are : l .links ≡ d .links
-  links-are = ap (λ (x : OpenList). x .links) k
+  last-is : (eqb (l .next .0) 0 && leb (l .links) (i + 1)) ≡ isLast d i
+  last-is = ap (λ (x : OpenList). eqb (x .next .0) 0 && leb (x .links) (i + 1)) k
 
   module _ (o : l .flags % 2 ≡ 1) (n : ℕ) (e : n ≡ u64At s (l .«rest_at»)) where
-    one-length : oneLength (d .flags) ≡ true
-    one-length = eq-eqb _ _ (flag-is (d .flags) ∙ flags-are ∙ o)
+    of-length : (if isLast d i then leb size n else eqb size n) ≡ declared s d i p size
+    of-length =
+        let is : n ≡ u64At s (d .restAt) = e ∙ ap (λ (x : OpenList). u64At s (x .«rest_at»)) k in
+        rw (flag-set (d .flags) (flags-are ∙ o), is)
 
-    length-is : n ≡ u64At s (d .restAt)
-    length-is = e ∙ ap (λ (x : OpenList). u64At s (x .«rest_at»)) k
+    pub declared-short : size < n → (eqb (l .next .0) 0 && leb (l .links) (i + 1)) ≡ declared s d i p size
+    declared-short h = last-is ∙ by-last size n (isLast d i) h ∙ of-length
 
-    pub declared-inner : i + 1 < l .links → eqb size n ≡ declared s d i p size
-    declared-inner h = let m : i + 1 < d .links = omega (arith, links-are) in rw (one-length, lt-ltb _ _ m, length-is)
-
-    pub declared-last : l .links ≤ i + 1 → leb size n ≡ declared s d i p size
-    declared-last h = let m : d .links ≤ i + 1 = omega (arith, links-are) in rw (one-length, le-ltb _ _ m, length-is)
+    pub declared-full : n ≤ size → eqb size n ≡ declared s d i p size
+    declared-full h = by-length size n (isLast d i) h ∙ of-length
 
   pub declared-each : (l .flags % 2 ≡ 1 → ⊥) → (n : ℕ) → n ≡ u64At s (l .«rest_at» + i * 8) → eqb n p ≡ declared s d i p size
   declared-each o n e =
       let at : n ≡ u64At s (d .restAt + i * 8) = e ∙ ap (λ (x : OpenList). u64At s (x .«rest_at» + i * 8)) k in
-      rw (ne-eqb _ _ (λ h. o (sym flags-are ∙ sym (flag-is (d .flags)) ∙ h)), at)
+      rw (flag-clear (d .flags) (λ h. o (sym flags-are ∙ h)), at)
 
 -- ---- the ways out
 

@@ -4,6 +4,7 @@ pub mod Answers
 pub mod Addresses
 pub mod Blocks
 pub mod Lists
+pub mod Declarations
 pub mod Fragments
 pub mod Steps
 pub mod Chains

@@ -13,9 +13,11 @@ use Rattle.definitions.specs.Header.{Header, headerOf}
 use Rattle.definitions.specs.DataList.{DataList, idDL, listOf, linksOf, restOf, listIn, restIn, restCount, flagsAt}
 use Rattle.definitions.specs.Chain.{fragmentLimit, hasHeader, agrees, admitted, listAt}
 use Rattle.blocks.proofs.Headers.{needed}
-use Rattle.chain.specs.Walk.{opened, Opens, LinkWithin}
+use Rattle.blocks.proofs.Lists.{rest-one}
+use Rattle.chain.specs.Walk.{opened, Opens, LinkWithin, LengthWithin}
 use Rattle.chain.specs.declared.place.OpenList.{OpenList}
 use Rattle.definitions.proofs.Replies.{both}
+use Rattle.chain.proofs.Addresses.{header-inside}
 use Rattle.chain.proofs.Answers.{passed, followed, answered}
 
 -- ---- whether it agrees with itself
@@ -107,3 +109,13 @@ link-within s n i l d h k m =
       rest = rw e at (h .lies .rest);
     } in
     subst (λ (x : OpenList). i < x .links → LinkWithin s x i) (sym k) within m
+
+-- and so can the one length that it declares
+pub length-within : (f : List ℕ) (n : ℕ) (l : OpenList) (d : DataList) → listAt f n (l .address .0) ≡ answer d → Opens l d → LengthWithin f l
+length-within f n l d h k =
+    let there = list-stands f n (l .address .0) d h in
+    let within : LengthWithin f (opened (l .address) d) = record {
+      there = header-inside f (l .address .0) (there .0);
+      rest = λ o. omega (arith, there .1 .lies .rest, there .1 .lies .counted, rest-one (d .flags) (d .count) o);
+    } in
+    subst (LengthWithin f) (sym k) within

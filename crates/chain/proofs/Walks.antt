@@ -4,13 +4,16 @@ use mathlib.Core.List.{List, [], _∷_, _++_}
 use Prim.Native.Nat.{ℕ, _+_, _-_, _*_, _≤_, _<_}
 use native.Mathlib.Omega.{arith}
 use lib.ListN.{length, drop, length-append}
-use borrow.Author.Tests.{lt-ltb, le-ltb}
+use mathlib.Core.Bool.{true, false}
+use lib.Dec.{eqb}
+use borrow.Author.Tests.{ne-eqb, lt-ltb, le-ltb}
+use Rattle.definitions.specs.DataList.{DataList}
 use Rattle.definitions.specs.Reply.{Reply, answer, refusal, andThen}
-use Rattle.definitions.specs.Chain.{Block, fileLimit, listLimit, fragmentLimit, idDT, total, listAt, chainOf, totalOf, dataLength}
+use Rattle.definitions.specs.Chain.{Block, fileLimit, listLimit, fragmentLimit, idDT, total, listAt, Declaration, declarationOf, keepsTo, chainOf, totalOf, dataLength}
 use Rattle.refusals.specs.Meaning.{refused}
 use Rattle.refusals.specs.declared.Refusal.{Refusal}
 use Rattle.chain.specs.Located.{Locates}
-use Rattle.chain.specs.Walk.{Inside, At, startAt, behind, entered, fragmentAt, Onward, aList, theEnd, nextOf, fragmentsLeft, listsBehind, chainFrom, goOn}
+use Rattle.chain.specs.Walk.{Inside, At, startAt, behind, entered, fragmentAt, Onward, aList, theEnd, ended, declaredAt, declaredBefore, nextOf, fragmentsLeft, listsBehind, chainFrom, goOn}
 use Rattle.chain.specs.declared.place.FileAddress.{FileAddress}
 use Rattle.chain.specs.declared.place.DataPosition.{DataPosition}
 use Rattle.chain.specs.declared.place.Place.{Place}
@@ -19,6 +22,8 @@ use Rattle.chain.specs.declared.acceptance.Located.the-variants.{Whole a
 use Rattle.chain.proofs.Answers.{followed}
 use Rattle.chain.proofs.Fragments.{Taken, fragment-stands}
 use Rattle.chain.proofs.Chains.{total-more, stand-more}
+use Rattle.chain.proofs.Lists.{list-stands}
+use Rattle.chain.proofs.Declarations.{kept-same, declares-kept, chained-answer, chain-all}
 use Rattle.chain.proofs.Steps.{known-behind, known-entered, rest-fragment, rest-next, Tells, next-tells}
 
 -- no walk makes more turns than this
@@ -28,7 +33,7 @@ turnsLeft p = (listLimit - p .lists) * (fragmentLimit + 1) + (p .list .links - p
 -- where the walk begins
 module _ (id f : List ℕ) (p₀ : Place) (a : FileAddress) (begun : p₀ ≡ startAt a) where
   pub at-start : At id f (p₀ .list .next .0) p₀ []
-  unfolding chainOf total Inside fragmentsLeft listsBehind
+  unfolding total Inside declaredBefore fragmentsLeft listsBehind
   at-start =
       rw begun
       (record {
@@ -36,7 +41,9 @@ module _ (id f : List ℕ) (p₀ : Place) (a : FileAddress) (begun : p₀ ≡ st
         stand = record { inside = tt; few = omega arith; bounded = omega arith };
         count = refl;
         size = refl;
-        rest = refl;
+        first = declaredAt f (a .0) (listAt f 0 (a .0));
+        alike = λ e. refl;
+        rest = chain-all id f (a .0);
       })
 
   pub from-start : (p : Place) (before : List Block) → At id f (p₀ .list .next .0) p before → At id f (a .0) p before
@@ -44,18 +51,15 @@ module _ (id f : List ℕ) (p₀ : Place) (a : FileAddress) (begun : p₀ ≡ st
 
 module _ (id f : List ℕ) (start : ℕ) where
   module _ (p : Place) (before : List Block) (m : At id f start p before) where
-    pub few-before : p .fragments + p .index ≤ fragmentLimit
-    few-before = omega (arith, m .known .inside, m .known .few)
-
     -- ---- inside a list
 
     module _ (h : p .index < p .list .links) where
       -- the chain gives what the fragment gives
       by-fragment : (r : Reply Block) → fragmentAt id f p ≡ r
-          → chainOf id f start ≡ andThen r (λ b. chainFrom id f (behind p (b .size)) (before ++ (b ∷ [])))
+          → chainOf id f start ≡ andThen r (λ b. chainFrom id f (m .first) (behind p (b .size)) (before ++ (b ∷ [])))
       by-fragment r e =
-          m .rest ∙ rest-fragment id f p before (m .known) (m .size) h
-          ∙ ap (λ (x : Reply Block). andThen x (λ b. chainFrom id f (behind p (b .size)) (before ++ (b ∷ [])))) e
+          m .rest ∙ rest-fragment id f (m .first) p before (m .known) (m .size) h
+          ∙ ap (λ (x : Reply Block). andThen x (λ b. chainFrom id f (m .first) (behind p (b .size)) (before ++ (b ∷ [])))) e
 
       pub refused-here : (n t : ℕ) → fragmentAt id f p ≡ refusal n t → chainOf id f start ≡ refusal n t
       refused-here n t e = by-fragment _ e
@@ -69,6 +73,13 @@ module _ (id f : List ℕ) (start : ℕ) where
             let t = fragment-stands id f (drop (p .list .address .0) f) (read .0) (p .index) (p .position .0) b (read .2) in
             (t, omega (arith, m .known .few), omega (arith, t .bounded))
 
+        -- the list is the same
+        alike-behind : (n : ℕ) → ended (behind p n) ≡ false → declaredBefore f (behind p n) ≡ m .first
+        unfolding declaredBefore
+        alike-behind n more =
+            let some : eqb (p .lists) 0 ≡ false = ne-eqb (p .lists) 0 (λ z. omega (arith, m .known .none)) in
+            rw some (rw some at (m .alike more))
+
         pub at-behind : (q : Place) → q ≡ behind p (b .size) → At id f start q (before ++ (b ∷ [])) × (turnsLeft q < turnsLeft p)
         at-behind q is =
             let here : Taken f (total before) b = rw (m .size) (taken-here .0) in
@@ -78,6 +89,8 @@ module _ (id f : List ℕ) (start : ℕ) where
                 stand = stand-more f b before (m .stand) (omega (arith, m .count, m .known .few)) here;
                 count = omega (arith, length-append before (b ∷ []), m .count);
                 size = omega (arith, total-more b before, m .size);
+                first = m .first;
+                alike = alike-behind (b .size);
                 rest = by-fragment _ e;
               },
               omega arith,
@@ -88,8 +101,10 @@ module _ (id f : List ℕ) (start : ℕ) where
 
     module _ (h : p .list .links ≤ p .index) where
       -- the chain gives what the next list gives
-      by-next : (r : Reply Onward) → nextOf f p ≡ r → chainOf id f start ≡ andThen r (goOn id f before)
-      by-next r e = m .rest ∙ rest-next id f p before (m .known) (m .count) h ∙ ap (λ (x : Reply Onward). andThen x (goOn id f before)) e
+      by-next : (r : Reply Onward) → nextOf f p ≡ r → chainOf id f start ≡ andThen r (goOn id f (m .first) before)
+      by-next r e =
+          m .rest ∙ rest-next id f (m .first) p before (m .known) (m .count) h (m .alike)
+          ∙ ap (λ (x : Reply Onward). andThen x (goOn id f (m .first) before)) e
 
       pub refused-next : (n t : ℕ) → nextOf f p ≡ refusal n t → chainOf id f start ≡ refusal n t
       refused-next n t e = by-next _ e
@@ -98,14 +113,35 @@ module _ (id f : List ℕ) (start : ℕ) where
       unfolding Tells
       at-end n e = (by-next _ e, m .size ∙ sym (next-tells f p (theEnd n) e))
 
+      -- a list that is kept to, if another follows, declares what the first does
+      alike-entered : (d : DataList) → listAt f (p .fragments + p .index) (p .list .next .0) ≡ answer d
+          → keepsTo (m .first) (eqb (d .next) 0) (declarationOf (drop (p .list .next .0) f) d) ≡ true
+          → ended (entered p d) ≡ false → declaredBefore f (entered p d) ≡ m .first
+      unfolding declaredBefore
+      alike-entered d e k more =
+          let some : eqb (p .lists + 1) 0 ≡ false = ne-eqb (p .lists + 1) 0 (λ z. omega arith) in
+          let next : eqb (d .next) 0 ≡ false = rw some at more in
+          rw some
+          (declares-kept f (p .list .next) d (list-stands f _ _ d e .1 .count)
+          ∙ kept-same (m .first) _ (rw next at k))
+
       pub at-list : (q : Place) → nextOf f p ≡ answer (aList q) → At id f start q before × (turnsLeft q < turnsLeft p)
       unfolding Tells
       at-list q e =
           let t = next-tells f p (aList q) e in
-          let known = known-entered f p (m .known) (t .0) (t .1) in
-          let gone : chainOf id f start ≡ chainFrom id f (entered p (t .0)) before = by-next _ (e ∙ ap (λ (x : Place). answer (aList x)) (sym (t .2))) in
+          let read = chained-answer _ _ _ _ (t .0) (t .1) in
+          let known = known-entered f p (m .known) (t .0) (read .0) in
+          let gone : chainOf id f start ≡ chainFrom id f (m .first) (entered p (t .0)) before = by-next _ (e ∙ ap (λ (x : Place). answer (aList x)) (sym (t .2))) in
           let there : At id f start (entered p (t .0)) before × (turnsLeft (entered p (t .0)) < turnsLeft p) = (
-            record { known = known; stand = m .stand; count = omega (arith, m .count); size = m .size; rest = gone },
+            record {
+              known = known;
+              stand = m .stand;
+              count = omega (arith, m .count);
+              size = m .size;
+              first = m .first;
+              alike = alike-entered (t .0) (read .0) (rw (m .alike (t .4)) at (read .1));
+              rest = gone;
+            },
             omega (arith, t .3, known .few),
           ) in
           subst (λ (x : Place). At id f start x before × (turnsLeft x < turnsLeft p)) (t .2) there

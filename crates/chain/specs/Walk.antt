@@ -2,13 +2,14 @@
 -- id the id of its data blocks.
 use mathlib.Core.Path.{_≡_}
 use mathlib.Core.Bool.{Bool, false}
-use Prim.Native.Nat.{ℕ, _+_, _-_, _*_, _≤_, _<_}
+use Prim.Native.Nat.{ℕ, _+_, _-_, _*_, _%_, _≤_, _<_}
 use mathlib.Core.List.{List, [], _∷_}
 use lib.ListN.{length, drop}
 use lib.Dec.{leb, eqb}
 use Rattle.definitions.specs.Reply.{Reply, answer, refusal, if_then_else_, andThen}
-use Rattle.definitions.specs.DataList.{DataList, restCount}
-use Rattle.definitions.specs.Chain.{Block, dataLimit, fragmentLimit, listLimit, total, fragmentOf, fragments, listAt, lists, chainOf}
+use Rattle.definitions.specs.Bytes.{u64At}
+use Rattle.definitions.specs.DataList.{DataList, oneLength, restCount}
+use Rattle.definitions.specs.Chain.{Block, dataLimit, fragmentLimit, listLimit, total, fragmentOf, fragments, listAt, Declaration, byLength, byOffsets, declarationOf, chainedAt, lists, chainOf}
 use Rattle.refusals.specs.Meaning.{refused}
 use Rattle.chain.specs.declared.place.FileAddress.{FileAddress}
 use Rattle.chain.specs.declared.place.DataPosition.{DataPosition}
@@ -42,6 +43,21 @@ pub record LinkWithin (s : List ℕ) (l : OpenList) (i : ℕ) : Type 0 where
   pub one : i < l .links
   pub link : l .«links_at» + l .links * 8 ≤ length s
   pub rest : l .«rest_at» + restCount (l .flags) (l .links) * 8 ≤ length s
+
+-- the one length that the list declares, if it does, lies in the file
+pub record LengthWithin (f : List ℕ) (l : OpenList) : Type 0 where
+  pub there : l .address .0 ≤ length f
+  pub rest : l .flags % 2 ≡ 1 → l .«rest_at» + 8 ≤ length (drop (l .address .0) f)
+
+-- what a list that is kept declares for its chain
+abbrev pub declarationIn : List ℕ → OpenList → Declaration
+declarationIn f l =
+    if oneLength (l .flags) then byLength (u64At (drop (l .address .0) f) (l .«rest_at»)) (l .links) else byOffsets
+
+-- what a list at an address declares; nobody asks where none is read
+abbrev pub declaredAt : List ℕ → ℕ → Reply DataList → Declaration
+declaredAt f a (answer d) = declarationOf (drop a f) d
+declaredAt f a (refusal n t) = byOffsets
 
 -- ---- places
 
@@ -101,11 +117,18 @@ nextReply (Refused r) = refused r
 abbrev pub ended : Place → Bool
 ended p = if eqb (p .lists) 0 then false else eqb (p .list .next .0) 0
 
+-- what the list read last declares, and before the first list what that one will
+unfoldable pub declaredBefore : List ℕ → Place → Declaration
+declaredBefore f p =
+    if eqb (p .lists) 0 then declaredAt f (p .list .next .0) (listAt f (p .fragments + p .index) (p .list .next .0))
+    else declarationIn f (p .list)
+
 unfoldable pub nextOf : List ℕ → Place → Reply Onward
 nextOf f p =
     if ended p then answer (theEnd (p .position .0))
     else if leb listLimit (p .lists) then refusal 8 0
-    else andThen (listAt f (p .fragments + p .index) (p .list .next .0)) (λ d. answer (aList (entered p d)))
+    else andThen (chainedAt (declaredBefore f p) f (p .fragments + p .index) (p .list .next .0))
+    (λ d. answer (aList (entered p d)))
 
 -- ---- the rest of the chain
 
@@ -116,18 +139,18 @@ fragmentsLeft id f p before =
     else andThen (listAt f (p .fragments) (p .list .address .0))
     (λ d. fragments id f (drop (p .list .address .0) f) d (p .index) (d .links - p .index) before)
 
--- the lists behind it
-unfoldable pub listsBehind : List ℕ → List ℕ → Place → List Block → Reply (List Block)
-listsBehind id f p bs = if ended p then answer bs else lists id f (listLimit - p .lists) (p .list .next .0) bs
+-- the lists behind it, in a chain whose first list declares so
+unfoldable pub listsBehind : List ℕ → List ℕ → Declaration → Place → List Block → Reply (List Block)
+listsBehind id f first p bs = if ended p then answer bs else lists id f first (listLimit - p .lists) (p .list .next .0) bs
 
 -- what the chain gives in all, where the walk stands at p and the blocks so far are `before`
-abbrev pub chainFrom : List ℕ → List ℕ → Place → List Block → Reply (List Block)
-chainFrom id f p before = andThen (fragmentsLeft id f p before) (listsBehind id f p)
+abbrev pub chainFrom : List ℕ → List ℕ → Declaration → Place → List Block → Reply (List Block)
+chainFrom id f first p before = andThen (fragmentsLeft id f p before) (listsBehind id f first p)
 
 -- the same behind a list
-abbrev pub goOn : List ℕ → List ℕ → List Block → Onward → Reply (List Block)
-goOn id f before (aList p) = chainFrom id f p before
-goOn id f before (theEnd n) = answer before
+abbrev pub goOn : List ℕ → List ℕ → Declaration → List Block → Onward → Reply (List Block)
+goOn id f first before (aList p) = chainFrom id f first p before
+goOn id f first before (theEnd n) = answer before
 
 -- ---- a walk so far
 
@@ -147,7 +170,10 @@ pub record At (id f : List ℕ) (start : ℕ) (p : Place) (before : List Block) 
   pub stand : Stand f before
   pub count : length before ≡ p .fragments + p .index
   pub size : total before ≡ p .position .0
-  pub rest : chainOf id f start ≡ chainFrom id f p before
+  -- the list read last, if another follows, declares what the first does
+  pub first : Declaration
+  pub alike : ended p ≡ false → declaredBefore f p ≡ first
+  pub rest : chainOf id f start ≡ chainFrom id f first p before
 
 -- p is a place on the way along an accepted chain
 pub record Walked (id f : List ℕ) (p : Place) : Type 0 where

@@ -1,7 +1,9 @@
 // A fragment: the data block that a list links, and what the list declares of it.
 ghost use mathlib.Core.Path.{_≡_};
+ghost use mathlib.Core.Bool.{_&&_};
 ghost use Prim.Native.Nat.{_+_, _*_, _≤_, _<_};
 ghost use lib.ListN.{length};
+ghost use lib.Dec.{leb, eqb};
 ghost use Rattle.definitions.specs.Bytes.{u64At};
 ghost use Rattle.definitions.specs.DataList.{DataList};
 ghost use Rattle.definitions.specs.Chain.{declared, fragmentOf};
@@ -10,6 +12,7 @@ ghost use Rattle.chain.specs.Walk.{Opens, LinkWithin, ListKnown, fragmen
 use crate::block::BlockRead;
 use crate::block::data_block_at;
 use crate::place::FileAddress;
+use crate::place::OpenList;
 use crate::place::Place;
 use crate::place::bytes_from;
 use refusals::Refusal;
@@ -26,11 +29,23 @@ fn link_at(bytes: &[u8], place: Place) -> FileAddress
 }
 
 // The one length of the list's fragments
-fn one_length(bytes: &[u8], place: Place) -> u64
-    requires { ⌜ place .list .«rest_at» + 8 ≤ length (now bytes) ⌝ }
-    ensures { λ r. ⌜ r ≡ u64At (now (bytes .entry)) (place .list .«rest_at») ⌝ }
+pub(crate) fn one_length(bytes: &[u8], list: OpenList) -> u64
+    requires { ⌜ list .«rest_at» + 8 ≤ length (now bytes) ⌝ }
+    ensures { λ r. ⌜ r ≡ u64At (now (bytes .entry)) (list .«rest_at») ⌝ }
 {
-    read_u64_le(bytes, place.list.rest_at as usize)
+    read_u64_le(bytes, list.rest_at as usize)
+}
+
+// Whether no fragment of the chain follows
+fn is_last_fragment(place: Place) -> bool
+    requires { ⌜ place .index + 1 < 18446744073709551616 ⌝ }
+    ensures { λ r. ⌜ r ≡ (eqb (place .list .next .0) 0 && leb (place .list .links) (place .index + 1)) ⌝ }
+{
+    let reached = place.index + 1;
+    if !place.list.is_last() {
+        return false;
+    }
+    place.list.links <= reached
 }
 
 // Whether the length or the offset that the list declares of its fragment is true. `bytes` is the file from the list on.
@@ -38,15 +53,15 @@ fn truly_declared(bytes: &[u8], place: Place, size: u64) -> bool
     requires { ⌜ LinkWithin (now bytes) (place .list) (place .index) ⌝ }
     ensures { λ r. ⌜ ((d : DataList) → Opens (place .list) d → r ≡ declared (now (bytes .entry)) d (place .index) (place .position .0) size) ⌝ }
 {
-    let at = place.list.rest_at as usize;
-    if place.list.flags % 2 == 1 {
-        let length = one_length(bytes, place);
-        if place.index + 1 < place.list.links {
-            return size == length;
+    let list = place.list;
+    if list.flags % 2 == 1 {
+        let length = one_length(bytes, list);
+        if size < length {
+            return is_last_fragment(place);
         }
-        return size <= length;
+        return size == length;
     }
-    read_u64_le(bytes, at + place.index as usize * 8) == place.position.0
+    read_u64_le(bytes, list.rest_at as usize + place.index as usize * 8) == place.position.0
 }
 
 // The fragment at a place, where `bytes` is the file from its list on. The link alone says where it is.

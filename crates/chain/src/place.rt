@@ -3,7 +3,7 @@ ghost use mathlib.Core.Path.{_≡_};
 ghost use mathlib.Core.Bool.{_&&_};
 ghost use Prim.Native.Nat.{_+_, _≤_, _<_};
 ghost use lib.ListN.{length, drop};
-ghost use lib.Dec.{ltb, leb};
+ghost use lib.Dec.{ltb, leb, eqb};
 ghost use Rattle.definitions.specs.Chain.{dataLimit, hasHeader};
 ghost use Rattle.blocks.specs.Meaning.{listMeant};
 ghost use Rattle.chain.specs.Walk.{startAt, further, behind, ended, entered};
@@ -114,6 +114,15 @@ impl DataPosition {
     }
 }
 
+impl OpenList {
+    // whether it links no further list
+    pub(crate) fn is_last(self) -> bool
+        ensures { λ r. ⌜ r ≡ eqb (self .next .0) 0 ⌝ }
+    {
+        self.next.0 == 0
+    }
+}
+
 impl Place {
     // before a chain's first list
     pub fn start(first: FileAddress) -> Place
@@ -158,7 +167,7 @@ impl Place {
         if self.lists == 0 {
             return false;
         }
-        self.list.next.0 == 0
+        self.list.is_last()
     }
 
     // before the first fragment of the next list, which was read

@@ -1,6 +1,7 @@
 -- An accepted chain, said at once and not in turn: the conditions that its lists and its blocks meet.
 use mathlib.Core.Path.{_≡_}
 use mathlib.Core.Bool.{true}
+use mathlib.Core.Logic.{_⊎_}
 use Prim.Native.Nat.{ℕ, _+_, _*_, _≤_, _<_}
 use mathlib.Core.List.{List, [], _∷_, _++_}
 use lib.ListN.{length, drop}
@@ -41,9 +42,10 @@ pub record BlockStands (id f : List ℕ) (b : Block) : Type 0 where
 -- What the list d, the first of the bytes s, declares of a fragment is true: with i fragments of the list before it and `more`
 -- behind it, its data has n bytes and follows p bytes of the chain's.
 pub record Truthful (s : List ℕ) (d : DataList) (p i more n : ℕ) : Type 0 where
-  -- flag bit 0: one length, that of the data without the header. No fragment is longer, and only the list's last may be shorter
+  -- flag bit 0: one length, that of the data without the header. No fragment is longer, and none is shorter behind which
+  -- there is another of the list or a next list
   pub longest : bit (d .flags) 0 ≡ 1 → n ≤ u64At s (d .restAt)
-  pub full : bit (d .flags) 0 ≡ 1 → 0 < more → n ≡ u64At s (d .restAt)
+  pub full : bit (d .flags) 0 ≡ 1 → (0 < more) ⊎ (0 < d .next) → n ≡ u64At s (d .restAt)
   -- without it: an offset for each fragment, which is the length of all data before it
   pub offset : bit (d .flags) 0 ≡ 0 → u64At s (d .restAt + i * 8) ≡ p
 
@@ -65,12 +67,25 @@ pub record PartStands (id f : List ℕ) (before : List Part) (q : Part) (after :
   pub each : Each (BlockListed id f (q .address) (q .list) (total (blocksOf before))) [] (q .blocks)
   pub next : q .list .next ≡ linkTo after
 
+-- A list with flag bit 0 declares the length n, and counts c fragments, or fewer where it has no next list
+pub record DeclaresLength (f : List ℕ) (n c : ℕ) (before : List Part) (q : Part) (after : List Part) : Type 0 where
+  pub flag : bit (q .list .flags) 0 ≡ 1
+  pub declares : u64At (drop (q .address) f) (q .list .restAt) ≡ n
+  pub counts : 0 < q .list .next → q .list .count ≡ c
+  pub most : q .list .count ≤ c
+
+-- a list without it
+pub record DeclaresOffsets (before : List Part) (q : Part) (after : List Part) : Type 0 where
+  pub flag : bit (q .list .flags) 0 ≡ 0
+
 pub record Accepted (id f : List ℕ) (start : ℕ) (blocks : List Block) : Type 0 where
   -- the lists in turn, the first at the start
   pub parts : List Part
   pub some : 0 < start
   pub first : linkTo parts ≡ start
   pub each : Each (PartStands id f) [] parts
+  -- all with one length and one count between them, or all with offsets
+  pub alike : ((n : ℕ) × (c : ℕ) × Each (DeclaresLength f n c) [] parts) ⊎ Each DeclaresOffsets [] parts
   -- their blocks are these
   pub together : blocks ≡ blocksOf parts
   pub fewLists : length parts ≤ listLimit

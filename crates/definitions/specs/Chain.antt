@@ -2,7 +2,7 @@
 -- of its data blocks.
 use Prim.Native.Nat.{ℕ, zero, suc, _+_, _-_, _*_}
 use mathlib.Core.List.{List, [], _∷_, _++_}
-use mathlib.Core.Bool.{Bool, not, _&&_, _||_}
+use mathlib.Core.Bool.{Bool, true, false, not, _&&_, _||_}
 use lib.ListN.{length, take, drop}
 use lib.Dec.{ltb, leb, eqb}
 use Rattle.definitions.specs.Reply.{Reply, Outcome, answer, refusal, if_then_else_, andThen}
@@ -71,13 +71,17 @@ blockAt id f a =
 
 -- ---- a fragment
 
+-- whether fragment i of a list is the last of its chain: no list follows, and no fragment of this one
+abbrev pub isLast : DataList → ℕ → Bool
+isLast d i = eqb (d .next) 0 && leb (d .links) (i + 1)
+
 -- Whether what a list declares of its fragment i is true; s is the file from the list on, and the data of all fragments
--- before this one is p bytes. One length holds for all fragments of a list and bounds the last of them; it is that of the
--- data without the header. An offset is p
+-- before this one is p bytes. One length holds for all fragments and bounds the last of the chain; it is that of the data
+-- without the header. An offset is p
 abbrev pub declared : List ℕ → DataList → ℕ → ℕ → ℕ → Bool
 declared s d i p size =
     if oneLength (d .flags)
-    then (if ltb (i + 1) (d .links) then eqb size (u64At s (d .restAt)) else leb size (u64At s (d .restAt)))
+    then (if isLast d i then leb size (u64At s (d .restAt)) else eqb size (u64At s (d .restAt)))
     else eqb (u64At s (d .restAt + i * 8)) p
 
 -- 14: more than 2^63-1 bytes with this block; 13: the list declares it falsely
@@ -115,16 +119,42 @@ listAt f n a = if not (hasHeader f a) then refusal 11 0 else andThen (listOf (dr
 
 -- ---- the chain
 
--- k lists at most from the one at a on, added to the blocks before them; 8: one list more would be read
-unfoldable pub lists : List ℕ → List ℕ → ℕ → ℕ → List Block → Reply (List Block)
-lists id f zero a before = refusal 8 0
-lists id f (suc k) a before =
-    andThen (listAt f (length before) a)
-    (λ d. andThen (fragments id f (drop a f) d 0 (d .links) before)
-    (λ bs. if eqb (d .next) 0 then answer bs else lists id f k (d .next) bs))
+-- what a list declares for its whole chain: by flag bit 0 the one length and the count of its fragments, or only that there
+-- are offsets
+pub data Declaration : Type 0 where
+  byLength : ℕ → ℕ → Declaration
+  byOffsets : Declaration
 
+-- the declaration of the list d, the first of the bytes s
+abbrev pub declarationOf : List ℕ → DataList → Declaration
+declarationOf s d = if oneLength (d .flags) then byLength (u64At s (d .restAt)) (d .count) else byOffsets
+
+-- Whether a list, the last or not, keeps to what the first one declares, by what it declares itself: all lists have flag bit 0
+-- or none has, and with it all declare the same length and the same count, but the last may count less
+abbrev pub keepsTo : Declaration → Bool → Declaration → Bool
+keepsTo (byLength n c) last (byLength m k) = eqb m n && (if last then leb k c else eqb k c)
+keepsTo (byLength n c) last byOffsets = false
+keepsTo byOffsets last (byLength m k) = false
+keepsTo byOffsets last byOffsets = true
+
+-- a list of a chain whose first list declares so; 13: it does not keep to that. The last list has a next link of 0
+unfoldable pub chainedAt : Declaration → List ℕ → ℕ → ℕ → Reply DataList
+chainedAt first f n a =
+    andThen (listAt f n a)
+    (λ d. if not (keepsTo first (eqb (d .next) 0) (declarationOf (drop a f) d)) then refusal 13 0 else answer d)
+
+-- k lists at most from the one at a on, added to the blocks before them; 8: one list more would be read
+unfoldable pub lists : List ℕ → List ℕ → Declaration → ℕ → ℕ → List Block → Reply (List Block)
+lists id f first zero a before = refusal 8 0
+lists id f first (suc k) a before =
+    andThen (chainedAt first f (length before) a)
+    (λ d. andThen (fragments id f (drop a f) d 0 (d .links) before)
+    (λ bs. if eqb (d .next) 0 then answer bs else lists id f first k (d .next) bs))
+
+-- the first list declares, and all lists in turn keep to it, the first among them
 unfoldable pub chainOf : List ℕ → List ℕ → ℕ → Reply (List Block)
-chainOf id f start = lists id f listLimit start []
+chainOf id f start =
+    andThen (listAt f 0 start) (λ d. lists id f (declarationOf (drop start f) d) listLimit start [])
 
 -- the length of the joined data
 unfoldable pub totalOf : List ℕ → List ℕ → ℕ → Reply ℕ

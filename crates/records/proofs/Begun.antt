@@ -9,7 +9,7 @@ use lib.Seq.{take-append-le, drop-append-le}
 use lib.Dec.{eqb}
 use Rattle.definitions.specs.Reply.{answer, if_then_else_, andThen}
 use Rattle.definitions.specs.DataList.{DataList}
-use Rattle.definitions.specs.Chain.{Block, listLimit, joined, fragmentOf, fragments, listAt, lists, chainOf}
+use Rattle.definitions.specs.Chain.{Block, listLimit, joined, fragmentOf, fragments, listAt, Declaration, chainedAt, lists, chainOf}
 use Rattle.chain.specs.Walk.{ended, fragmentsLeft, listsBehind, chainFrom}
 use Rattle.chain.specs.declared.place.Place.{Place}
 use Rattle.records.specs.Window.{laid}
@@ -24,7 +24,7 @@ Begins before all = (rest : List Block) × (all ≡ before ++ rest)
 longer : (before new all : List Block) → Begins (before ++ new) all → Begins before all
 longer before new all h = (new ++ h .0, h .1 ∙ append-assoc before new (h .0))
 
-module _ (id f : List ℕ) where
+module _ (id f : List ℕ) (first : Declaration) where
   fragments-begin : (s : List ℕ) (d : DataList) (i n : ℕ) (before all : List Block) → fragments id f s d i n before ≡ answer all → Begins before all
   unfolding fragments
   fragments-begin s d i zero before all e = ([], sym (answered e) ∙ sym (append-nil before))
@@ -36,16 +36,16 @@ module _ (id f : List ℕ) where
   joint before bs all h g = (h .0 ++ g .0, g .1 ∙ ap (λ (xs : List Block). xs ++ g .0) (h .1) ∙ append-assoc before (h .0) (g .0))
 
   -- behind the fragments of a list
-  on-begin : (k a : ℕ) (t : Bool) (bs all : List Block) → (lists id f k a bs ≡ answer all → Begins bs all)
-      → (if t then answer bs else lists id f k a bs) ≡ answer all → Begins bs all
+  on-begin : (k a : ℕ) (t : Bool) (bs all : List Block) → (lists id f first k a bs ≡ answer all → Begins bs all)
+      → (if t then answer bs else lists id f first k a bs) ≡ answer all → Begins bs all
   on-begin k a true bs all go h = ([], sym (answered h) ∙ sym (append-nil bs))
   on-begin k a false bs all go h = go h
 
-  lists-begin : (k a : ℕ) (before all : List Block) → lists id f k a before ≡ answer all → Begins before all
+  lists-begin : (k a : ℕ) (before all : List Block) → lists id f first k a before ≡ answer all → Begins before all
   unfolding lists
   lists-begin zero a before all e = not-answered all 8 0 e
   lists-begin (suc k) a before all e =
-      let l = followed (listAt f (length before) a) _ all e in
+      let l = followed (chainedAt first f (length before) a) _ all e in
       let d : DataList = l .0 in
       let g = followed (fragments id f (drop a f) d 0 (d .links) before) _ all (l .2) in
       joint before (g .0) all (fragments-begin (drop a f) d 0 (d .links) before (g .0) (g .1))
@@ -60,10 +60,10 @@ module _ (id f : List ℕ) where
       let l = followed (listAt f (p .fragments) (p .list .address .0)) _ all e in
       fragments-begin (drop (p .list .address .0) f) (l .0) (p .index) (l .0 .links - p .index) before all (l .2)
 
-  from-begin : (p : Place) (before all : List Block) → chainFrom id f p before ≡ answer all → Begins before all
+  from-begin : (p : Place) (before all : List Block) → chainFrom id f first p before ≡ answer all → Begins before all
   unfolding fragmentsLeft listsBehind
   from-begin p before all e =
-      let g = followed (fragmentsLeft id f p before) (listsBehind id f p) all e in
+      let g = followed (fragmentsLeft id f p before) (listsBehind id f first p) all e in
       joint before (g .0) all (list-begin p (eqb (p .lists) 0) before (g .0) (g .1))
       (on-begin (listLimit - p .lists) (p .list .next .0) (ended p) (g .0) all (lists-begin (listLimit - p .lists) (p .list .next .0) (g .0) all) (g .2))
 
@@ -83,8 +83,8 @@ laid-front d from xs ys h =
     ∙ sym (laid-whole d from xs h)
 
 pub lay-full : (d : List ℕ) (from : ℕ) (id f : List ℕ) (start : ℕ) (p : Place) (bs all : List Block) (out : List ℕ)
-    → chainOf id f start ≡ answer all → chainOf id f start ≡ chainFrom id f p bs
+    → chainOf id f start ≡ answer all → (first : Declaration) → chainOf id f start ≡ chainFrom id f first p bs
     → from + length d ≤ length (joined f bs) → out ≡ laid d from 0 (joined f bs) → out ≡ laid d from 0 (joined f all)
-lay-full d from id f start p bs all out e r full so =
-    let g = from-begin id f p bs all (sym r ∙ e) in
+lay-full d from id f start p bs all out e first r full so =
+    let g = from-begin id f first p bs all (sym r ∙ e) in
     so ∙ sym (ap (λ (xs : List Block). laid d from 0 (joined f xs)) (g .1) ∙ ap (laid d from 0) (joined-append f bs (g .0)) ∙ laid-front d from (joined f bs) (joined f (g .0)) full)

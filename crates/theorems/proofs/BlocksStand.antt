@@ -1,17 +1,18 @@
 -- A block is taken at an address exactly where it stands there, a fragment exactly where its list tells the truth of it, and a
 -- list exactly where it stands and agrees.
 use mathlib.Core.Path.{_≡_, refl, sym, ap, _∙_}
-use mathlib.Core.Bool.{Bool, true, false, not}
+use mathlib.Core.Bool.{Bool, true, false, not, _&&_}
+use mathlib.Core.Logic.{_⊎_, inl, inr}
 use mathlib.Core.List.{List}
 use Prim.Native.Nat.{ℕ, _+_, _-_, _*_, _≤_, _<_}
 use native.Mathlib.Omega.{arith}
 use lib.ListN.{length, drop}
 use lib.Dec.{ltb, leb, eqb}
-use borrow.Author.Tests.{leb-true, ltb-true, ltb-false, eqb-true, eqb-false, not-false, le-leb, le-ltb, eq-eqb, ne-eqb}
+use borrow.Author.Tests.{leb-true, leb-false, ltb-false, eqb-true, eqb-false, not-false, le-leb, le-ltb, eq-eqb, ne-eqb}
 use Rattle.definitions.specs.Reply.{answer, if_then_else_}
 use Rattle.definitions.specs.Bytes.{u64At, bit}
 use Rattle.definitions.specs.DataList.{DataList, oneLength, listOf}
-use Rattle.definitions.specs.Chain.{Block, fragmentLimit, dataLimit, hasHeader, blockAt, judged, declared, fragmentOf, agrees, admitted, listAt}
+use Rattle.definitions.specs.Chain.{Block, fragmentLimit, dataLimit, hasHeader, blockAt, isLast, judged, declared, fragmentOf, agrees, admitted, listAt}
 use Rattle.definitions.specs.Accepted.{BlockStands, Truthful}
 use Rattle.definitions.proofs.Replies.{both}
 use Rattle.chain.proofs.Addresses.{header-there}
@@ -23,46 +24,58 @@ has-header f a h l =
     let z : a ≡ 0 → ⊥ = λ e. omega arith in
     rw (ne-eqb _ _ z, le-leb _ _ l)
 
-unset : (flags : ℕ) → (bit flags 0 ≡ 1 → ⊥) → bit flags 0 ≡ 0
+pub unset : (flags : ℕ) → (bit flags 0 ≡ 1 → ⊥) → bit flags 0 ≡ 0
 unset flags h = omega arith
 
--- the walk's test of a fragment, by the flag and by whether another one follows in the list, is that the list tells the truth
+-- the walk's test of a fragment, by the flag and by whether another fragment or list follows, is that the list tells the truth
 module _ (s : List ℕ) (d : DataList) (p i more n : ℕ) (here : i + 1 + more ≡ d .links) where
   abbrev Test : Bool → Bool → Bool
-  Test one inner =
-      if one then (if inner then eqb n (u64At s (d .restAt)) else leb n (u64At s (d .restAt)))
+  Test one last =
+      if one then (if last then leb n (u64At s (d .restAt)) else eqb n (u64At s (d .restAt)))
       else eqb (u64At s (d .restAt + i * 8)) p
+
+  -- nothing follows the last one
+  none-behind : {B : Type 0} → isLast d i ≡ true → (0 < more) ⊎ (0 < d .next) → B
+  none-behind h (inl m) = let no : ⊥ = omega (arith, leb-true (d .links) (i + 1) (both (eqb (d .next) 0) (leb (d .links) (i + 1)) h .1)) in absurd no
+  none-behind h (inr m) = let no : ⊥ = omega (arith, eqb-true (d .next) 0 (both (eqb (d .next) 0) (leb (d .links) (i + 1)) h .0)) in absurd no
+
+  behind-by : (t : Bool) → eqb (d .next) 0 ≡ t → (t && leb (d .links) (i + 1)) ≡ false → (0 < more) ⊎ (0 < d .next)
+  behind-by true e h = inl (omega (arith, leb-false (d .links) (i + 1) h))
+  behind-by false e h = inr (omega (arith, eqb-false (d .next) 0 e))
+
+  -- and something follows any other
+  some-behind : isLast d i ≡ false → (0 < more) ⊎ (0 < d .next)
+  some-behind h = behind-by (eqb (d .next) 0) refl h
 
   -- bit 0 is not both
   clash : {B : Type 0} → bit (d .flags) 0 ≡ 1 → bit (d .flags) 0 ≡ 0 → B
   clash one zero = let no : ⊥ = omega (arith, sym one ∙ zero) in absurd no
 
-  by-test : (one inner : Bool) → oneLength (d .flags) ≡ one → ltb (i + 1) (d .links) ≡ inner → Test one inner ≡ true → Truthful s d p i more n
-  by-test true true e k h =
+  by-test : (one last : Bool) → oneLength (d .flags) ≡ one → isLast d i ≡ last → Test one last ≡ true → Truthful s d p i more n
+  by-test true true e k h = record {
+    longest = λ o. leb-true _ _ h;
+    full = λ o m. none-behind k m;
+    offset = λ z. clash (eqb-true _ _ e) z;
+  }
+  by-test true false e k h =
       let same : n ≡ u64At s (d .restAt) = eqb-true _ _ h in
       record { longest = λ o. omega arith; full = λ o m. same; offset = λ z. clash (eqb-true _ _ e) z }
-  by-test true false e k h =
-      let last : d .links ≤ i + 1 = ltb-false _ _ k in record {
-        longest = λ o. leb-true _ _ h;
-        full = λ o m. let no : ⊥ = omega arith in absurd no;
-        offset = λ z. clash (eqb-true _ _ e) z;
-      }
-  by-test false inner e k h = record {
+  by-test false last e k h = record {
     longest = λ o. absurd (eqb-false _ _ e o);
     full = λ o m. absurd (eqb-false _ _ e o);
     offset = λ z. eqb-true _ _ h;
   }
 
   test-true : declared s d i p n ≡ true → Truthful s d p i more n
-  test-true h = by-test (oneLength (d .flags)) (ltb (i + 1) (d .links)) refl refl h
+  test-true h = by-test (oneLength (d .flags)) (isLast d i) refl refl h
 
   true-tested : Truthful s d p i more n → declared s d i p n ≡ true
-  true-tested t = go (oneLength (d .flags)) (ltb (i + 1) (d .links)) refl refl
+  true-tested t = go (oneLength (d .flags)) (isLast d i) refl refl
     where
-      go : (one inner : Bool) → oneLength (d .flags) ≡ one → ltb (i + 1) (d .links) ≡ inner → Test one inner ≡ true
-      go true true e k = let l : i + 1 < d .links = ltb-true _ _ k in eq-eqb _ _ (t .full (eqb-true _ _ e) (omega arith))
-      go true false e k = le-leb _ _ (t .longest (eqb-true _ _ e))
-      go false inner e k = eq-eqb _ _ (t .offset (unset (d .flags) (eqb-false _ _ e)))
+      go : (one last : Bool) → oneLength (d .flags) ≡ one → isLast d i ≡ last → Test one last ≡ true
+      go true true e k = le-leb _ _ (t .longest (eqb-true _ _ e))
+      go true false e k = eq-eqb _ _ (t .full (eqb-true _ _ e) (some-behind k))
+      go false last e k = eq-eqb _ _ (t .offset (unset (d .flags) (eqb-false _ _ e)))
 
 module _ (id f : List ℕ) where
   pub block-taken : (b : Block) → BlockStands id f b → blockAt id f (b .address) ≡ answer b

@@ -10,6 +10,7 @@ pub mod ChannelAnswers
 pub mod ChannelWrittenRead
 pub mod ChannelReadWritten
 pub mod BlocksStand
+pub mod ListsAlike
 pub mod AcceptedChains
 pub mod NoSecondReply
 pub mod NoSecondReplyToC

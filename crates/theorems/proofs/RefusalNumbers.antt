@@ -16,7 +16,7 @@ use Rattle.definitions.specs.DataType.{Kind, kindOf}
 use Rattle.definitions.specs.DataList.{DataList, Lengths, idDL, listOf, linksOf, restOf, restIn, flagsAt, listBytes, listSize, flagsFor, restFor, unwritable, listWritten}
 use Rattle.definitions.specs.ChannelBlock.{ChannelBlock, idCN, fieldsAt, fieldsOf, channelBlockOf, channelBytes, channelWritten}
 use Rattle.definitions.specs.Channel.{Channel, ValidValue, startOf, spanOf, isInteger, isFloating, isNumber, valueBy, valueOf, validValueOf}
-use Rattle.definitions.specs.Chain.{Block, idDT, dataLimit, fileLimit, fragmentLimit, hasHeader, blockAt, declared, judged, fragmentOf, fragments, agrees, admitted, listAt, lists, listLimit, chainOf, totalOf, dataLength, joined, badSize, recordOf, onBlocks, fetched, valueFetched}
+use Rattle.definitions.specs.Chain.{Block, idDT, dataLimit, fileLimit, fragmentLimit, hasHeader, blockAt, declared, judged, fragmentOf, fragments, agrees, admitted, listAt, Declaration, declarationOf, keepsTo, chainedAt, lists, listLimit, chainOf, totalOf, dataLength, joined, badSize, recordOf, onBlocks, fetched, valueFetched}
 use Rattle.definitions.proofs.Replies.{not-answered, both}
 
 -- P holds of every refusal's number and of what it tells
@@ -153,17 +153,29 @@ list-at-numbered f n a =
     of-test OfBlocks (not (hasHeader f a)) 11 0 _ refl
     (of-following OfBlocks (listOf (drop a f)) (admitted n) (list-numbered (drop a f)) (admitted-numbered n))
 
-lists-numbered : (id f : List ℕ) (k a : ℕ) (before : List Block) → Numbered OfBlocks (lists id f k a before)
+chained-numbered : (first : Declaration) (f : List ℕ) (n a : ℕ) → Numbered OfBlocks (chainedAt first f n a)
+unfolding chainedAt
+chained-numbered first f n a =
+    of-following OfBlocks (listAt f n a) _ (list-at-numbered f n a)
+    (λ d. of-test OfBlocks (not (keepsTo first (eqb (d .next) 0) (declarationOf (drop a f) d))) 13 0 _ refl (of-answer OfBlocks d))
+
+lists-numbered : (id f : List ℕ) (first : Declaration) (k a : ℕ) (before : List Block) → Numbered OfBlocks (lists id f first k a before)
 unfolding lists
-lists-numbered id f zero a before = of-refusal OfBlocks 8 0 refl
-lists-numbered id f (suc k) a before =
-    of-following OfBlocks (listAt f (length before) a) _ (list-at-numbered f (length before) a)
+lists-numbered id f first zero a before = of-refusal OfBlocks 8 0 refl
+lists-numbered id f first (suc k) a before =
+    of-following OfBlocks (chainedAt first f (length before) a) _ (chained-numbered first f (length before) a)
     (λ d. of-following OfBlocks (fragments id f (drop a f) d 0 (d .links) before) _ (fragments-numbered id f (drop a f) d 0 (d .links) before)
-    (λ bs. of-either OfBlocks (eqb (d .next) 0) _ _ (of-answer OfBlocks bs) (lists-numbered id f k (d .next) bs)))
+    (λ bs. of-either OfBlocks (eqb (d .next) 0) _ _ (of-answer OfBlocks bs) (lists-numbered id f first k (d .next) bs)))
+
+chain-numbered : (id f : List ℕ) (start : ℕ) → Numbered OfBlocks (chainOf id f start)
+unfolding chainOf
+chain-numbered id f start =
+    of-following OfBlocks (listAt f 0 start) _ (list-at-numbered f 0 start)
+    (λ d. lists-numbered id f (declarationOf (drop start f) d) listLimit start [])
 
 pub total-numbered : (id f : List ℕ) (start : ℕ) → Numbered OfBlocks (totalOf id f start)
-unfolding totalOf chainOf
-total-numbered id f start = of-following OfBlocks (chainOf id f start) _ (lists-numbered id f listLimit start []) (λ bs. of-answer OfBlocks _)
+unfolding totalOf
+total-numbered id f start = of-following OfBlocks (chainOf id f start) _ (chain-numbered id f start) (λ bs. of-answer OfBlocks _)
 
 pub length-numbered : (f : List ℕ) (start : ℕ) → Numbered OfBlocks (dataLength f start)
 unfolding dataLength
@@ -181,11 +193,11 @@ module _ (f : List ℕ) (start k size : ℕ) (out : List ℕ) where
   on-blocks (refusal n t) h = of-refusal OfBlocks n t (h n t refl)
 
   pub fetched-numbered : Numbered OfBlocks (fetched f start k size out .reply)
-  unfolding fetched chainOf
+  unfolding fetched
   fetched-numbered =
       of-outcome OfBlocks (badSize size (length out)) 15 0 out _ refl
       (of-outcome OfBlocks (ltb fileLimit (length f)) 7 0 out _ refl
-      (on-blocks (chainOf idDT f start) (lists-numbered idDT f listLimit start [])))
+      (on-blocks (chainOf idDT f start) (chain-numbered idDT f start)))
 
 -- ---- a field
 

@@ -1,5 +1,5 @@
 -- The worked examples: one table of calls with what each replies, and the one claim that the definitions give just that.
-use Prim.Native.Nat.{ℕ, _+_}
+use Prim.Native.Nat.{ℕ, zero, suc, _+_, _*_}
 use mathlib.Core.Path.{_≡_}
 use mathlib.Core.List.{List, [], _∷_, _++_, map}
 use mathlib.Core.Bool.{Bool, true, false}
@@ -105,9 +105,20 @@ threeBlocks =
 abbrev pub oneBlock : List ℕ
 oneBlock = le 8 0 ++ listBytes 0 (64 ∷ []) 1 (6 ∷ []) ++ dataBlock (1 ∷ 2 ∷ 3 ∷ 4 ∷ 5 ∷ 6 ∷ [])
 
+unfoldable pub copies : ℕ → ℕ → List ℕ
+copies zero x = []
+copies (suc n) x = x ∷ copies n x
+
 -- two blocks, with one length
 abbrev pub twoBlocks : ℕ → List ℕ → List ℕ → List ℕ
 twoBlocks size a b = le 8 0 ++ listBytes 0 (72 ∷ (96 + length a) ∷ []) 1 (size ∷ []) ++ dataBlock a ++ dataBlock b
+
+-- a chain of two lists, at 8 and 64. Each has its flags, and one number that it declares; the first links the block of `a` once,
+-- and the last that of `b` n times
+abbrev pub twoLists : ℕ → ℕ → List ℕ → ℕ → ℕ → ℕ → List ℕ → List ℕ
+twoLists flags number a n lastFlags lastNumber b =
+    le 8 0 ++ listBytes 64 ((112 + n * 8) ∷ []) flags (number ∷ [])
+    ++ listBytes 0 (copies n (136 + n * 8 + length a)) lastFlags (lastNumber ∷ []) ++ dataBlock a ++ dataBlock b
 
 -- a call, and what it replies
 pub data Row : Type 0 where
@@ -227,10 +238,21 @@ table =
     ∷ fetch oneBlock 1 (record { reply = answer tt; buffer = 3 ∷ 4 ∷ [] })
     ∷ fetch threeBlocks 3 (record { reply = refusal 16 0; buffer = 255 ∷ 255 ∷ [] })
     ∷ fetch oneBlock 3 (record { reply = refusal 16 0; buffer = 255 ∷ 255 ∷ [] })
-    -- one length: the last block may be shorter, and neither it longer nor one before it shorter
+    -- one length, in one list: the last block may be shorter, and neither it longer nor one before it shorter
     ∷ fetch (twoBlocks 4 (1 ∷ 2 ∷ 3 ∷ 4 ∷ []) (5 ∷ 6 ∷ [])) 2 (record { reply = answer tt; buffer = 5 ∷ 6 ∷ [] })
     ∷ fetch (twoBlocks 2 (1 ∷ 2 ∷ []) (3 ∷ 4 ∷ 5 ∷ 6 ∷ [])) 0 (record { reply = refusal 13 0; buffer = 255 ∷ 255 ∷ [] })
     ∷ fetch (twoBlocks 4 (1 ∷ 2 ∷ []) (3 ∷ 4 ∷ 5 ∷ 6 ∷ [])) 0 (record { reply = refusal 13 0; buffer = 255 ∷ 255 ∷ [] })
+    -- in two lists: only the last block of the last list may be shorter, also where that list has none
+    ∷ fetch (twoLists 1 4 (1 ∷ 2 ∷ 3 ∷ 4 ∷ []) 1 1 4 (5 ∷ 6 ∷ [])) 2 (record { reply = answer tt; buffer = 5 ∷ 6 ∷ [] })
+    ∷ fetch (twoLists 1 4 (1 ∷ 2 ∷ []) 1 1 4 (3 ∷ 4 ∷ 5 ∷ 6 ∷ [])) 0 (record { reply = refusal 13 0; buffer = 255 ∷ 255 ∷ [] })
+    ∷ fetch (twoLists 1 4 (1 ∷ 2 ∷ 3 ∷ 4 ∷ []) 0 1 4 []) 1 (record { reply = answer tt; buffer = 3 ∷ 4 ∷ [] })
+    ∷ fetch (twoLists 1 4 (1 ∷ 2 ∷ []) 0 1 4 []) 0 (record { reply = refusal 13 0; buffer = 255 ∷ 255 ∷ [] })
+    -- a larger last count, another length, one list of each form; and offsets, with blocks of any length
+    ∷ fetch (twoLists 1 4 (1 ∷ 2 ∷ 3 ∷ 4 ∷ []) 2 1 4 (5 ∷ 6 ∷ 7 ∷ 8 ∷ [])) 0 (record { reply = refusal 13 0; buffer = 255 ∷ 255 ∷ [] })
+    ∷ fetch (twoLists 1 4 (1 ∷ 2 ∷ 3 ∷ 4 ∷ []) 1 1 2 (5 ∷ 6 ∷ [])) 0 (record { reply = refusal 13 0; buffer = 255 ∷ 255 ∷ [] })
+    ∷ fetch (twoLists 1 4 (1 ∷ 2 ∷ 3 ∷ 4 ∷ []) 1 0 4 (5 ∷ 6 ∷ [])) 0 (record { reply = refusal 13 0; buffer = 255 ∷ 255 ∷ [] })
+    ∷ fetch (twoLists 0 0 (1 ∷ 2 ∷ 3 ∷ 4 ∷ []) 1 1 2 (5 ∷ 6 ∷ [])) 0 (record { reply = refusal 13 0; buffer = 255 ∷ 255 ∷ [] })
+    ∷ fetch (twoLists 0 0 (1 ∷ 2 ∷ []) 1 0 2 (3 ∷ 4 ∷ 5 ∷ 6 ∷ [])) 2 (record { reply = answer tt; buffer = 5 ∷ 6 ∷ [] })
     ∷ []
 
 -- every row of the table is right

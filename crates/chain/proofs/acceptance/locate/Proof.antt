@@ -12,7 +12,7 @@ use Rattle.definitions.proofs.Replies.{both}
 use Rattle.chain.specs.Meaning.{blockMeant, blockReply}
 use Rattle.chain.specs.Walk.{At, fragmentAt, nextReply}
 use Rattle.chain.specs.declared.place.Place.{Place}
-use Rattle.chain.proofs.Walks.{turnsLeft, at-start, from-start, few-before, refused-here, taken-here, at-behind, refused-next, at-end, at-list, total-refused, total-whole, located-refused, located-whole}
+use Rattle.chain.proofs.Walks.{turnsLeft, at-start, from-start, refused-here, taken-here, at-behind, refused-next, at-end, at-list, total-refused, total-whole, located-refused, located-whole}
 use Rattle.chain.proofs.acceptance.locate.Statement.{statement}
 use Rattle.chain.proofs.acceptance.locate.Tie as tie
 
@@ -91,7 +91,7 @@ loop-again-2 c =
     (_, gone past .0, _, l .loop .inv .3, l .loop .inv .4)
 
 next-list-requires : tie.Need-next-list-requires Inv-loop μ-loop
-next-list-requires c κs = few-before _ _ _ _ _ (c .before .before .loop .inv .1)
+next-list-requires c κs = c .before .before .loop .inv .1 .known
 
 returns-2 : tie.Need-returns-2 Inv-loop μ-loop
 returns-2 c =

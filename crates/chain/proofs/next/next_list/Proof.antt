@@ -1,11 +1,15 @@
 use mathlib.Core.Path.{_≡_, sym, ap, _∙_}
 use mathlib.Core.Bool.{false}
+use Prim.Native.Nat.{_+_}
+use lib.Dec.{eqb}
 use borrow.Author.Needs.{needs}
+use borrow.Author.Tests.{not-true, not-false}
 use Rattle.definitions.specs.Reply.{answer}
-use Rattle.blocks.specs.Meaning.{listReply}
-use Rattle.chain.specs.Walk.{aList, ended}
+use Rattle.definitions.specs.Chain.{listAt, keepsTo}
+use Rattle.blocks.specs.Meaning.{listMeant, listReply}
+use Rattle.chain.specs.Walk.{opened, declarationIn, aList, ended}
 use Rattle.chain.specs.declared.place.Place.{Place}
-use Rattle.chain.proofs.Steps.{next-end, next-many, next-refused, next-read}
+use Rattle.chain.proofs.Steps.{lengths-within, next-end, next-many, next-refused, next-first, next-untrue, next-kept}
 use Rattle.chain.proofs.next.next_list.Statement.{statement}
 use Rattle.chain.proofs.next.next_list.Tie as tie
 
@@ -26,13 +30,58 @@ returns-3 c =
     let two = read .before .before .before .before in
     next-refused _ _ (linked (two .before .before)) (two .if2 .left) _ _ (sym (read .list-at .ensures) ∙ ap listReply (c .refusal .ensures))
 
+-- the list that was read
+listed : (c : tie.After-known-told) →
+    let a = c .before .before .before .before .before .before .before .before .before .before .before .before .before .args in
+    listAt (a .file .now) (a .place .fragments + a .place .index) (a .place .list .next .0) ≡ answer (listMeant (c .before .read .given .0 .0))
+listed c = sym (c .before .before .before .list-at .ensures) ∙ ap listReply (c .before .read .given .1)
+
+-- the first list is held to nothing
 returns-4 : tie.Need-returns-4
 returns-4 c =
-    let told = c .before in
-    let read = told .before .before .before in
-    let two = read .before .before .before .before in
-    ap (λ (q : Place). answer (aList q)) (c .enter .ensures)
-    ∙ next-read _ _ (linked (two .before .before)) (two .if2 .left) _ (sym (read .list-at .ensures) ∙ ap listReply (told .before .read .given .1))
+    let enter = c .before .before in
+    let told = enter .before in
+    let two = told .before .before .before .before .before .before .before in
+    ap (λ (q : Place). answer (aList q)) (enter .enter .ensures)
+    ∙ next-first _ _ (linked (two .before .before)) (two .if2 .left) _ (listed told) (c .if3 .taken)
+
+keeps-to-requires : tie.Need-keeps-to-requires
+keeps-to-requires c κs =
+    let three = c .before in
+    let enter = three .before .before in
+    let told = enter .before in
+    let start = told .before .before .before .before .before .before .before .before .before .before .before .before .before in
+    lengths-within _ _ (start .pre) (three .if3 .left) _ (listed told) _ (enter .enter .ensures)
+
+-- whether it keeps to the list before
+kept : (c : tie.After-keeps-to) →
+    let told = c .before .before .before .before .before in
+    let a = told .before .before .before .before .before .before .before .before .before .before .before .before .before .args in
+    let d = listMeant (told .before .read .given .0 .0) in
+    c .keeps-to .result ≡ keepsTo (declarationIn (a .file .now) (a .place .list)) (eqb (d .next) 0) (declarationIn (a .file .now) (opened (a .place .list .next) d))
+kept c =
+    let enter = c .before .before .before .before in
+    let a = enter .before .before .before .before .before .before .before .before .before .before .before .before .before .before .args in
+    c .keeps-to .ensures
+    ∙ ap (λ (q : Place). keepsTo (declarationIn (a .file .now) (a .place .list)) (eqb (q .list .next .0) 0) (declarationIn (a .file .now) (q .list))) (enter .enter .ensures)
+
+returns-5 : tie.Need-returns-5
+returns-5 c =
+    let call = c .before in
+    let three = call .before .before in
+    let told = three .before .before .before in
+    let two = told .before .before .before .before .before .before .before in
+    next-untrue _ _ (linked (two .before .before)) (two .if2 .left) _ (listed told) (three .if3 .left) _ (kept call) (not-true _ (c .if4 .taken))
+
+returns-6 : tie.Need-returns-6
+returns-6 c =
+    let call = c .before in
+    let three = call .before .before in
+    let enter = three .before .before in
+    let told = enter .before in
+    let two = told .before .before .before .before .before .before .before in
+    ap (λ (q : Place). answer (aList q)) (enter .enter .ensures)
+    ∙ next-kept _ _ (linked (two .before .before)) (two .if2 .left) _ (listed told) (three .if3 .left) _ (kept call) (not-false _ (c .if4 .left))
 
 pub next-list-spec : {M : Type 1} → statement M
 next-list-spec =
@@ -48,4 +97,7 @@ next-list-spec =
     (λ c κs. search needs)
     returns-3
     (λ c κs. search needs)
-    returns-4)
+    returns-4
+    keeps-to-requires
+    returns-5
+    returns-6)

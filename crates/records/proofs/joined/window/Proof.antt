@@ -16,7 +16,7 @@ use Rattle.records.specs.Window.{laid}
 use Rattle.chain.proofs.Answers.{answered}
 use Rattle.chain.proofs.Chains.{joined-length}
 use Rattle.records.proofs.Begun.{lay-full}
-use Rattle.chain.proofs.Walks.{turnsLeft, few-before, refused-here, taken-here, at-behind, refused-next, at-end, at-list}
+use Rattle.chain.proofs.Walks.{turnsLeft, refused-here, taken-here, at-behind, refused-next, at-end, at-list}
 use Rattle.records.proofs.Laying.{lay-start, lay-turn}
 use Rattle.records.proofs.joined.window.Statement.{statement}
 use Rattle.records.proofs.joined.window.Tie as tie
@@ -130,7 +130,7 @@ returns-2 c = λ w.
     let v = turn .0 in
     let whole = joined-length (a .file .now) (v .before) (v .at .stand .inside) in
     let reached = leb-true (a .from .0 + length now) (past .behind .result .position .0) (sym (c .before .is-behind .ensures) ∙ c .if2 .taken) in
-    lay-full (a .out .now) (a .from .0) (a .id .now) (a .file .now) (v .start) (past .behind .result) (v .before) (v .blocks) _ (v .whole) (v .at .rest)
+    lay-full (a .out .now) (a .from .0) (a .id .now) (a .file .now) (v .start) (past .behind .result) (v .before) (v .blocks) _ (v .whole) (v .at .first) (v .at .rest)
     (omega (arith, reached, whole, v .at .size, same past)) (turn .2)
     ∙ ap (λ (bs : List Block). laid (a .out .now) (a .from .0) 0 (joined (a .file .now) bs)) (turn .1)
 
@@ -141,7 +141,7 @@ loop-again : tie.Need-loop-again Inv-loop μ-loop
 loop-again c = let past = c .before .before .before in (same past, λ w. turned past w)
 
 next-list-requires : tie.Need-next-list-requires Inv-loop μ-loop
-next-list-requires c κs = few-before _ _ _ _ _ (on (c .before .before) .at)
+next-list-requires c κs = on (c .before .before) .at .known
 
 same-length-3 : tie.Need-same-length-3 Inv-loop μ-loop
 same-length-3 c = c .before .before .before .before .before .loop .inv .0

@@ -1,3 +1,5 @@
+use mathlib.Core.Path.{_∙_}
+use borrow.Author.Needs.{needs}
 use Rattle.chain.proofs.Steps.{ended-not, ended-by}
 use Rattle.chain.proofs.place.Place.has_ended.Statement.{statement}
 use Rattle.chain.proofs.place.Place.has_ended.Tie as tie
@@ -6,7 +8,9 @@ returns : tie.Need-returns
 returns c = ended-not (c .before .before .args .self) (c .if1 .taken)
 
 returns-2 : tie.Need-returns-2
-returns-2 c = let first = c .before in ended-by (first .before .before .args .self) (first .if1 .left)
+returns-2 c =
+    let first = c .before in
+    c .is-last .ensures ∙ ended-by (first .before .before .args .self) (first .if1 .left)
 
 pub has-ended-spec : {M : Type 1} → statement M
-has-ended-spec = tie.close (tie.spec returns returns-2)
+has-ended-spec = tie.close (tie.spec returns (λ c κs. search needs) returns-2)
