@@ -26,8 +26,8 @@
 
 #define MF4_VERSION_MAJOR 0
 #define MF4_VERSION_MINOR 2
-#define MF4_VERSION_PATCH 0
-#define MF4_VERSION "0.2.0"
+#define MF4_VERSION_PATCH 1
+#define MF4_VERSION "0.2.1"
 
 #ifdef __cplusplus
 extern "C" {
@@ -56,7 +56,7 @@ enum mf4_reply {
     MF4_LIST_DISAGREES = 10,     /* a list that contradicts itself: its count, or the length of its block         */
     MF4_NO_BLOCK_THERE = 11,     /* a start or a data link of 0, or an address without room for a header          */
     MF4_BAD_DATA_BLOCK = 12,     /* what a list links is no whole ##DT block: damaged, compressed or another kind */
-    MF4_UNTRUE_DECLARATION = 13, /* a list tells a length or an offset that is not so                             */
+    MF4_UNTRUE_DECLARATION = 13, /* a block is not as its list declares, or a list not as the first one does      */
     MF4_DATA_TOO_LONG = 14,      /* more joined data than 2^63-1 bytes                                            */
     MF4_BAD_RECORD_SIZE = 15,    /* a record size of 0, over 16,384, or over the record buffer's                  */
     MF4_NO_SUCH_RECORD = 16,     /* a record that the joined data does not hold whole                             */
@@ -87,7 +87,7 @@ static inline const char *mf4_reply_text(uint32_t reply)
     case MF4_LIST_DISAGREES: return "a list's count or block length disagrees with its links";
     case MF4_NO_BLOCK_THERE: return "a link leads to no block";
     case MF4_BAD_DATA_BLOCK: return "a list links something else than a whole ##DT block";
-    case MF4_UNTRUE_DECLARATION: return "a list declares a length or an offset that is untrue";
+    case MF4_UNTRUE_DECLARATION: return "a data block is not as its list declares, or a list declares otherwise than the first";
     case MF4_DATA_TOO_LONG: return "the joined data passes 2^63-1 bytes";
     case MF4_BAD_RECORD_SIZE: return "the record size is 0 or over 16384, or the buffer is too short";
     case MF4_NO_SUCH_RECORD: return "the record is not inside the data";
@@ -188,7 +188,7 @@ typedef struct mf4_list {
 /* Refuses with 2, 3, 4, 2. */
 mf4_list mf4_read_list(const uint8_t *bytes, size_t bytes_len);
 
-/* A list whose fragments all have one length, but for its last, which may be shorter. Refuses with 5, then 6. */
+/* A list whose fragments all have one length, but for the last of the chain's last list. Refuses with 5, then 6. */
 mf4_written mf4_write_list_equal(uint64_t next, const uint64_t *links, size_t links_len, uint64_t length, uint8_t *out,
                                  size_t out_len);
 
@@ -385,6 +385,10 @@ static inline size_t mf4_text_room(size_t bytes_len)
 /* A chain starts at the address `start` of the file, with a ##DL block; the data link of a ##DG block leads there. Its
  * joined data is what its ##DT blocks hold behind their headers, end to end.
  *
+ * Either all its lists carry MF4_LIST_EQUAL_LENGTH or none does. Where they do, all declare the same length and the same
+ * count, and every block has that length; the last list, whose next link is 0, may count fewer, and its last block may be
+ * shorter. Where they do not, each offset is the length of all data before its block. Anything else is refused with 13.
+ *
  * Where that link leads to a single ##DT block instead, these calls refuse with 3, and no chain is needed: mf4_read_header
  * at that address tells the id and block_len, and the data is the block after its first 24 bytes, provided that block_len
  * is at least 24 and the file has that many bytes from there on. Record k stands at k * record size of it. */
@@ -396,7 +400,8 @@ typedef struct mf4_length {
 } mf4_length;
 
 /* The length of the joined data: length / record size records, and a tail of length % record size bytes, which is no
- * record. Refuses with 7, then what the chain shows: 8, 11, 2, 3, 4, 10, 9, 12, 14, 13. */
+ * record. Refuses with 7, then what the chain shows, of each list 8, 11, 2, 3, 4, 10, 9, 13 and then of each of its blocks
+ * 11, 12, 14, 13. */
 mf4_length mf4_data_length(const uint8_t *file, size_t file_len, uint64_t start);
 
 typedef struct mf4_fetched {
