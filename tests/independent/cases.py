@@ -675,17 +675,22 @@ def data_fields(data):
 
 
 class Chain:
-    """A file with a chain, first whole, and open to damage before its bytes are made.
+    """A file with a chain, whole where its plan allows that, and open to damage before its bytes are made.
 
-    blocks: the data of each data block. plan: for each list, the numbers of the blocks that it links, and its form.
+    blocks: the data of each data block. plan: for each list, the numbers of the blocks that it links.
+    is_equal: whether the lists have one length, `length` if it is given, or offsets.
+    other_form: the number of a list that has the other form all the same.
     """
 
-    def __init__(self, rng, blocks, plan, front=None, gap=3):
+    def __init__(self, rng, blocks, plan, is_equal=False, length=None, other_form=None, front=None, gap=3):
         self.rng = rng
         self.plan = plan
-        self.joined = b"".join(blocks[number] for numbers, _ in plan for number in numbers)
+        self.forms = [is_equal != (index == other_form) for index in range(len(plan))]
+        self.joined = b"".join(blocks[number] for numbers in plan for number in numbers)
+        self.length = self.one_length(blocks) if length is None else length
         sizes = [24 + len(data) for data in blocks]
-        sizes += [40 + 8 * len(numbers) + (8 if is_equal else 8 * len(numbers)) for numbers, is_equal in plan]
+        sizes += [40 + 8 * len(numbers) + 8 * (1 if has_one_length else len(numbers))
+                  for numbers, has_one_length in zip(plan, self.forms)]
         self.places, self.end = self.lay_out(sizes, rng.choice([24, 64, 1]) if front is None else front, gap)
         self.data_places, self.list_places = self.places[:len(blocks)], self.places[len(blocks):]
         self.datas = [data_fields(data) for data in blocks]
@@ -701,24 +706,26 @@ class Chain:
             end = places[number] + sizes[number]
         return places, end
 
-    def make_lists(self, blocks):
-        lists, before = [], 0
-        for index, (numbers, is_equal) in enumerate(self.plan):
-            next_list = self.list_places[index + 1] if index + 1 < len(self.plan) else 0
-            rest = []
-            for number in numbers:
-                rest.append(before)
-                before += len(blocks[number])
-            if is_equal:
-                rest = [self.declared_length([len(blocks[number]) for number in numbers])]
-            lists.append(list_fields(next_list, [self.data_places[number] for number in numbers], int(is_equal), rest))
-        return lists
-
-    def declared_length(self, lengths):
-        """The one length of a list: the last fragment may be shorter, so a single one may be much shorter."""
+    def one_length(self, blocks):
+        """The length of every fragment; the last list's last may be shorter, so an only one may be much shorter."""
+        lengths = [len(blocks[number]) for numbers in self.plan for number in numbers]
         if not lengths:
             return self.rng.choice([0, 1, U64])
-        return lengths[0] if len(lengths) > 1 else lengths[0] + self.rng.choice([0, 0, 1, 1000])
+        may_be_short = len(lengths) == 1 and self.plan[-1]
+        return lengths[0] + (self.rng.choice([0, 0, 1, 1000]) if may_be_short else 0)
+
+    def make_lists(self, blocks):
+        lists, before = [], 0
+        for index, (numbers, has_one_length) in enumerate(zip(self.plan, self.forms)):
+            next_list = self.list_places[index + 1] if index + 1 < len(self.plan) else 0
+            offsets = []
+            for number in numbers:
+                offsets.append(before)
+                before += len(blocks[number])
+            links = [self.data_places[number] for number in numbers]
+            flags = has_one_length | self.rng.choice([0, 0, 0, 2, 0xFE])  # the other bits play no part
+            lists.append(list_fields(next_list, links, flags, [self.length] if has_one_length else offsets))
+        return lists
 
     def file(self):
         content = bytearray(self.rng.randbytes(self.end + self.tail))
@@ -731,25 +738,62 @@ class Chain:
         return bytes(content)
 
 
-def random_chain(rng, most_lists=4, most_fragments=4, most_bytes=12):
-    """Lists of both forms; empty fragments, and blocks that are listed more than once."""
+def random_counts(rng, is_equal, most_lists=4, most_fragments=4):
+    """How many fragments each list has; with one length all have as many, but for the last, which may have fewer."""
+    counts = [rng.choice([0, 1, 2, 3, rng.randint(0, most_fragments)])
+              for _ in range(rng.choice([1, 1, 2, 3, rng.randint(1, most_lists)]))]
+    return [max(counts)] * (len(counts) - 1) + counts[-1:] if is_equal else counts
+
+
+def random_chain(rng, most_bytes=12):
+    """Lists of either form; empty fragments, and blocks that are listed more than once."""
+    is_equal = rng.random() < 0.5
+    length = rng.choice([0, 1, 2, 4, rng.randint(0, most_bytes)])
     blocks, plan = [], []
-    for _ in range(rng.choice([1, 1, 2, 3, rng.randint(1, most_lists)])):
-        is_equal = rng.random() < 0.5
-        length = rng.choice([0, 1, 2, 4, rng.randint(0, most_bytes)])
+    for count in random_counts(rng, is_equal):
         numbers = []
-        for _ in range(rng.choice([0, 1, 2, 3, rng.randint(0, most_fragments)])):
-            fitting = [i for i, data in enumerate(blocks) if not is_equal or len(data) == length]
-            if fitting and rng.random() < 0.2:
-                numbers.append(rng.choice(fitting))
+        for _ in range(count):
+            if blocks and rng.random() < 0.2:
+                numbers.append(rng.randrange(len(blocks)))
             else:
                 numbers.append(len(blocks))
                 blocks.append(rng.randbytes(length if is_equal else rng.choice([0, 1, 2, 3, rng.randint(0, most_bytes)])))
-        if is_equal and len(numbers) > 1 and rng.random() < 0.4:
-            numbers[-1] = len(blocks)
-            blocks.append(rng.randbytes(rng.randint(0, length)))
-        plan.append((numbers, is_equal))
-    return Chain(rng, blocks, plan)
+        plan.append(numbers)
+    if is_equal and plan[-1] and rng.random() < 0.4:
+        plan[-1][-1] = len(blocks)
+        blocks.append(rng.randbytes(rng.randint(0, length)))
+    return Chain(rng, blocks, plan, is_equal)
+
+
+FULL = 3  # the one length of a counted chain
+
+
+def counted_chain(rng, counts, is_equal=True, lengths=None, other_form=None):
+    """Lists of so many fragments each, every fragment a block of its own and full, but for the lengths given by place."""
+    numbers = iter(range(sum(counts)))
+    plan = [list(itertools.islice(numbers, count)) for count in counts]
+    blocks = [rng.randbytes((lengths or {}).get(place, FULL)) for place in range(sum(counts))]
+    return Chain(rng, blocks, plan, is_equal, FULL, other_form)
+
+
+def random_misfit(rng):
+    """A chain that may lack what its lists should share: any counts, perhaps a list of the other form, an odd fragment."""
+    counts = random_counts(rng, is_equal=False)
+    other_form = rng.choice([None, None, rng.randrange(len(counts))])
+    odd = {rng.randint(0, sum(counts)): rng.randint(0, FULL + 1)}
+    return counted_chain(rng, counts, rng.random() < 0.7, odd, other_form)
+
+
+def with_length(chain, index, length):
+    """The chain with a list that declares another length."""
+    chain.lists[index]["rest"] = [length]
+    return chain
+
+
+def looped(chain, index=0):
+    """The chain with its last list linked back to an earlier one, or to itself."""
+    chain.lists[-1]["next"] = chain.list_places[index]
+    return chain
 
 
 def edge_addresses(rng, chain):
@@ -766,10 +810,14 @@ def edge_lengths(rng, chain, place):
     return [0, 1, 23, 24, 25, left - 1, left, left + 1, rng.randint(0, left + 9)] + wrapping
 
 
-def damage_list(rng, chain):
-    index = rng.randrange(len(chain.lists))
+LIST_DAMAGES = ["id", "links_nr", "count", "block_len", "next", "flags", "reserved", "fewer"] + 2 * ["links"] + 3 * ["rest"]
+
+
+def damage_list(rng, chain, index=None, name=None):
+    """Damages one list, any if none is given, in one way."""
+    index = rng.randrange(len(chain.lists)) if index is None else index
     fields, place = chain.lists[index], chain.list_places[index]
-    name = rng.choice(["id", "links_nr", "count", "block_len", "next", "flags", "reserved"] + 2 * ["links"] + 3 * ["rest"])
+    name = name or rng.choice(LIST_DAMAGES)
     if name == "id":
         fields["id"] = rng.choice([b"##DT", b"##dl", b"##HL", rng.randbytes(4)])
     elif name == "links_nr":
@@ -791,14 +839,17 @@ def damage_list(rng, chain):
             fields[name][at] = min(U64, rng.choice(edge_addresses(rng, chain) if name == "links" else near))
     elif name == "flags":
         fields["flags"] ^= rng.choice([1, 1, 2, 4, 0xFE, 0xFF])
+    elif name == "fewer":  # a fragment less, in which everything agrees
+        rest = fields["rest"] if fields["flags"] & 1 else fields["rest"][:-1]
+        fields.update(list_fields(fields["next"], fields["links"][:-1], fields["flags"], rest))
     else:
         fields.update(reserved0=rng.getrandbits(32), reserved1=rng.getrandbits(24))
 
 
-def damage_data(rng, chain):
+def damage_data(rng, chain, index=None):
     if not chain.datas:
         return
-    index = rng.randrange(len(chain.datas))
+    index = rng.randrange(len(chain.datas)) if index is None else index
     fields, place = chain.datas[index], chain.data_places[index]
     name = rng.choice(["id", "links_nr", "block_len", "block_len", "block_len", "reserved0"])
     if name == "id":
@@ -860,7 +911,7 @@ def chain_query(rng, file, start, joined_size, record_size=None, number=None):
 
 
 def random_chain_case(rng):
-    chain = random_chain(rng)
+    chain = random_chain(rng) if rng.random() < 0.9 else random_misfit(rng)
     for _ in range(rng.choice([0, 0, 0, 1, 1, 1, 2])):
         rng.choice([damage_list, damage_data])(rng, chain)
     file = chain.file()
@@ -869,6 +920,10 @@ def random_chain_case(rng):
     start = chain.start if rng.random() < 0.93 else rng.choice(edge_addresses(rng, chain))
     record_size = rng.choice([None] * 60 + [0, 16384, 16385, 2**32 + 1, U64])
     return chain_query(rng, file, start, len(chain.joined), record_size)
+
+
+def first_record(chain, size=1):
+    return "read_record", (chain.file(), chain.start, 0, size, bytes(size))
 
 
 def every_record(rng, chain, sizes):
@@ -887,15 +942,14 @@ def cut_boundaries(rng):
         ends = list(itertools.accumulate(lengths))
         blocks = [data[end - length:end] for end, length in zip(ends, lengths)]
         numbers = list(range(len(blocks)))
-        split = rng.randint(0, len(numbers))
-        plans = [[(numbers, False)], [(numbers[:split], False), (numbers[split:], False)],
-                 [([number], True) for number in numbers], [([], True), (numbers, False), ([], False)]]
+        split, middle, one_each = rng.randint(0, len(numbers)), (len(numbers) + 1) // 2, [[number] for number in numbers]
+        plans = [([numbers], False), ([numbers[:split], numbers[split:]], False), (one_each, False), ([[], numbers, []], False)]
         if len(set(lengths[:-1])) <= 1 and lengths[-1] <= lengths[0]:
-            plans.append([(numbers, True)])
-        for plan in plans:
-            yield from every_record(rng, Chain(rng, blocks, plan), (1, 2, 5, 12, 13))
-    for plan in ([([0, 1], True)], [([0], False), ([1, 2], False)]):
-        chain = Chain(rng, [data[:6], data[6:], b""], plan)
+            plans += [([numbers], True), ([numbers[:middle], numbers[middle:]], True), (one_each, True)]
+        for plan, is_equal in plans:
+            yield from every_record(rng, Chain(rng, blocks, plan, is_equal), (1, 2, 5, 12, 13))
+    for plan, is_equal in (([[0, 1]], True), ([[0], [1]], True), ([[0], [1, 2]], False)):
+        chain = Chain(rng, [data[:6], data[6:], b""], plan, is_equal)
         file = chain.file()
         for length in range(len(file)):
             yield "read_record", (file[:length], chain.start, 1, 4, out_buffer(rng, 4))
@@ -903,7 +957,7 @@ def cut_boundaries(rng):
 
 def query_boundaries(rng):
     """Starts, record sizes, numbers and buffers around their ends, on one sound file."""
-    chain = Chain(rng, [b"\1\2\3", b"", b"\4\5\6"], [([0, 1, 2], False)], front=64)
+    chain = Chain(rng, [b"\1\2\3", b"", b"\4\5\6"], [[0, 1, 2]], front=64)
     file = chain.file()
     for start in sorted({address for address in edge_addresses(rng, chain)} | {len(file) - 24, len(file) - 23}):
         yield "read_record", (file, start, 0, 2, bytes(2))
@@ -949,66 +1003,147 @@ def long_file_boundaries(rng):
 def loop_boundaries(rng):
     """Lists that link back: only a limit ends them, and 17 fragments pass 4,096 with the 241st reading of the list."""
     for fragments, is_equal, data in itertools.product((0, 1, 2, 15, 16, 17, 18), (True, False), (b"", b"\7")):
-        chain = Chain(rng, [data], [([0] * fragments, is_equal)])
-        chain.lists[0]["next"] = chain.start
-        yield "read_record", (chain.file(), chain.start, 0, 1, bytes(1))
-    for fragments in (1, 31, 32, 33, 40):
-        chain = Chain(rng, [b"\7", b"\x08"], [([0] * fragments, True), ([1], True)])
-        chain.lists[1]["next"] = chain.start
-        yield "read_record", (chain.file(), chain.start, 0, 1, bytes(1))
-    chain = Chain(rng, [b"\7\x08"], [([0], True), ([], True), ([0], True)])
-    chain.lists[2]["next"] = chain.list_places[1]
-    yield "read_record", (chain.file(), chain.start, 0, 1, bytes(1))
+        yield first_record(looped(Chain(rng, [data], [[0] * fragments], is_equal, len(data))))
+    for fragments in (1, 16, 17):
+        yield first_record(looped(Chain(rng, [b"\7", b"\x08"], [[0] * fragments, [1] * fragments], is_equal=True)))
+    for fragments, is_equal in itertools.product((1, 31, 32, 33, 40), (True, False)):
+        yield first_record(looped(Chain(rng, [b""], [[0] * fragments, [0]], is_equal, 0)))
+    for plan, is_equal in itertools.product(([[0], [0], [0]], [[0], [], [0]]), (True, False)):
+        yield first_record(looped(Chain(rng, [b""], plan, is_equal, 0), 1))
+    yield first_record(looped(Chain(rng, [b"\7"], [[0]], is_equal=True, length=2)))  # no list is the last, so none may be short
 
 
 def order_boundaries(rng):
     """Two faults at once: the one that comes first in the order is told."""
     for _ in range(400):
-        chain = Chain(rng, [b"\1\2\3\4", b"\5\6\7\x08", b"\x09"], [([0, 1], rng.random() < 0.5), ([2, 0], False)])
+        chain = Chain(rng, [b"\1\2\3\4", b"\5\6\7\x08", b"\x09"], [[0, 1], [0, 2]], is_equal=rng.random() < 0.5)
         for _ in range(2):
             rng.choice([damage_list, damage_list, damage_data])(rng, chain)
         yield chain_query(rng, chain.file(), chain.start, len(chain.joined), rng.choice([1, 2, 3]), rng.choice([0, 1, 5]))
 
 
-def limit_boundaries(rng):
-    """256 and 257 lists, 4,096 and 4,097 fragments, with a fault beyond the limit too."""
-    for lists, per_list in ((256, 1), (257, 1), (256, 0), (257, 0), (255, 1), (256, 16), (257, 16)):
+def list_limit_boundaries(rng):
+    """256 and 257 lists, with a fault beyond the limit too."""
+    shapes = ((256, 1), (257, 1), (256, 0), (257, 0), (255, 1), (256, 16), (257, 16))
+    for (lists, per_list), is_equal in itertools.product(shapes, (True, False)):
         blocks = [bytes([1, 2]), b"", bytes([3])]
-        plan = [([rng.randrange(3) for _ in range(per_list)], False) for _ in range(lists)]
-        chain = Chain(rng, blocks, plan, gap=0)
+        plan = [[0 if is_equal else rng.randrange(3) for _ in range(per_list)] for _ in range(lists)]
+        chain = Chain(rng, blocks, plan, is_equal, gap=0)
         file = chain.file()
         for number in (0, max(0, len(chain.joined) - 1), len(chain.joined)):
             yield "read_record", (file, chain.start, number, 1, bytes(1))
         if lists == 256:
             for bad_next in (1, 7, U64, chain.end + 100):  # the 257th list is refused before its address is looked at
                 chain.lists[255]["next"] = bad_next
-                yield "read_record", (chain.file(), chain.start, 0, 1, bytes(1))
+                yield first_record(chain)
             chain.lists[255].update(next=0, links_nr=0)
-            yield "read_record", (chain.file(), chain.start, 0, 1, bytes(1))
-    for counts in ((4096,), (4097,), (4095, 1), (4095, 2), (4096, 0), (4096, 1), (1, 4096), (2000, 2000, 96),
+            yield first_record(chain)
+        if lists == 257 and is_equal:  # a list that does not fit the first, behind the limit and as the last before it
+            for index in (256, 255):
+                yield first_record(with_length(chain, index, chain.length ^ 1))
+
+
+def fragment_limit_boundaries(rng):
+    """4,096 and 4,097 fragments, with a fault beyond the limit too."""
+    for counts in ((4096,), (4097,), (4095, 1), (4095, 2), (4096, 0), (4096, 1), (1, 4095), (1, 4096), (2000, 2000, 96),
                    (2000, 2000, 97)):
         for is_equal in (True, False):
-            blocks = [b"\1\2\3"]
-            chain = Chain(rng, blocks, [([0] * count, is_equal) for count in counts], gap=0)
+            chain = Chain(rng, [b"\1\2\3"], [[0] * count for count in counts], is_equal, gap=0)
             file = chain.file()
             last = len(chain.joined) // 2 - 1
             for number in (last, last + 1):
                 yield "read_record", (file, chain.start, number, 2, bytes(2))
         if sum(counts) > 4096:  # too many fragments comes before a fragment's faults, but behind those of earlier lists
             chain.lists[-1]["links"][0] = 0
-            yield "read_record", (chain.file(), chain.start, 0, 2, bytes(2))
+            yield first_record(chain, 2)
             chain.lists[0]["links"][0] = 0
-            yield "read_record", (chain.file(), chain.start, 0, 2, bytes(2))
+            yield first_record(chain, 2)
             if len(counts) == 1:  # a list that disagrees with itself comes before too many fragments
                 chain.lists[0]["block_len"] -= 1
-                yield "read_record", (chain.file(), chain.start, 0, 2, bytes(2))
+                yield first_record(chain, 2)
                 chain.lists[0].update(block_len=U64, count=4095)
-                yield "read_record", (chain.file(), chain.start, 0, 2, bytes(2))
+                yield first_record(chain, 2)
+
+
+def crowded_breach_boundaries(rng):
+    """A list that does not fit the first, among 4,096 fragments and more: an untrue count and too many come before it."""
+    for counts in ((4095, 1), (4095, 2), (2048, 2048), (2048, 2049), (2048, 2048, 1), (1, 4095), (1, 4096)):
+        blocks, plan = [b"\1\2\3"], [[0] * count for count in counts]
+        other_form = Chain(rng, blocks, plan, is_equal=True, other_form=1, gap=0)
+        other_length = with_length(Chain(rng, blocks, plan, is_equal=True, gap=0), 1, 4)
+        for chain in (other_form, other_length):
+            yield first_record(chain)
+            chain.lists[1]["count"] -= 1
+            yield first_record(chain)
+
+
+def limit_boundaries(rng):
+    yield from list_limit_boundaries(rng)
+    yield from fragment_limit_boundaries(rng)
+    yield from crowded_breach_boundaries(rng)
+
+
+# How many fragments each list has: as one length allows it, and as only offsets do.
+FITTING_COUNTS = ((0,), (1,), (3,), (0, 0, 0), (1, 0), (1, 1), (2, 1), (2, 2, 0), (2, 2, 1), (2, 2, 2), (1, 1, 1, 1))
+FREE_COUNTS = ((0, 2), (1, 2), (2, 1, 0), (1, 3, 2), (0, 2, 0, 1))
+
+
+def form_boundaries(rng):
+    """Whole chains of both forms, each record asked for; with one length the last fragment is full, short or empty."""
+    for counts in FITTING_COUNTS:
+        for last in (FULL, FULL - 1, 0) if counts[-1] else (FULL,):
+            yield from every_record(rng, counted_chain(rng, counts, lengths={sum(counts) - 1: last}), (1, 2))
+    for counts in FITTING_COUNTS + FREE_COUNTS:
+        lengths = {place: rng.randint(0, FULL + 1) for place in range(sum(counts))}
+        yield from every_record(rng, counted_chain(rng, counts, is_equal=False, lengths=lengths), (1, 2))
+
+
+def list_breaches(rng, counts):
+    """Chains of which one list does not fit the first, in its form, its length or its count; and the list's number."""
+    for index in range(1, len(counts)):
+        for is_equal in (True, False):
+            yield counted_chain(rng, counts, is_equal, other_form=index), index
+        places = range(sum(counts[:index]), sum(counts[:index + 1]))
+        for length in (0, FULL - 1, FULL + 1):
+            for lengths in (None, dict.fromkeys(places, length)):  # the list's own fragments are of that length too, or not
+                yield with_length(counted_chain(rng, counts, lengths=lengths), index, length), index
+        is_last = index == len(counts) - 1
+        for count in range(counts[0] + 2):
+            if count > counts[0] or (count < counts[0] and not is_last):
+                yield counted_chain(rng, (*counts[:index], count, *counts[index + 1:])), index
+
+
+def fragment_breaches(rng, counts):
+    """Chains of which one fragment passes the one length, or is short where it may not be; and its list's number."""
+    lists = [index for index, count in enumerate(counts) for _ in range(count)]
+    for place, index in enumerate(lists):
+        may_be_short = index == len(counts) - 1 and place == len(lists) - 1
+        for length in (FULL + 1,) if may_be_short else (0, FULL - 1, FULL + 1):
+            yield counted_chain(rng, counts, lengths={place: length}), index
+
+
+def breaches(rng):
+    """Chains that are whole but for one breach of what their lists should share; and the number of the list that shows it."""
+    for counts in FITTING_COUNTS:
+        yield from list_breaches(rng, counts)
+        yield from fragment_breaches(rng, counts)
+
+
+def breach_boundaries(rng):
+    """Each breach alone, and beside another fault in its list or in the one before."""
+    for fault in (None, "data", "id", "links_nr", "count", "block_len", "next", "links"):
+        for chain, index in breaches(rng):
+            at = rng.choice([index, max(0, index - 1)])
+            if fault == "data" and chain.plan[at]:
+                damage_data(rng, chain, rng.choice(chain.plan[at]))
+            elif fault in LIST_DAMAGES:
+                damage_list(rng, chain, at, fault)
+            yield first_record(chain)
 
 
 def large_record_boundaries(rng):
     for lengths in ((16384,), (16384, 16384), (10000, 10000, 10000), (16383,), (1, 16384), (16385,)):
-        chain = Chain(rng, [rng.randbytes(length) for length in lengths], [(list(range(len(lengths))), False)])
+        chain = Chain(rng, [rng.randbytes(length) for length in lengths], [list(range(len(lengths)))])
         file = chain.file()
         for number, size, room in ((0, 16384, 16384), (1, 16384, 16384), (0, 16384, 16383), (0, 16385, 16385),
                                    (0, 16383, 16390)):
@@ -1020,7 +1155,7 @@ def large_record_boundaries(rng):
 
 def record_value_boundaries(rng):
     """A record that is fetched and its field refused; ids, validity bits and fields at the record's ends."""
-    chain = Chain(rng, [b"\1\x34", b"\x12\0\2\2", b"\x34\x12\xff", b"\xff\xff"], [([0, 1], False), ([2, 3], False)])
+    chain = Chain(rng, [b"\1\x34", b"\x12\0\2\2", b"\x34\x12\xff", b"\xff\xff"], [[0, 1], [2, 3]])
     file = chain.file()
     for data_type, byte_offset, bit_count in itertools.product(TYPE_CODES, (0, 1, 2, 3, 4, 5, 6), (0, 7, 8, 16, 32, 65)):
         channel = Channel(data_type, 0, 0, byte_offset, bit_count, rng.choice([0, 1, 2, 2, 3]), rng.randint(0, 40))
@@ -1033,7 +1168,7 @@ def record_value_boundaries(rng):
 
 def record_refusal_boundaries(rng):
     """Each cause of a field's refusal in a record that is fetched, which then stays in the buffer."""
-    chain = Chain(rng, [b"\1\x34\x12", b"\0\2\x3f\x80\0\0\1"], [([0, 1], False)])
+    chain = Chain(rng, [b"\1\x34\x12", b"\0\2\x3f\x80\0\0\1"], [[0, 1]])
     file = chain.file()
     widths = (0, 1, 16, 24, 32, 33, 64, 65, U32)
     for data_type, bit_offset, bit_count in itertools.product(NUMBER_TYPES, (0, 7, 8, 255), widths):
@@ -1064,7 +1199,8 @@ BOUNDARIES = (header_boundaries, type_boundaries, list_read_boundaries, list_id_
               text_field_boundaries, validity_boundaries, number_boundaries, text_boundaries, text_helper_boundaries)
 
 CHAIN_BOUNDARIES = (cut_boundaries, query_boundaries, long_file_boundaries, loop_boundaries, order_boundaries,
-                    limit_boundaries, large_record_boundaries, record_value_boundaries, record_refusal_boundaries)
+                    limit_boundaries, form_boundaries, breach_boundaries, large_record_boundaries, record_value_boundaries,
+                    record_refusal_boundaries)
 
 RANDOM_CASES = ([random_header_case] + [random_list_case] * 2 + [random_channel_block_case] * 2 + [random_value_case] * 6
                 + [random_text_case] * 4 + [random_chain_case] * 5)

@@ -671,14 +671,41 @@ def numbers_at(block, place, count):
     return [little(block, place + 8 * i, 8) for i in range(count)]
 
 
+class ChainList(NamedTuple):
+    """A list of a chain. declared: its one length, or an offset for each link."""
+    next: int
+    links: list
+    has_one_length: bool
+    declared: list
+
+
 def chain_list_at(file, address):
-    """A list of the chain and its bytes. Its slice runs from its address to the end of the file."""
+    """The list at an address. Its slice runs from there to the end of the file."""
     refuse_if(is_no_block_address(file, address), NO_BLOCK_THERE)
     block = file[address:]
     read = list_of(block)
     fields_take = read.rest_at + 8 * read.rest
     refuse_if(read.data_block_nr != read.links or read.header.block_len < fields_take, LIST_DISAGREES)
-    return read, block
+    return ChainList(
+        next=read.next,
+        links=numbers_at(block, read.links_at, read.links),
+        has_one_length=bool(read.flags & 1),  # the other bits play no part
+        declared=numbers_at(block, read.rest_at, read.rest))
+
+
+def is_last_of_chain(chain_list):
+    return chain_list.next == 0
+
+
+def fits_first(chain_list, first):
+    """Whether a list has the form, length and count of its chain's first list; only the last list may count fewer."""
+    if chain_list.has_one_length != first.has_one_length:
+        return False
+    if not first.has_one_length:
+        return True  # each offset is held against the data, and counts are free
+    count, first_count = len(chain_list.links), len(first.links)
+    is_count_kept = count == first_count or (is_last_of_chain(chain_list) and count < first_count)
+    return chain_list.declared == first.declared and is_count_kept
 
 
 def fragment_at(file, address):
@@ -692,12 +719,13 @@ def fragment_at(file, address):
     return file[address + HEADER_SIZE:end]
 
 
-def is_declared_truly(read, declared, index, data_before, data):
+def is_declared_truly(chain_list, index, data_before, data):
     """What a list says of its fragment number `index`, against the fragment."""
-    if not read.flags & 1:
-        return declared[index] == data_before
-    is_last = index == read.links - 1
-    return len(data) == declared[0] or (is_last and len(data) < declared[0])
+    if not chain_list.has_one_length:
+        return chain_list.declared[index] == data_before
+    length = chain_list.declared[0]
+    may_be_short = is_last_of_chain(chain_list) and index == len(chain_list.links) - 1
+    return len(data) == length or (may_be_short and len(data) < length)
 
 
 def joined_data(file, start):
@@ -707,22 +735,23 @@ def joined_data(file, start):
     """
     refuse_if(len(file) > MOST_FILE_BYTES, FILE_TOO_LONG)
     joined = bytearray()
-    lists, fragments, address = 0, 0, start
+    lists, fragments, address, first = 0, 0, start, None
     while True:
         refuse_if(lists == MOST_LISTS, TOO_MANY_LISTS)
-        read, block = chain_list_at(file, address)
+        chain_list = chain_list_at(file, address)
+        first = first or chain_list
         lists += 1
-        fragments += read.links
+        fragments += len(chain_list.links)
         refuse_if(fragments > MOST_FRAGMENTS, TOO_MANY_FRAGMENTS)
-        declared = numbers_at(block, read.rest_at, read.rest)
-        for index, link in enumerate(numbers_at(block, read.links_at, read.links)):
+        refuse_if(not fits_first(chain_list, first), UNTRUE_DECLARATION)
+        for index, link in enumerate(chain_list.links):
             data = fragment_at(file, link)
             refuse_if(len(joined) + len(data) > MOST_JOINED_BYTES, DATA_TOO_LONG)
-            refuse_if(not is_declared_truly(read, declared, index, len(joined), data), UNTRUE_DECLARATION)
+            refuse_if(not is_declared_truly(chain_list, index, len(joined), data), UNTRUE_DECLARATION)
             joined += data
-        if read.next == 0:
+        if is_last_of_chain(chain_list):
             return bytes(joined)
-        address = read.next
+        address = chain_list.next
 
 
 def data_length(file, start):

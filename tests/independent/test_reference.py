@@ -188,8 +188,8 @@ def example_channels():
 def example_chain():
     data = hexed("01 02 03 04 05 06")
     rng = random.Random(1)
-    cut = cases.Chain(rng, [data[:3], b"", data[3:]], [([0, 1, 2], False)])
-    uncut = cases.Chain(rng, [data], [([0], True)])
+    cut = cases.Chain(rng, [data[:3], b"", data[3:]], [[0, 1, 2]])
+    uncut = cases.Chain(rng, [data], [[0]], is_equal=True)
     for chain in (cut, uncut):
         check("record 1", r.read_record(chain.file(), chain.start, 1, 2, b"..."), (r.Fetched(), hexed("03 04") + b"."))
         check("record 3", r.read_record(chain.file(), chain.start, 3, 2, b".."), (r.Fetched(16), b".."))
@@ -343,10 +343,22 @@ def rules_of_text_helpers():
         check(f"room of {call} {text.hex()}", getattr(r, call)(text, bytes(r.text_room(len(text))))[0].reply, 0)
 
 
+def no_fault(_chain):
+    pass
+
+
+def in_list(index, **fields):
+    return lambda chain: chain.lists[index].update(fields)
+
+
+def in_data(index, **fields):
+    return lambda chain: chain.datas[index].update(fields)
+
+
 def rules_of_chains():
     """Each refusal alone, on a file that is sound but for one fault."""
     def asked(fault, number=0, size=1, room=1, start=None, is_equal=False):
-        chain = cases.Chain(random.Random(3), [b"\1\2", b"\3\4", b"\5"], [([0, 1], is_equal), ([2], is_equal)])
+        chain = cases.Chain(random.Random(3), [b"\1\2", b"\3\4", b"\5"], [[0, 1], [2]], is_equal)
         fault(chain)
         file, asked_start = chain.file(), chain.start if start is None else start
         fetched = r.read_record(file, asked_start, number, size, bytes(room))[0]
@@ -356,15 +368,6 @@ def rules_of_chains():
         elif fetched.reply != 15:
             check("length of a refused chain", length, r.Length(*fetched))
         return tuple(fetched)
-
-    def no_fault(_chain):
-        pass
-
-    def in_list(index, **fields):
-        return lambda chain: chain.lists[index].update(fields)
-
-    def in_data(index, **fields):
-        return lambda chain: chain.datas[index].update(fields)
 
     check("sound", asked(no_fault), (0, 0))
     check("record size 0", asked(no_fault, size=0), (15, 0))
@@ -385,15 +388,122 @@ def rules_of_chains():
     check("data length 23", asked(in_data(0, block_len=23)), (12, 0))
     check("data past the file", asked(in_data(0, block_len=2**64 - 1)), (12, 0))
     check("offset", asked(in_list(1, rest=[5])), (13, 0))
+    check("sound with one length", asked(no_fault, is_equal=True), (0, 0))
     check("one length", asked(in_list(0, rest=[3]), is_equal=True), (13, 0))
-    check("last longer than the one length", asked(in_list(1, rest=[0]), is_equal=True), (13, 0))
-    check("last shorter than the one length", asked(in_list(1, rest=[2**64 - 1]), is_equal=True), (0, 0))
+    check("another length", asked(in_list(1, rest=[1]), is_equal=True), (13, 0))
     check("past the data", asked(no_fault, number=5), (16, 0))
     check("number that would wrap", asked(no_fault, number=2**63, size=2, room=2), (16, 0))
+
+
+def rules_of_long_files():
     check("long file", r.read_record(protocol.LongFile(2**40 + 1), 0, 0, 1, bytes(1))[0], r.Fetched(7))
     check("longest file", r.read_record(protocol.LongFile(2**40), 0, 0, 1, bytes(1))[0], r.Fetched(11))
     check("length of a long file", r.data_length(protocol.LongFile(2**40 + 1), 0), r.Length(7))
     check("length of the longest file", r.data_length(protocol.LongFile(2**40), 0), r.Length(11))
+
+
+def reply_to(counts, fault=no_fault, **how):
+    """The length of a chain whose lists have so many fragments, each of 3 bytes but for the lengths given by place."""
+    chain = cases.counted_chain(random.Random(13), counts, **how)
+    fault(chain)
+    return r.data_length(chain.file(), chain.start)
+
+
+def rules_of_whole_forms():
+    """What the lists of a chain may have in common, and what they need not."""
+    for counts, length in (((2, 2, 1), 15), ((2, 2, 2), 18), ((2, 2, 0), 12), ((1, 1), 6), ((3,), 9), ((0, 0), 0), ((0,), 0)):
+        check(f"one length, {counts}", reply_to(counts), r.Length(length=length))
+    for counts, lengths, length in (((3,), {2: 1}, 7), ((1,), {0: 0}, 0), ((2, 2), {3: 2}, 11), ((2, 2, 1), {4: 0}, 12)):
+        check(f"a short last fragment, {counts}", reply_to(counts, lengths=lengths), r.Length(length=length))
+    for counts, length in (((2, 1, 0), 9), ((1, 2), 9), ((0, 1), 3), ((0, 2, 1), 9), ((2, 2, 3), 21)):
+        check(f"offsets, {counts}", reply_to(counts, is_equal=False), r.Length(length=length))
+    check("offsets, any lengths", reply_to((2, 2), is_equal=False, lengths={0: 0, 1: 5, 3: 1}), r.Length(length=9))
+    for flags in (3, 0xFF):
+        check(f"one length, flags {flags}", reply_to((1, 1), in_list(1, flags=flags)), r.Length(length=6))
+    for flags in (2, 0xFE):
+        check(f"offsets, flags {flags}", reply_to((1, 1), in_list(1, flags=flags), is_equal=False), r.Length(length=6))
+
+
+def rules_of_untrue_lists():
+    """A list that does not fit the first is refused behind the fragments of the lists before it, and before its own."""
+    for counts in ((2, 1, 0), (1, 2), (2, 2, 3), (2, 1, 2), (2, 3, 2), (1, 0, 1), (0, 1), (0, 0, 1), (0, 1, 0)):
+        check(f"counts {counts}", reply_to(counts), r.Length(13))
+    for is_equal in (True, False):
+        for index in (0, 1, 2):
+            check(f"another form in list {index}", reply_to((2, 2, 2), is_equal=is_equal, other_form=index), r.Length(13))
+        check("another form without fragments", reply_to((2, 0), is_equal=is_equal, other_form=1), r.Length(13))
+        check("another form and a link of 0", reply_to((2, 1), in_list(1, links=[0]), is_equal=is_equal, other_form=1),
+              r.Length(13))
+    for length in (0, 2, 4, 2**64 - 1):
+        for counts, index in (((2, 2, 2), 1), ((2, 2, 2), 2), ((2, 2, 1), 2), ((2, 2, 0), 2), ((0, 0), 1)):
+            check(f"length {length} in list {index} of {counts}", reply_to(counts, in_list(index, rest=[length])), r.Length(13))
+    for counts in ((2, 2), (2, 2, 2), (2, 1)):
+        check(f"a length of 2 that list 1 of {counts} keeps",
+              reply_to(counts, in_list(1, rest=[2]), lengths={2: 2, 3: 2}), r.Length(13))
+    check("counts 2, 1 and no list behind", reply_to((2, 1, 0), in_list(1, next=2**64 - 1)), r.Length(13))
+    check("counts 2, 1, 0 and a bad third list", reply_to((2, 1, 0), in_list(2, id=b"##DT")), r.Length(13))
+    check("counts 2, 1, 0 and a bad fragment in list 1", reply_to((2, 1, 0), in_data(2, id=b"##DZ")), r.Length(13))
+    check("counts 2, 1, 0 and a bad fragment in list 0", reply_to((2, 1, 0), in_data(1, id=b"##DZ")), r.Length(12))
+    check("another length and a link of 0", reply_to((2, 1), in_list(1, rest=[4], links=[0])), r.Length(13))
+    check("counts 1, 2 and an untrue count", reply_to((1, 2), in_list(1, count=1)), r.Length(10))
+    check("another length and an untrue count", reply_to((2, 2), in_list(1, rest=[4], count=3)), r.Length(10))
+    check("another length and a short block", reply_to((2, 2), in_list(1, rest=[4], block_len=63)), r.Length(10))
+    check("another length, 4,096 fragments", reply_to((4095, 1), in_list(1, rest=[4])), r.Length(13))
+    check("another length, 4,097 fragments", reply_to((4095, 2), in_list(1, rest=[4])), r.Length(9))
+
+
+def rules_of_untrue_fragments():
+    """Only the last fragment of the last list may be short, and none may pass the one length."""
+    for counts, place in (((3,), 0), ((3,), 1), ((2, 2), 0), ((2, 2), 1), ((2, 2), 2), ((2, 2, 1), 3), ((2, 0), 1),
+                          ((1, 0), 0)):
+        for length in (0, 2):
+            check(f"fragment {place} of {counts} short", reply_to(counts, lengths={place: length}), r.Length(13))
+    for counts, place in (((3,), 0), ((3,), 2), ((1,), 0), ((2, 2), 1), ((2, 2), 3), ((2, 1), 2), ((2, 0), 1)):
+        check(f"fragment {place} of {counts} long", reply_to(counts, lengths={place: 4}), r.Length(13))
+    short = {1: 2}
+    check("a short fragment and no list behind", reply_to((2, 2), in_list(0, next=2**64 - 1), lengths=short), r.Length(13))
+    check("full fragments and no list behind", reply_to((2, 2), in_list(0, next=2**64 - 1)), r.Length(11))
+    check("a short fragment and a bad second list", reply_to((2, 2), in_list(1, id=b"##DT"), lengths=short), r.Length(13))
+    check("a short fragment with another id", reply_to((2, 2), in_data(1, id=b"##DZ"), lengths=short), r.Length(12))
+    check("a short fragment behind another id", reply_to((2, 2), in_data(0, id=b"##DZ"), lengths=short), r.Length(12))
+
+
+def rules_of_loops():
+    """A list that names itself fits itself, and is never the last."""
+    def looped(counts, index=0, **how):
+        return reply_to(counts, lambda chain: cases.looped(chain, index), **how)
+
+    check("256 lists", looped((16,)), r.Length(8))
+    check("4,096 fragments", looped((17,)), r.Length(9))
+    check("no fragments", looped((0,)), r.Length(8))
+    check("a short last fragment", looped((2,), lengths={1: 2}), r.Length(13))
+    check("offsets that are not so the second time", looped((2,), is_equal=False), r.Length(13))
+    check("offsets without data", looped((2, 1, 0), is_equal=False, lengths={0: 0, 1: 0, 2: 0}), r.Length(8))
+    check("back to the first", looped((2, 2)), r.Length(8))
+    check("back to the second", looped((2, 2), 1), r.Length(8))
+    check("fewer in the list that links back", looped((2, 1)), r.Length(13))
+
+
+def cases_of_forms():
+    """The whole chains are whole, in both forms and often of several lists, and each breach alone is seen."""
+    rng = random.Random(14)
+    seen, reached = collections.Counter(), collections.Counter()
+    for _ in range(800):
+        chain = cases.random_chain(rng)
+        check("a random chain", r.data_length(chain.file(), chain.start), r.Length(length=len(chain.joined)))
+        seen[chain.forms[0], len(chain.lists) > 1] += 1
+    check("forms and lists are seen often", len(seen) == 4 and min(seen.values()) >= 100, True)
+    for _call, (file, start, *_) in cases.form_boundaries(rng):
+        check("a whole chain", r.data_length(file, start).reply, 0)
+    for chain, _index in cases.breaches(rng):
+        check("a breach alone", r.data_length(chain.file(), chain.start), r.Length(13))
+    for boundaries in (cases.breach_boundaries, cases.crowded_breach_boundaries):
+        for _call, (file, start, *_) in boundaries(rng):
+            reached[boundaries, r.data_length(file, start).reply] += 1
+    for reply in (3, 10, 11, 12, 13):
+        check(f"{reply} beside a breach is reached often", reached[cases.breach_boundaries, reply] >= 20, True)
+    for reply in (9, 10, 13):
+        check(f"{reply} among many fragments is reached", reached[cases.crowded_breach_boundaries, reply] >= 4, True)
 
 
 # ---- vectors from outside ----------------------------------------------------------------------------------------------
@@ -536,7 +646,7 @@ def joined_equal_chains():
             places = sorted(rng.randint(0, len(data)) for _ in range(rng.randint(0, 4)))
             blocks = [data[low:high] for low, high in zip([0] + places, places + [len(data)])]
             split = rng.randint(0, len(blocks))
-            chain = cases.Chain(rng, blocks, [(list(range(split)), False), (list(range(split, len(blocks))), False)])
+            chain = cases.Chain(rng, blocks, [list(range(split)), list(range(split, len(blocks)))])
             check("record", r.read_record(chain.file(), chain.start, number, size, b"." * (size + 1)), wanted)
             check("length", r.data_length(chain.file(), chain.start), r.Length(length=len(data)))
 
@@ -569,6 +679,12 @@ def main():
     section("cases of a field's refusals", cases_of_refusals)
     section("rules of the helpers for texts", rules_of_text_helpers)
     section("rules of chains", rules_of_chains)
+    section("rules of long files", rules_of_long_files)
+    section("rules of the form of a chain", rules_of_whole_forms)
+    section("rules of lists that do not fit", rules_of_untrue_lists)
+    section("rules of fragments that do not fit", rules_of_untrue_fragments)
+    section("rules of loops", rules_of_loops)
+    section("cases of the form of a chain", cases_of_forms)
     section("IEEE 754 vectors", outside_doubles)
     section("Unicode vectors", outside_unicode)
     section("against float() and struct", python_floats)
