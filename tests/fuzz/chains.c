@@ -26,7 +26,8 @@ static mf4_length exercise_length(const log_file *log, query asked)
     check_reply(DATA_LENGTH, answer.reply, answer.told, CHAIN_REPLIES);
     MUST(answer.reply == again.reply && answer.told == again.told && answer.length == again.length);
     MUST(answer.reply == MF4_ANSWER || answer.length == 0);
-    MUST(!log->is_whole || (answer.reply == MF4_ANSWER && answer.length == log->joined_length));
+    MUST(log->state != WHOLE || (answer.reply == MF4_ANSWER && answer.length == log->joined_length));
+    MUST(log->state != BREACHED || answer.reply == MF4_UNTRUE_DECLARATION);
     MUST(is_unchanged(asked.file));
     return answer;
 }
@@ -63,7 +64,7 @@ static mf4_fetched exercise_record(const log_file *log, query asked, mf4_length 
     check_against_length(asked, length, answer);
     MUST(is_unchanged_from(buffer, answer.reply == MF4_ANSWER ? (size_t)asked.record_size : 0));
     MUST(is_unchanged(asked.file));
-    if (log->is_whole && answer.reply == MF4_ANSWER)
+    if (log->state == WHOLE && answer.reply == MF4_ANSWER)
         MUST(same_bytes(buffer.bytes, log->joined + asked.number * asked.record_size, (size_t)asked.record_size));
     again = read_record(asked, asked.file.length, buffer);
     MUST(again.reply == answer.reply && again.told == answer.told);

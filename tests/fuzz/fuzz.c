@@ -2,8 +2,9 @@
  * A fuzz target: every call of mf4.h on one input, with what must hold of each answer whatever the input is.
  *
  * The archive has no coverage instrumentation, so bytes alone would hardly ever become a chain. Two things make up for it.
- * The input is a row of choices: they say whether the file is raw bytes or a true chain of lists and blocks, which is built
- * and then damaged a little, and they give the sizes, addresses and descriptions, with the limits among the likely numbers.
+ * The input is a row of choices: they say whether the file is raw bytes or a chain of lists and blocks, which is built, true
+ * or with one breach, and then damaged a little, and they give the sizes, addresses and descriptions, with the limits among
+ * the likely numbers.
  * And each answer is counted in counters that the fuzzer reads as coverage, so that an input with a new answer is kept.
  *
  * The address checker does not see an archive that is not instrumented either: where slices stand is a choice, and two of

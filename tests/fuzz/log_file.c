@@ -1,4 +1,4 @@
-/* Files with chains: built whole by the library's own writers, and then damaged. */
+/* Files with chains: built by the library's own writers, whole or with a breach, and then damaged. */
 #include "log_file.h"
 
 #include <string.h>
@@ -26,42 +26,93 @@ static uint64_t add_data_block(log_file *file, size_t size, uint8_t seed)
     return address;
 }
 
-/* The sizes of a list's fragments; a list with one length has it throughout, but its last may be shorter. */
-static void choose_sizes(int equal, size_t *sizes, size_t count)
-{
-    size_t i;
-    for (i = 0; i < count; i++) {
-        size_t size = choose_byte() % (MOST_DATA + 1);
-        if (!equal || i == 0)
-            sizes[i] = size;
-        else
-            sizes[i] = i + 1 < count ? sizes[0] : size % (sizes[0] + 1);
-    }
-}
+/* A list to be written: with one length, or with an offset for each fragment. */
+typedef struct list_plan {
+    int equal;
+    size_t length, count, sizes[MOST_FRAGMENTS];
+} list_plan;
 
-/* Mostly few. Over 16 of them let a loop of lists pass the limit on fragments before the limit on lists. */
+/* Mostly few. Over 16 of them let a loop of lists pass the limit on fragments before the limit on lists; the most are
+ * left to a breach, which may add one. */
 static size_t choose_fragment_count(void)
 {
     uint8_t how = choose_byte();
-    return how < 0xE0 ? how % 6u : how % (MOST_FRAGMENTS + 1u);
+    return how < 0xE0 ? how % 6u : how % MOST_FRAGMENTS;
+}
+
+/* Every fragment has the length, so that the list can declare it. */
+static void fill(list_plan *plan, size_t length)
+{
+    size_t i;
+    plan->length = length;
+    for (i = 0; i < plan->count; i++)
+        plan->sizes[i] = length;
+}
+
+static void choose_plan(int equal, list_plan *plan)
+{
+    size_t i;
+    plan->equal = equal;
+    plan->count = choose_fragment_count();
+    fill(plan, choose_byte() % (MOST_DATA + 1));
+    for (i = 0; !equal && i < plan->count; i++)
+        plan->sizes[i] = choose_byte() % (MOST_DATA + 1);
+}
+
+/* The lists share one form. With one length they share it and their count too: only the last list may have fewer
+ * fragments, and only its last fragment may be short. */
+static void choose_plans(list_plan *plans, size_t lists)
+{
+    int equal = choose_byte() % 2;
+    list_plan *last = &plans[lists - 1];
+    size_t i;
+    for (i = 0; i < lists; i++)
+        if (equal && i > 0)
+            plans[i] = plans[0];
+        else
+            choose_plan(equal, &plans[i]);
+    if (equal) {
+        last->count -= choose_byte() % (last->count + 1);
+        if (last->count > 0)
+            last->sizes[last->count - 1] -= choose_byte() % (last->length + 1);
+    }
+}
+
+/* One list has another form, length or count than the first, or one before the last ends with a short fragment. By itself
+ * that list stays true, so nothing else refuses it. */
+static void breach(list_plan *plans, size_t lists)
+{
+    enum { FORM, LENGTH, COUNT, SHORT, BREACHES };
+    list_plan *first = &plans[0], *list = &plans[1 + choose_byte() % (lists - 1)], *before = list - 1;
+    int how = first->equal ? choose_byte() % BREACHES : FORM;
+    if (how == SHORT && first->count > 0 && first->length > 0) {
+        before->sizes[first->count - 1] = choose_byte() % first->length;
+    } else if (how == COUNT) {
+        int is_fewer = list + 1 < plans + lists && first->count > 0 && choose_byte() % 2;
+        list->count = is_fewer ? first->count - 1 : first->count + 1;
+        fill(list, first->length);
+    } else if (how == LENGTH) {
+        fill(list, (first->length + 1 + choose_byte() % MOST_DATA) % (MOST_DATA + 1));
+    } else {
+        list->equal = !list->equal;
+        fill(list, list->length);
+    }
 }
 
 /* The list's block stands in front of its data, so its room is kept and it is written once the addresses are known. */
-static uint64_t add_list(log_file *file, uint64_t previous_list, size_t previous_next_at)
+static uint64_t add_list(log_file *file, const list_plan *plan, uint64_t previous_list, size_t previous_next_at)
 {
-    int equal = choose_byte() % 2;
-    size_t count = choose_fragment_count(), sizes[MOST_FRAGMENTS] = { 0 }, i;
+    size_t count = plan->count, i;
     uint64_t links[MOST_FRAGMENTS] = { 0 }, offsets[MOST_FRAGMENTS] = { 0 };
-    size_t size = 24 + 8 + 8 * count + 8 + (equal ? 8 : 8 * count);
+    size_t size = 24 + 8 + 8 * count + 8 + (plan->equal ? 8 : 8 * count);
     uint64_t address = add_block(file, size);
     mf4_written written;
-    choose_sizes(equal, sizes, count);
     for (i = 0; i < count; i++) {
         offsets[i] = file->joined_length;
-        links[i] = add_data_block(file, sizes[i], choose_byte());
+        links[i] = add_data_block(file, plan->sizes[i], choose_byte());
     }
-    if (equal)
-        written = mf4_write_list_equal(0, links, count, sizes[0], file->bytes + address, size);
+    if (plan->equal)
+        written = mf4_write_list_equal(0, links, count, plan->length, file->bytes + address, size);
     else
         written = mf4_write_list_variable(0, links, count, offsets, count, file->bytes + address, size);
     MUST(written.reply == MF4_ANSWER && written.count == size);
@@ -72,15 +123,19 @@ static uint64_t add_list(log_file *file, uint64_t previous_list, size_t previous
 
 static void build_chain(log_file *file)
 {
-    size_t lists = 1 + choose_byte() % MOST_LISTS;
+    list_plan plans[MOST_LISTS];
+    size_t lists = 1 + choose_byte() % MOST_LISTS, i;
     uint64_t list = 0;
+    choose_plans(plans, lists);
+    file->state = lists > 1 && choose_byte() % 4 == 3 ? BREACHED : WHOLE;
+    if (file->state == BREACHED)
+        breach(plans, lists);
     file->length = 1 + choose_byte() % 64;
-    for (; lists > 0; lists--) {
-        list = add_list(file, list, (size_t)list + 24);
+    for (i = 0; i < lists; i++) {
+        list = add_list(file, &plans[i], list, (size_t)list + 24);
         if (file->start == 0)
             file->start = list;
     }
-    file->is_whole = 1;
 }
 
 /* A word of a block: its id, length, links, count or offsets. Links to other blocks make loops and repeats. */
@@ -104,7 +159,7 @@ static void damage(log_file *file)
     uint8_t count = choose_byte() % 4;
     for (; count > 0; count--) {
         uint8_t how = choose_byte() % 8;
-        file->is_whole = 0;
+        file->state = DAMAGED;
         if (how == 0)
             file->length -= choose_byte() % file->length;
         else if (how < 3)
@@ -134,6 +189,6 @@ void make_file(log_file *file)
     damage(file);
     if (choose_byte() % 16 == 15) {
         file->start = choose_number();
-        file->is_whole = 0;
+        file->state = DAMAGED;
     }
 }

@@ -1,4 +1,4 @@
-/* A file under construction. While it is whole, `joined` is what its data blocks hold, end to end. */
+/* A file under construction. `joined` is what its data blocks hold, end to end, as long as it is as it was built. */
 #ifndef LOG_FILE_H
 #define LOG_FILE_H
 
@@ -6,6 +6,10 @@
 
 enum { MOST_LISTS = 4, MOST_FRAGMENTS = 20, MOST_DATA = 24, MOST_BLOCKS = MOST_LISTS * (MOST_FRAGMENTS + 1) };
 enum { MOST_FILE = 8192, MOST_JOINED = MOST_LISTS * MOST_FRAGMENTS * MOST_DATA };
+
+/* A whole chain is accepted. One with a breach is true but for what its lists should share, and is refused for that alone.
+ * Of a damaged one, or of raw bytes, nothing is known. */
+enum state { DAMAGED, WHOLE, BREACHED };
 
 typedef struct log_file {
     uint8_t bytes[MOST_FILE];
@@ -15,10 +19,10 @@ typedef struct log_file {
     size_t block_count;
     uint8_t joined[MOST_JOINED];
     size_t joined_length;
-    int is_whole;
+    enum state state;
 } log_file;
 
-/* Raw bytes, or a true chain that is then damaged a little or not at all. */
+/* Raw bytes, or a chain, whole or with a breach, that is then damaged a little or not at all. */
 void make_file(log_file *file);
 
 void exercise_chain(const log_file *log, reading how);
