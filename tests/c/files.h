@@ -36,7 +36,7 @@ void make_equal_file(void);
  *   blocks at 120 and 147, end 174 */
 void make_pair_file(void);
 
-/* 01 to 06 in one block at 64 of a list with one length, which is the last's and so may be too long. */
+/* 01 to 06 in one block at 64 of a list with one length, which may be too long, since the block is the chain's last. */
 void make_uncut_file(void);
 
 /* The file lent as it stands. */

@@ -107,6 +107,7 @@ static void check_everything(void)
     check_texts();
     check_records();
     check_damages();
+    check_one_length();
     check_long_chains();
     check_long_files();
 }

@@ -48,6 +48,7 @@ void check_doubles(void);
 void check_texts(void);
 void check_records(void);
 void check_damages(void);
+void check_one_length(void);
 void check_long_chains(void);
 void check_long_files(void);
 

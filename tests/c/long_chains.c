@@ -45,14 +45,15 @@ static size_t make_wide_list(size_t count, size_t size)
     return end;
 }
 
-/* Behind the wide list's file: a list with one more link to its block, named by the wide list's next. */
-static void add_narrow_list(size_t block)
+/* Behind the wide list's file: a list with one more link to its block, named by the wide list's next. Gives its address. */
+static size_t add_narrow_list(size_t block)
 {
     size_t at = file_length();
     cut_file(at + 56);
     put(32, at, 8);
     put_block(at, "##DL", 56, 2);
     put(at + 32, block, 8), put(at + 40, MF4_LIST_EQUAL_LENGTH, 1), put(at + 44, 1, 4), put(at + 48, 2, 8);
+    return at;
 }
 
 static void check_many_fragments(void)
@@ -83,6 +84,23 @@ static void check_many_fragments_of_two_lists(void)
     CHECK(refuses(0, 2, 11));  /* the first list's fragments come before the second list's count */
 }
 
+/* 9 comes before 13 where the narrow list has a true offset, another length, or stands first and so counts fewer. */
+static void check_many_fragments_of_unlike_lists(void)
+{
+    static const struct { size_t wide; uint32_t reply; } unlike[] = { { MF4_MAX_FRAGMENTS - 1, 13 }, { MF4_MAX_FRAGMENTS, 9 } };
+    size_t i, narrow;
+    for (i = 0; i < COUNT(unlike); i++) {
+        name_row("4,096 and 4,097 fragments of lists that differ", i);
+        narrow = add_narrow_list(make_wide_list(unlike[i].wide, 2));
+        put(narrow + 40, 0, 1), put(narrow + 48, 2 * unlike[i].wide, 8);
+        CHECK(refuses(0, 2, unlike[i].reply));
+        put(narrow + 40, MF4_LIST_EQUAL_LENGTH, 1), put(narrow + 48, 3, 8);
+        CHECK(refuses(0, 2, unlike[i].reply));
+        put(narrow + 48, 2, 8), put(narrow + 24, START, 8), put(32, 0, 8);
+        CHECK(refuses_from(narrow, 0, 2, unlike[i].reply, 0));
+    }
+}
+
 static void check_loops(void)
 {
     name_case("loops of lists");
@@ -99,5 +117,6 @@ void check_long_chains(void)
     check_many_lists();
     check_many_fragments();
     check_many_fragments_of_two_lists();
+    check_many_fragments_of_unlike_lists();
     check_loops();
 }
