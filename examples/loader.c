@@ -2,7 +2,7 @@
  * Reads a pump log with the library: which channels it has, what each record says, and which pumps are due for service. All
  * of it is found in the file, by its links from the header block on; of pumps the loader knows the name of one channel and
  * the hours of a service. Then it shows three refusals: a record past the end, a field that a wrong description puts past
- * its record's end, and a copy of the log in which a list tells an untrue offset.
+ * its record's end, and a copy of the log with a short block in the middle of its chain.
  *
  *     loader FILE
  */
@@ -128,18 +128,28 @@ static int show_field_outside(mdf_file *file, const mdf_group *group)
     return 1;
 }
 
-/* Makes the last offset of a list untrue by one, in the copy. A list that tells one length has none. */
-static int show_untrue_offset(mdf_file *file, const mdf_group *group)
+/* Takes a byte from the last block of the chain's first list, in the copy. Where lists declare one length, only the very last
+ * block may be shorter: whoever finds records by that length would read all behind a short one from the wrong place. */
+static int show_short_block(mdf_file *file, const mdf_group *group)
 {
-    const mf4_list list = mf4_read_list(file->bytes + group->data, file->length - (size_t)group->data);
+    const uint8_t *start = file->bytes + group->data;
+    const mf4_list list = mf4_read_list(start, file->length - (size_t)group->data);
+    mf4_block_header header;
     mf4_length data;
-    if (list.reply != MF4_ANSWER || (list.flags & MF4_LIST_EQUAL_LENGTH) != 0 || list.rest == 0)
+    uint64_t block;
+    if (list.reply != MF4_ANSWER || (list.flags & MF4_LIST_EQUAL_LENGTH) == 0 || list.next == 0 || list.links == 0)
         return 1;
-    file->bytes[group->data + list.rest_at + 8 * (list.rest - 1)] ^= 1;
+    block = mdf_little(start + list.links_at + 8 * (list.links - 1), 8);
+    if (!mdf_read_header(file, "data block", block, &header))
+        return 0;
+    if (header.block_len <= MF4_HEADER_SIZE)
+        return 1;
+    header.block_len--;
+    mf4_write_header(header, file->bytes + block, MF4_HEADER_SIZE);
     data = mdf_data_length(file, group);
-    printf("\nthe same log with an untrue offset in the list at %" PRIu64 ":\n  refused (%" PRIu32 "): %s\n", group->data,
-           data.reply, mf4_reply_text(data.reply));
-    return data.reply == MF4_UNTRUE_DECLARATION || mdf_trouble(file, "the untrue offset should be refused");
+    printf("\nthe same log with a short block in the middle of the chain, at %" PRIu64 ":\n", block);
+    printf("  refused (%" PRIu32 "): %s\n", data.reply, mf4_reply_text(data.reply));
+    return data.reply == MF4_UNTRUE_DECLARATION || mdf_trouble(file, "the short block should be refused");
 }
 
 static int show_file(mdf_file *file)
@@ -154,7 +164,7 @@ static int show_file(mdf_file *file)
         if (group.is_chain && !chain.is_chain)
             chain = group;
     }
-    return show_field_outside(file, &group) && (!chain.is_chain || show_untrue_offset(file, &chain));
+    return show_field_outside(file, &group) && (!chain.is_chain || show_short_block(file, &chain));
 }
 
 int main(int count, char **words)

@@ -11,8 +11,9 @@
  *     byte 19       invalidation bits; bit 0 is the temperature's
  *
  * Six records and the beginning of a seventh, whose pump lost power, stand in six data blocks, which two data lists name one
- * behind the other. The cuts fall inside records, and one block is empty: a reader that took blocks for records would not
- * get far.
+ * behind the other. Both lists declare one length, 23 bytes of data, and so MDF 4.1 wants it of every block but the very
+ * last, which has the 12 bytes that are left; and the last list alone may count fewer blocks: here it has 2, and the first 4.
+ * All cuts fall inside records: a reader that took blocks for records would not get far.
  */
 #include <stdio.h>
 #include <string.h>
@@ -32,14 +33,13 @@ enum {
     TAIL = 7,
     DATA = RECORDS * RECORD_SIZE + TAIL,
     CHANNELS = 3,
-    BLOCKS = 6,
-    BLOCKS_OF_FIRST_LIST = 3,
-    BLOCKS_OF_SECOND_LIST = BLOCKS - BLOCKS_OF_FIRST_LIST
+    BLOCK_DATA = 23,
+    BLOCKS = (DATA + BLOCK_DATA - 1) / BLOCK_DATA,
+    BLOCKS_OF_FIRST_LIST = 4,
+    BLOCKS_OF_LAST_LIST = BLOCKS - BLOCKS_OF_FIRST_LIST
 };
 
 #define START_TIME UINT64_C(1772431200000000000) /* 2 March 2026, 6 o'clock UTC, in nanoseconds */
-
-static const size_t block_sizes[BLOCKS] = { 33, 0, 37, 25, 25, TAIL };
 
 /* ---- the records ------------------------------------------------------------------------------------------------ */
 
@@ -134,24 +134,24 @@ static uint64_t add_channels(new_file *file)
     return places[0];
 }
 
+/* A list with one length: its header, the link to the next list, its data links, flags and count, and the length. */
+static size_t size_of_list(size_t blocks)
+{
+    return MF4_HEADER_SIZE + 8 + 8 * blocks + 8 + 8;
+}
+
 /* The lists stand in front of the blocks, so their room is kept first and they are written last; gives the first's place. */
 static uint64_t add_data_lists(new_file *file, const uint8_t *data)
 {
-    const size_t first_size = MF4_HEADER_SIZE + 8 + 8 * BLOCKS_OF_FIRST_LIST + 8 + 8 * BLOCKS_OF_FIRST_LIST;
-    const size_t second_size = MF4_HEADER_SIZE + 8 + 8 * BLOCKS_OF_SECOND_LIST + 8 + 8 * BLOCKS_OF_SECOND_LIST;
-    const uint64_t first = keep_room(file, first_size), second = keep_room(file, second_size);
-    uint64_t links[BLOCKS], offsets[BLOCKS], offset = 0;
-    int i;
-    for (i = 0; i < BLOCKS; i++) {
-        offsets[i] = offset;
-        links[i] = add_data(file, data + offset, block_sizes[i]);
-        offset += block_sizes[i];
-    }
-    must_write(mf4_write_list_variable(second, links, BLOCKS_OF_FIRST_LIST, offsets, BLOCKS_OF_FIRST_LIST,
-                                       file->bytes + first, first_size));
-    must_write(mf4_write_list_variable(0, links + BLOCKS_OF_FIRST_LIST, BLOCKS_OF_SECOND_LIST,
-                                       offsets + BLOCKS_OF_FIRST_LIST, BLOCKS_OF_SECOND_LIST, file->bytes + second,
-                                       second_size));
+    const size_t first_size = size_of_list(BLOCKS_OF_FIRST_LIST), last_size = size_of_list(BLOCKS_OF_LAST_LIST);
+    const uint64_t first = keep_room(file, first_size), last = keep_room(file, last_size);
+    uint64_t links[BLOCKS];
+    size_t i, done = 0;
+    for (i = 0; i < BLOCKS; i++, done += BLOCK_DATA)
+        links[i] = add_data(file, data + done, DATA - done < BLOCK_DATA ? DATA - done : BLOCK_DATA);
+    must_write(mf4_write_list_equal(last, links, BLOCKS_OF_FIRST_LIST, BLOCK_DATA, file->bytes + first, first_size));
+    must_write(mf4_write_list_equal(0, links + BLOCKS_OF_FIRST_LIST, BLOCKS_OF_LAST_LIST, BLOCK_DATA, file->bytes + last,
+                                    last_size));
     return first;
 }
 

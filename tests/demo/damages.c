@@ -43,6 +43,15 @@ static void changed(uint64_t at, uint64_t value, int size, int status, const cha
     must_say(&bad, words, status, words);
 }
 
+static unsigned times_said(const char *words)
+{
+    const char *at = tried_out;
+    unsigned times = 0;
+    for (; (at = strstr(at, words)) != NULL; at++)
+        times++;
+    return times;
+}
+
 /* ---- where anything may happen, in order ------------------------------------------------------------------------ */
 
 /* Every part of the log is needed, up to its last byte. */
@@ -152,6 +161,20 @@ static void change_headers(void)
     changed(block("##DT", 1) + 8, 23, 8, 1, "refused (12)");
 }
 
+/* Lists of 4 and 2 blocks of 23 bytes: only the very last block may be shorter, and only the last list may count fewer. */
+static void change_lists(void)
+{
+    changed(block("##DT", 0) + 8, 24 + 22, 8, 1, "refused (13)");
+    changed(block("##DT", 3) + 8, 24 + 22, 8, 1, "refused (13)");
+    changed(block("##DT", 4) + 8, 24 + 22, 8, 1, "refused (13)");
+    changed(block("##DT", 5) + 8, 24 + 11, 8, 0, "126 bytes, 6 records of 20 and a tail of 6 that is none\n");
+    changed(block("##DL", 1) + 56, 24, 8, 1, "refused (13)");
+    changed(link_at("##DL", 0, 0), block("##DL", 0), 8, 1, "refused (8)");
+    changed(link_at("##DL", 1, 0), block("##DL", 0), 8, 1, "refused (13)");
+    changed(link_at("##DL", 0, 0), 0, 8, 0, "92 bytes, 4 records of 20 and a tail of 12 that is none; the file counts 6\n");
+    must_hold(times_said("short block") == 0, "one list has no short block in the middle", 0);
+}
+
 /* Fields of the channel group stand from 72 on, those of a channel from 88 on, a text from 24 on. */
 static void change_fields(void)
 {
@@ -176,15 +199,6 @@ static void change_fields(void)
     put(block("##CN", 1) + 88 + 8, 0, 4);
     must_say(&bad, "values of no bits in other blocks", 0, "elsewhere");
     must_hold(strstr(tried_out, "\n    refused (") == NULL, "values of no bits in other blocks", 0);
-}
-
-static unsigned times_said(const char *words)
-{
-    const char *at = tried_out;
-    unsigned times = 0;
-    for (; (at = strstr(at, words)) != NULL; at++)
-        times++;
-    return times;
 }
 
 /* A channel whose field is refused then: below the channel stands once why, and in each of the six records the number. */
@@ -261,6 +275,30 @@ static void add_group(void)
     must_say(&bad, "a single block without a header", 1, "are no ##DT block");
 }
 
+/* Two lists with offsets behind the log's end, over its first two blocks: such a chain has no one length to fall short of. */
+static void add_lists_with_offsets(void)
+{
+    const uint64_t first = (good.length + 7) / 8 * 8;
+    int i;
+    bad = good;
+    bad.length = first + 2 * 56;
+    put(link_at("##DG", 0, 2), first, 8);
+    put(first + 24, first + 56, 8);
+    for (i = 0; i < 2; i++) {
+        const uint64_t list = first + 56 * (uint64_t)i;
+        memcpy(bad.bytes + list, "##DL", 4);
+        put(list + 8, 56, 8);
+        put(list + 16, 2, 8);
+        put(list + 32, block("##DT", i), 8);
+        put(list + 44, 1, 4);
+        put(list + 48, 23 * (uint64_t)i, 8);
+    }
+    must_say(&bad, "lists with offsets", 0, "46 bytes, 2 records of 20 and a tail of 6 that is none; the file counts 6\n");
+    must_hold(times_said("short block") == 0, "lists with offsets", 2);
+    put(first + 56 + 48, 22, 8);
+    must_say(&bad, "an untrue offset", 1, "refused (13)");
+}
+
 int main(int count, char **words)
 {
     if (count != 3)
@@ -273,11 +311,13 @@ int main(int count, char **words)
     change_links();
     change_identification();
     change_headers();
+    change_lists();
     change_fields();
     refuse_fields();
     put_outside();
     lengthen_name();
     add_group();
+    add_lists_with_offsets();
     report("demo: the loader ended in order on %u logs: cut, or with a link, a field or a byte changed\n", tried_count);
     return 0;
 }

@@ -109,17 +109,31 @@ def check_channels(log):
         demand(not any(fields[22:]), "no attachments and no limits")
 
 
+def lists_of(log):
+    """The data lists in turn, from the data group on: of each its flags, count, length, and the data bytes of its blocks."""
+    address, lists = log.of_kind("DG")[0][2][2], []
+    while address:
+        kind, _, links, fields = log.blocks[address]
+        demand(kind == "DL" and len(lists) < len(log.of_kind("DL")), "data lists, one behind the other")
+        demand(len(fields) == 16, "the fields of a list with one length")
+        lists.append((*struct.unpack("<B3xIQ", fields), [log.blocks[link][1] - 24 for link in links[1:]]))
+        address = links[0]
+    demand(lists, "data lists")
+    return lists
+
+
 def check_data(log):
-    """The lists in turn: offsets in all of them, each true; as many whole records as are counted."""
-    place = 0
-    for _, length, links, fields in log.of_kind("DL"):
-        flags, count = struct.unpack_from("<B3xI", fields)
-        demand(flags == 0 and count == len(links) - 1 and len(fields) == 8 + 8 * count, "a list's count")
-        for link, offset in zip(links[1:], struct.unpack_from(f"<{count}Q", fields, 8)):
-            demand(offset == place, f"the offset {place}, not {offset}")
-            place += log.blocks[link][1] - 24
+    """One length and one count in all lists, though the last may count fewer; that length in all blocks, though the last list's
+    last may be shorter; as many whole records as are counted."""
+    flags, counts, lengths, sizes = zip(*lists_of(log))
+    demand(set(flags) == {1} and len(set(lengths)) == 1, f"flag 1 and one length in every list, not {flags}, {lengths}")
+    demand(list(counts) == [len(blocks) for blocks in sizes], f"a count of its blocks in every list, not {counts}")
+    demand(len(set(counts[:-1])) <= 1 and counts[-1] <= counts[0], f"one count, or a smaller one at the end, not {counts}")
+    blocks = sum(sizes, [])
+    whole = blocks[:-1] if sizes[-1] else blocks
+    demand(set(whole) <= set(lengths) and max(blocks, default=0) <= lengths[0], f"blocks as long as declared, not {sizes}")
     cycles, _, data_bytes, invalidation_bytes = struct.unpack_from("<QQII", log.of_kind("CG")[0][3], 8)
-    demand(cycles == place // (data_bytes + invalidation_bytes), f"the count of records, not {cycles}")
+    demand(cycles == sum(blocks) // (data_bytes + invalidation_bytes), f"the count of records, not {cycles}")
 
 
 def main():
