@@ -33,16 +33,17 @@ type Fetch = fn(&Chain, u64, &mut [u8]) -> u64;
 
 pub fn plans() -> Vec<Plan> {
     vec![
-        Plan::new("record through 1 fragment", 200_000, 200, |_| row(1, fetched, copied)),
-        Plan::new("record through 64 fragments", 20_000, 50, |_| row(64, fetched, copied)),
-        Plan::new("record through 4,096 fragments", 500, 10, |_| row(4_096, fetched, copied)),
-        Plan::new("value in a record through 64 fragments", 20_000, 50, |_| row(64, value_fetched, value_copied)),
+        Plan::new("record through 1 fragment", 200_000, 200, |_| row(1, 1, fetched, copied)),
+        Plan::new("record through 64 fragments", 20_000, 50, |_| row(1, 64, fetched, copied)),
+        Plan::new("record through 4,096 fragments", 500, 10, |_| row(1, 4_096, fetched, copied)),
+        Plan::new("record through 4,096 fragments of 256 lists", 500, 10, |_| row(256, 4_096, fetched, copied)),
+        Plan::new("value in a record through 64 fragments", 20_000, 50, |_| row(1, 64, value_fetched, value_copied)),
         Plan::new("length of the data of 4,096 fragments", 500, 10, |_| length_row(4_096)),
     ]
 }
 
-fn row(fragments: usize, ours: Fetch, copy: Fetch) -> Row {
-    let chain = Rc::new(chain(fragments));
+fn row(lists: usize, fragments: usize, ours: Fetch, copy: Fetch) -> Row {
+    let chain = Rc::new(chain(lists, fragments));
     let [ours, copy] = [ours, copy].map(|fetch| {
         let chain = chain.clone();
         let buffer = RefCell::new(vec![0; SIZE]);
@@ -85,7 +86,7 @@ fn value_copied(chain: &Chain, number: u64, buffer: &mut [u8]) -> u64 {
 /// The list and the headers of its blocks are read, and so many bytes are copied.
 fn length_row(fragments: usize) -> Row {
     let copy = copying_again(vec![0; list_size(fragments, 1) + fragments * HEADER_SIZE]);
-    let chain = chain(fragments);
+    let chain = chain(1, fragments);
     let ours: Pass = Box::new(move |items| digest::sum(items.map(|_| data_length(black_box(&chain)))));
     assert_eq!(ours(0..1), DATA as u64, "the length is not that of the joined data");
     Row { ours, border: None, inlined: None, copy }
@@ -95,8 +96,8 @@ fn data_length(chain: &Chain) -> u64 {
     unsafe { c::mf4_data_length(chain.file.as_ptr(), chain.file.len(), chain.start) }.length
 }
 
-/// Data blocks of one length, and then the list of them.
-fn chain(fragments: usize) -> Chain {
+/// Data blocks of one length, and then the lists of them, each of as many.
+fn chain(lists: usize, fragments: usize) -> Chain {
     let joined = Dice::new(1).bytes(DATA);
     let mut file = vec![0; 64];
     let mut links = Vec::new();
@@ -108,9 +109,13 @@ fn chain(fragments: usize) -> Chain {
         file.extend(data);
     }
     let start = file.len() as u64;
-    let mut list = vec![0; list_size(fragments, 1)];
     let length = (DATA / fragments) as u64;
-    unsafe { c::mf4_write_list_equal(0, links.as_ptr(), links.len(), length, list.as_mut_ptr(), list.len()) };
-    file.extend(list);
+    let size = list_size(fragments / lists, 1);
+    for (number, links) in (1..).zip(links.chunks(fragments / lists)) {
+        let next = if number < lists { start + (number * size) as u64 } else { 0 };
+        let mut list = vec![0; size];
+        unsafe { c::mf4_write_list_equal(next, links.as_ptr(), links.len(), length, list.as_mut_ptr(), list.len()) };
+        file.extend(list);
+    }
     Chain { file, start, joined }
 }
