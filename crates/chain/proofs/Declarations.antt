@@ -1,17 +1,17 @@
 -- What a list declares for its chain, and which lists keep to it.
 use mathlib.Core.Path.{_≡_, refl, sym, ap, ap₂, _∙_}
-use mathlib.Core.Bool.{Bool, true, false, true≢false, not, _&&_}
+use mathlib.Core.Bool.{Bool, true, false, true≢false, not}
 use mathlib.Core.List.{List, []}
-use Prim.Native.Nat.{ℕ, _+_, _%_, _≤_, _<_}
+use Prim.Native.Nat.{ℕ, _%_}
 use native.Mathlib.Nat.{div-one}
 use native.Mathlib.Omega.{arith}
-use lib.ListN.{length, drop}
+use lib.ListN.{drop}
 use lib.Dec.{leb, eqb}
 use borrow.Author.Tests.{eq-eqb, ne-eqb, le-leb, eqb-true, eqb-false, not-false}
 use Rattle.definitions.specs.Reply.{Reply, answer, refusal, if_then_else_, andThen}
 use Rattle.definitions.specs.Bytes.{u64At, bit}
 use Rattle.definitions.specs.DataList.{DataList, oneLength}
-use Rattle.definitions.specs.Chain.{Block, Declaration, byLength, byOffsets, declarationOf, keepsTo, listAt, chainedAt, lists, listLimit, chainOf}
+use Rattle.definitions.specs.Chain.{Declaration, byLength, byOffsets, declarationOf, keepsTo, listAt, chainedAt, lists, listLimit, chainOf}
 use Rattle.definitions.proofs.Replies.{both}
 use Rattle.chain.specs.Walk.{opened, declarationIn, declaredAt}
 use Rattle.chain.specs.declared.place.FileAddress.{FileAddress}
@@ -48,6 +48,13 @@ module _ (flags : ℕ) where
 
 -- ---- the ways through the test of a list l behind the list b
 
+module _ (t x y : Bool) where
+  pub chosen-first : t ≡ true → x ≡ (if t then x else y)
+  chosen-first e = rw e
+
+  pub chosen-second : t ≡ false → y ≡ (if t then x else y)
+  chosen-second e = rw e
+
 module _ (last : Bool) (m n c k : ℕ) where
   -- one of two flags x and y is set, and the other is not
   mixed : (x y : ℕ) (s t : Bool) → oneLength x ≡ s → oneLength y ≡ t → (x % 2 ≡ y % 2 → ⊥)
@@ -74,14 +81,9 @@ module _ (f : List ℕ) (b l : OpenList) (last : Bool) where
       kept-other z =
           rw (flag-set (b .flags) (omega arith), flag-set (l .flags) (omega arith), sym em, sym en, ne-eqb n m (λ e. z (sym e)))
 
-      module _ (e : m ≡ n) where
-        pub kept-last : last ≡ true → leb (l .links) (b .links) ≡ Kept
-        kept-last t =
-            rw (flag-set (b .flags) (omega arith), flag-set (l .flags) (omega arith), sym em, sym en, eq-eqb n m (sym e), t)
-
-        pub kept-full : last ≡ false → eqb (l .links) (b .links) ≡ Kept
-        kept-full t =
-            rw (flag-set (b .flags) (omega arith), flag-set (l .flags) (omega arith), sym em, sym en, eq-eqb n m (sym e), t)
+      pub kept-by-count : m ≡ n → (if last then leb (l .links) (b .links) else eqb (l .links) (b .links)) ≡ Kept
+      kept-by-count e =
+          rw (flag-set (b .flags) (omega arith), flag-set (l .flags) (omega arith), sym em, sym en, eq-eqb n m (sym e))
 
 -- ---- a list of the chain
 

@@ -9,7 +9,7 @@ use lib.Dec.{leb, ltb, eqb}
 use borrow.Author.Tests.{ne-eqb, lt-leb, le-leb, ltb-false, eqb-true, eqb-false}
 use Rattle.definitions.specs.Reply.{answer, refusal, if_then_else_}
 use Rattle.definitions.specs.Bytes.{u64At}
-use Rattle.definitions.specs.DataList.{DataList, oneLength}
+use Rattle.definitions.specs.DataList.{DataList}
 use Rattle.definitions.specs.Chain.{Block, dataLimit, blockAt, isLast, declared, judged, fragmentOf, listAt}
 use Rattle.blocks.proofs.Lists.{rest-one, rest-many}
 use Rattle.chain.specs.Walk.{Opens, LinkWithin, fragmentAt}

@@ -10,7 +10,7 @@ use borrow.Author.Tests.{eq-eqb, ne-eqb, lt-leb, le-leb, leb-true, leb-false, eq
 use Rattle.definitions.specs.Reply.{Reply, answer, refusal, if_then_else_, andThen}
 use Rattle.definitions.specs.DataList.{DataList}
 use Rattle.definitions.specs.Chain.{Block, fragmentLimit, listLimit, total, hasHeader, fragmentOf, fragments, listAt, Declaration, declarationOf, keepsTo, chainedAt, lists}
-use Rattle.chain.specs.Walk.{opened, Opens, LinkWithin, LengthWithin, declarationIn, declaredAt, ListKnown, behind, entered, fragmentAt, Onward, aList, theEnd, ended, declaredBefore, nextOf, fragmentsLeft, listsBehind, chainFrom, goOn}
+use Rattle.chain.specs.Walk.{opened, Opens, LinkWithin, LengthWithin, declarationIn, ListKnown, behind, entered, fragmentAt, Onward, aList, theEnd, ended, declaredBefore, nextOf, fragmentsLeft, listsBehind, chainFrom, goOn}
 use Rattle.chain.specs.declared.place.OpenList.{OpenList}
 use Rattle.chain.specs.declared.place.Place.{Place}
 use Rattle.chain.proofs.Answers.{passed, followed, answered}

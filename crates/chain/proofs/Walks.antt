@@ -9,7 +9,7 @@ use lib.Dec.{eqb}
 use borrow.Author.Tests.{ne-eqb, lt-ltb, le-ltb}
 use Rattle.definitions.specs.DataList.{DataList}
 use Rattle.definitions.specs.Reply.{Reply, answer, refusal, andThen}
-use Rattle.definitions.specs.Chain.{Block, fileLimit, listLimit, fragmentLimit, idDT, total, listAt, Declaration, declarationOf, keepsTo, chainOf, totalOf, dataLength}
+use Rattle.definitions.specs.Chain.{Block, fileLimit, listLimit, fragmentLimit, idDT, total, listAt, declarationOf, keepsTo, chainOf, totalOf, dataLength}
 use Rattle.refusals.specs.Meaning.{refused}
 use Rattle.refusals.specs.declared.Refusal.{Refusal}
 use Rattle.chain.specs.Located.{Locates}

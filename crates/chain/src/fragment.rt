@@ -41,11 +41,11 @@ fn is_last_fragment(place: Place) -> bool
     requires { ⌜ place .index + 1 < 18446744073709551616 ⌝ }
     ensures { λ r. ⌜ r ≡ (eqb (place .list .next .0) 0 && leb (place .list .links) (place .index + 1)) ⌝ }
 {
-    let reached = place.index + 1;
+    let ends_list = place.list.links <= place.index + 1;
     if !place.list.is_last() {
         return false;
     }
-    place.list.links <= reached
+    ends_list
 }
 
 // Whether the length or the offset that the list declares of its fragment is true. `bytes` is the file from the list on.

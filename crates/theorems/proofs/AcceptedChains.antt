@@ -1,7 +1,6 @@
 -- The walk accepts exactly the chains that `Accepted` describes, and joins their blocks' data end to end.
 use mathlib.Core.Path.{_≡_, refl, sym, ap, _∙_}
 use mathlib.Core.Bool.{Bool, true, false}
-use mathlib.Core.Logic.{_⊎_}
 use mathlib.Core.List.{List, [], _∷_, _++_, append-assoc, append-nil}
 use Prim.Native.Nat.{ℕ, zero, suc, _+_, _≤_, _<_}
 use native.Mathlib.Nat.{zero-add}
@@ -12,7 +11,7 @@ use borrow.Author.Tests.{eqb-true, eq-eqb, ne-eqb}
 use Rattle.definitions.specs.Reply.{answer, if_then_else_}
 use Rattle.definitions.specs.DataList.{DataList}
 use Rattle.definitions.specs.Chain.{Block, total, listLimit, fragmentLimit, dataLimit, fragmentOf, fragments, listAt, Declaration, declarationOf, keepsTo, chainedAt, lists, chainOf}
-use Rattle.definitions.specs.Accepted.{Each, Part, blocksOf, linkTo, Truthful, BlockListed, PartStands, DeclaresLength, DeclaresOffsets, Accepted}
+use Rattle.definitions.specs.Accepted.{Each, Part, blocksOf, linkTo, Truthful, BlockListed, PartStands, Accepted}
 use Rattle.definitions.proofs.Replies.{not-answered}
 use Rattle.chain.proofs.Answers.{followed}
 use Rattle.chain.proofs.Declarations.{chained-kept, chained-answer}

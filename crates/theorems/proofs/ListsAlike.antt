@@ -1,5 +1,5 @@
 -- Lists keep to the declaration of the first exactly where all declare one length and one count between them, or all offsets.
-use mathlib.Core.Path.{_≡_, refl, sym, ap₂, subst, _∙_}
+use mathlib.Core.Path.{_≡_, refl, sym, ap₂, subst}
 use mathlib.Core.Bool.{Bool, true, false, true≢false}
 use mathlib.Core.List.{List, [], _∷_, _++_}
 use mathlib.Core.Logic.{_⊎_, inl, inr}
@@ -10,7 +10,7 @@ use lib.Dec.{leb, eqb}
 use borrow.Author.Tests.{eq-eqb, ne-eqb, le-leb, leb-true, eqb-true, eqb-false}
 use Rattle.definitions.specs.Reply.{if_then_else_}
 use Rattle.definitions.specs.Bytes.{u64At, bit}
-use Rattle.definitions.specs.DataList.{DataList, oneLength}
+use Rattle.definitions.specs.DataList.{oneLength}
 use Rattle.definitions.specs.Chain.{Declaration, byLength, byOffsets, declarationOf, keepsTo}
 use Rattle.definitions.specs.Accepted.{Each, Part, PartStands, DeclaresLength, DeclaresOffsets}
 use Rattle.definitions.proofs.Replies.{both}

@@ -9,9 +9,7 @@ returns : tie.Need-returns
 returns c = first-fails _ _ (sym (c .before .is-last .ensures) ∙ not-true _ (c .if1 .taken))
 
 returns-2 : tie.Need-returns-2
-returns-2 c =
-    let one = c .before in
-    first-holds _ _ (sym (one .before .is-last .ensures) ∙ not-false _ (one .if1 .left))
+returns-2 c = first-holds _ _ (sym (c .before .is-last .ensures) ∙ not-false _ (c .if1 .left))
 
 pub is-last-fragment-spec : {M : Type 1} → statement M
 is-last-fragment-spec = tie.close (tie.spec (λ c. search needs) (λ c κs. search needs) returns returns-2)

@@ -1,7 +1,11 @@
-use mathlib.Core.Path.{sym, _∙_}
+use mathlib.Core.Path.{_≡_, sym, _∙_}
 use native.Mathlib.Omega.{arith}
+use lib.Dec.{leb, eqb}
 use borrow.Author.Needs.{needs}
-use Rattle.chain.proofs.Declarations.{kept-mixed, kept-offsets, kept-other, kept-last, kept-full}
+use Rattle.definitions.specs.Reply.{if_then_else_}
+use Rattle.definitions.specs.Chain.{keepsTo}
+use Rattle.chain.specs.Walk.{declarationIn}
+use Rattle.chain.proofs.Declarations.{chosen-first, chosen-second, kept-mixed, kept-offsets, kept-other, kept-by-count}
 use Rattle.chain.proofs.next.keeps_to.Statement.{statement}
 use Rattle.chain.proofs.next.keeps_to.Tie as tie
 
@@ -35,27 +39,27 @@ returns-3 c =
     let a = one .before .before .before .before .args in
     kept-other (a .file .now) (a .earlier) (a .list) _ (one .if1 .left) (two .if2 .left) _ _ (read .before .one-length-of .ensures) (read .one-length-of2 .ensures) (c .if3 .taken)
 
-returns-4 : tie.Need-returns-4
-returns-4 c =
-    let four = c .before .before in
-    let three = four .before .before in
-    let read = three .before in
+-- the lengths are the same, and the counts decide
+counted : (c : tie.Else3) →
+    let a = c .before .before .before .before .before .before .before .before .before .args in
+    (if eqb (a .list .next .0) 0 then leb (a .list .links) (a .earlier .links) else eqb (a .list .links) (a .earlier .links))
+    ≡ keepsTo (declarationIn (a .file .now) (a .earlier)) (eqb (a .list .next .0) 0) (declarationIn (a .file .now) (a .list))
+counted c =
+    let read = c .before in
     let two = read .before .before in
     let one = two .before .before in
     let a = one .before .before .before .before .args in
-    kept-last (a .file .now) (a .earlier) (a .list) _ (one .if1 .left) (two .if2 .left) _ _ (read .before .one-length-of .ensures) (read .one-length-of2 .ensures) (three .if3 .left)
-    (sym (four .before .is-last .ensures) ∙ four .if4 .taken)
+    kept-by-count (a .file .now) (a .earlier) (a .list) _ (one .if1 .left) (two .if2 .left) _ _ (read .before .one-length-of .ensures) (read .one-length-of2 .ensures) (c .if3 .left)
+
+returns-4 : tie.Need-returns-4
+returns-4 c =
+    let four = c .before .before in
+    chosen-first _ _ _ (sym (four .before .is-last .ensures) ∙ four .if4 .taken) ∙ counted (four .before .before)
 
 returns-5 : tie.Need-returns-5
 returns-5 c =
     let four = c .before .before in
-    let three = four .before .before in
-    let read = three .before in
-    let two = read .before .before in
-    let one = two .before .before in
-    let a = one .before .before .before .before .args in
-    kept-full (a .file .now) (a .earlier) (a .list) _ (one .if1 .left) (two .if2 .left) _ _ (read .before .one-length-of .ensures) (read .one-length-of2 .ensures) (three .if3 .left)
-    (sym (four .before .is-last .ensures) ∙ four .if4 .left)
+    chosen-second _ _ _ (sym (four .before .is-last .ensures) ∙ four .if4 .left) ∙ counted (four .before .before)
 
 pub keeps-to-spec : {M : Type 1} → statement M
 keeps-to-spec =
