@@ -32,6 +32,10 @@ unfolding blocksOf
 blocks-append [] qs = refl
 blocks-append (p ∷ ps) qs = rw (blocks-append ps qs) (sym (append-assoc (p .blocks) (blocksOf ps) (blocksOf qs)))
 
+pub blocks-one : (ps : List Part) (q : Part) → blocksOf (ps ++ (q ∷ [])) ≡ blocksOf ps ++ q .blocks
+unfolding blocksOf
+blocks-one ps q = blocks-append ps (q ∷ []) ∙ ap (λ (bs : List Block). blocksOf ps ++ bs) (append-nil (q .blocks))
+
 -- ---- the fragments of a list
 
 -- the list d at a, with the blocks `old` before it
@@ -93,10 +97,6 @@ module _ (id f : List ℕ) (common : Declaration) where
     pub together : all ≡ blocksOf (ps ++ qs)
     pub fewBlocks : length all ≤ fragmentLimit
     pub bounded : total all ≤ dataLimit
-
-  blocks-one : (ps : List Part) (q : Part) → blocksOf (ps ++ (q ∷ [])) ≡ blocksOf ps ++ q .blocks
-  unfolding blocksOf
-  blocks-one ps q = blocks-append ps (q ∷ []) ∙ ap (λ (bs : List Block). blocksOf ps ++ bs) (append-nil (q .blocks))
 
   parts-on : (ps : List Part) (q : Part) (qs : List Part) → ps ++ (q ∷ []) ++ qs ≡ ps ++ q ∷ qs
   parts-on ps q qs = simp append-assoc

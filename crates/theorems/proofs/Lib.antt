@@ -12,6 +12,7 @@ pub mod ChannelReadWritten
 pub mod BlocksStand
 pub mod ListsAlike
 pub mod AcceptedChains
+pub mod FoundByLength
 pub mod NoSecondReply
 pub mod NoSecondReplyToC
 pub mod TwoFiles
