@@ -54,7 +54,7 @@ abbrev pub declarationIn : List ℕ → OpenList → Declaration
 declarationIn f l =
     if oneLength (l .flags) then byLength (u64At (drop (l .address .0) f) (l .«rest_at»)) (l .links) else byOffsets
 
--- what a list at an address declares; nobody asks where none is read
+-- what the list declares that was read at an address; where it was refused, so is the chain, and this plays no part
 abbrev pub declaredAt : List ℕ → ℕ → Reply DataList → Declaration
 declaredAt f a (answer d) = declarationOf (drop a f) d
 declaredAt f a (refusal n t) = byOffsets
@@ -170,7 +170,7 @@ pub record At (id f : List ℕ) (start : ℕ) (p : Place) (before : List Block) 
   pub stand : Stand f before
   pub count : length before ≡ p .fragments + p .index
   pub size : total before ≡ p .position .0
-  -- the list read last, if another follows, declares what the first does
+  -- what the first list declares, and so the list read last, if another follows it
   pub first : Declaration
   pub alike : ended p ≡ false → declaredBefore f p ≡ first
   pub rest : chainOf id f start ≡ chainFrom id f first p before

@@ -119,8 +119,8 @@ listAt f n a = if not (hasHeader f a) then refusal 11 0 else andThen (listOf (dr
 
 -- ---- the chain
 
--- what a list declares for its whole chain: by flag bit 0 the one length and the count of its fragments, or only that there
--- are offsets
+-- what a list declares for its whole chain: with flag bit 0 the one length and the count of its fragments, and without it only
+-- that there are offsets
 pub data Declaration : Type 0 where
   byLength : ℕ → ℕ → Declaration
   byOffsets : Declaration
@@ -137,13 +137,13 @@ keepsTo (byLength n c) last byOffsets = false
 keepsTo byOffsets last (byLength m k) = false
 keepsTo byOffsets last byOffsets = true
 
--- a list of a chain whose first list declares so; 13: it does not keep to that. The last list has a next link of 0
+-- a list of a chain whose first list declares so; 13: it does not keep to that. The last list is the one with a next link of 0
 unfoldable pub chainedAt : Declaration → List ℕ → ℕ → ℕ → Reply DataList
 chainedAt first f n a =
     andThen (listAt f n a)
     (λ d. if not (keepsTo first (eqb (d .next) 0) (declarationOf (drop a f) d)) then refusal 13 0 else answer d)
 
--- k lists at most from the one at a on, added to the blocks before them; 8: one list more would be read
+-- k lists at most from the one at a on, in such a chain, added to the blocks before them; 8: one list more would be read
 unfoldable pub lists : List ℕ → List ℕ → Declaration → ℕ → ℕ → List Block → Reply (List Block)
 lists id f first zero a before = refusal 8 0
 lists id f first (suc k) a before =
