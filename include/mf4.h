@@ -385,13 +385,13 @@ static inline size_t mf4_text_room(size_t bytes_len)
 /* A chain starts at the address `start` of the file, with a ##DL block; the data link of a ##DG block leads there. Its
  * joined data is what its ##DT blocks hold behind their headers, end to end.
  *
- * Either all its lists carry MF4_LIST_EQUAL_LENGTH or none does. Where they do, all declare the same length and the same
- * count, and every block has that length; the last list, whose next link is 0, may count fewer, and its last block may be
- * shorter. Where they do not, each offset is the length of all data before its block. Anything else is refused with 13.
- *
  * Where that link leads to a single ##DT block instead, these calls refuse with 3, and no chain is needed: mf4_read_header
  * at that address tells the id and block_len, and the data is the block after its first 24 bytes, provided that block_len
- * is at least 24 and the file has that many bytes from there on. Record k stands at k * record size of it. */
+ * is at least 24 and the file has that many bytes from there on. Record k stands at k * record size of it.
+ *
+ * Either all lists of a chain carry MF4_LIST_EQUAL_LENGTH or none does. Where they do, all declare the same length and the
+ * same count, and every block has that length; the last list, whose next link is 0, may count fewer, and its last block may
+ * be shorter. Where they do not, each offset is the length of all data before its block. Anything else is refused with 13. */
 
 typedef struct mf4_length {
     uint32_t reply;

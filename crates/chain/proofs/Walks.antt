@@ -1,14 +1,14 @@
 -- What every reader's loop keeps: where it stands, the blocks so far, and that the chain gives what it gives from here on.
 use mathlib.Core.Path.{_≡_, refl, sym, ap, subst, _∙_}
+use mathlib.Core.Bool.{true, false}
 use mathlib.Core.List.{List, [], _∷_, _++_}
 use Prim.Native.Nat.{ℕ, _+_, _-_, _*_, _≤_, _<_}
 use native.Mathlib.Omega.{arith}
 use lib.ListN.{length, drop, length-append}
-use mathlib.Core.Bool.{true, false}
 use lib.Dec.{eqb}
 use borrow.Author.Tests.{ne-eqb, lt-ltb, le-ltb}
-use Rattle.definitions.specs.DataList.{DataList}
 use Rattle.definitions.specs.Reply.{Reply, answer, refusal, andThen}
+use Rattle.definitions.specs.DataList.{DataList}
 use Rattle.definitions.specs.Chain.{Block, fileLimit, listLimit, fragmentLimit, idDT, total, listAt, declarationOf, keepsTo, chainOf, totalOf, dataLength}
 use Rattle.refusals.specs.Meaning.{refused}
 use Rattle.refusals.specs.declared.Refusal.{Refusal}
