@@ -391,7 +391,7 @@ static inline size_t mf4_text_room(size_t bytes_len)
  *
  * Either all lists of a chain carry MF4_LIST_EQUAL_LENGTH or none does. Where they do, all declare the same length and the
  * same count, and every block has that length; the last list, whose next link is 0, may count fewer, and its last block may
- * be shorter. Where they do not, each offset is the length of all data before its block. Anything else is refused with 13. */
+ * be shorter. Where they do not, each offset is the length of all data before its block. What breaks this is refused with 13. */
 
 typedef struct mf4_length {
     uint32_t reply;

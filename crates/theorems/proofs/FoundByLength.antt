@@ -1,5 +1,5 @@
 -- In a chain whose lists declare one length, a block begins as many lengths into the joined data as there are blocks before it,
--- and a list as many counts into the blocks as there are lists before it: who finds a record by these numbers finds the right one.
+-- and a list as many counts into the blocks as there are lists before it: so a tool may find blocks by these two numbers.
 use mathlib.Core.Path.{_≡_, sym, ap, _∙_}
 use mathlib.Core.List.{List, [], _∷_, _++_, append-nil}
 use mathlib.Core.Logic.{inl, inr}
