@@ -2,7 +2,7 @@
 pub mod Pattern
 pub mod Whole
 pub mod Ties
-pub mod Shifted
+pub mod Aligned
 pub mod SignBit
 pub mod Negative
 pub mod Nan

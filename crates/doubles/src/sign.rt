@@ -24,7 +24,15 @@ pub fn double_of_sign(negative: bool, magnitude: u64) -> u64
     with_sign(negative, double_of(magnitude))
 }
 
-// How far n is from 0. One less is taken first, which fits at i64::MIN too.
+// How far a negative n is from -1. That is an i64 for every n, and how far it is from 0 is not: of -2^63 it is 2^63.
+pub fn magnitude_less_one(n: i64) -> u64
+    requires { ⌜ T (ltZ n (pos 0)) ⌝ }
+    ensures { λ r. ⌜ (n ≡ negsuc r) × (r < 2 ^ 63) ⌝ }
+{
+    (-1 - n) as u64
+}
+
+// How far n is from 0
 fn magnitude(n: i64) -> u64
     ensures { λ r. ⌜ r ≡ natAbs n ⌝ }
 {
@@ -32,14 +40,6 @@ fn magnitude(n: i64) -> u64
         return magnitude_less_one(n) + 1;
     }
     n as u64
-}
-
-// of a negative n
-pub fn magnitude_less_one(n: i64) -> u64
-    requires { ⌜ T (ltZ n (pos 0)) ⌝ }
-    ensures { λ r. ⌜ (n ≡ negsuc r) × (r < 2 ^ 63) ⌝ }
-{
-    (-1 - n) as u64
 }
 
 // The pattern of the double nearest to n. Sign and magnitude are taken first, so that one rounding serves both signs.

@@ -1,7 +1,9 @@
 // 32-bit floats as doubles: a double holds the value of every one.
 ghost use mathlib.Core.Path.{_≡_};
-ghost use Prim.Native.Nat.{_<_};
+ghost use Prim.Native.Nat.{_≤_, _<_};
 ghost use Rattle.definitions.specs.Ieee754.{widened};
+use crate::patterns::BIAS;
+use crate::patterns::FRACTION_BITS;
 use crate::patterns::INFINITY;
 use crate::patterns::NAN;
 use crate::round::double_of;
@@ -16,14 +18,14 @@ const SIGN_32: u32 = 0x8000_0000;
 
 const ALL_BUT_SIGN_32: u32 = 0x7fff_ffff;
 
-// A double has 52 digits below its exponent field, and a 32-bit float 23.
-const MORE_DIGITS: u32 = 52 - 23;
-// A pattern below the normal ones counts units of 2^-149: that exponent, in the field of a double.
-const SUBNORMAL_EXPONENT: u64 = 149 << 52;
-// The fields of the two formats count their exponents from -1023 and from -127.
-const BIAS_GAP: u64 = (1023 - 127) << 52;
+// What a double has more: a 32-bit float has a fraction of 23 bits, and a bias of 127.
+const MORE_FRACTION_BITS: u32 = FRACTION_BITS - 23;
 
-// The widened pattern of one below the normal ones, whose sign is clear.
+const MORE_BIAS: u64 = (BIAS - 127) << FRACTION_BITS;
+// A pattern below the normal ones counts units of 2^-149: that exponent, in the field of a double.
+const SUBNORMAL_EXPONENT: u64 = 149 << FRACTION_BITS;
+
+// The double of the number of units, with its exponent lowered to theirs. Only 0 has none to lower.
 fn widen_subnormal(magnitude: u32) -> u64
     requires { ⌜ magnitude < 0x0080_0000 ⌝ }
     ensures { λ r. ⌜ r ≡ widened magnitude ⌝ }
@@ -32,6 +34,14 @@ fn widen_subnormal(magnitude: u32) -> u64
         return 0;
     }
     double_of(magnitude as u64) - SUBNORMAL_EXPONENT
+}
+
+// The fraction moves up, and the exponent with it, which then counts from another bias.
+fn widen_normal(magnitude: u32) -> u64
+    requires { ⌜ (0x0080_0000 ≤ magnitude) × (magnitude < 0x7f80_0000) ⌝ }
+    ensures { λ r. ⌜ r ≡ widened magnitude ⌝ }
+{
+    ((magnitude as u64) << MORE_FRACTION_BITS) + MORE_BIAS
 }
 
 // The pattern of the double with the value of a 32-bit pattern; any NaN becomes one NaN, its sign clear.
@@ -44,7 +54,7 @@ pub fn widen(bits: u32) -> u64
         return with_sign(negative, widen_subnormal(magnitude));
     }
     if magnitude < INFINITY_32 {
-        return with_sign(negative, ((magnitude as u64) << MORE_DIGITS) + BIAS_GAP);
+        return with_sign(negative, widen_normal(magnitude));
     }
     if magnitude == INFINITY_32 {
         return with_sign(negative, INFINITY);

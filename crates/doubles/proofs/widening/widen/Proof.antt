@@ -5,7 +5,7 @@ use native.Mathlib.Omega.{arith}
 use lib.Bits.{bitAnd}
 use Rattle.definitions.specs.Ieee754.{widened}
 use Rattle.doubles.proofs.Widened.{masked-nan, widened-clear, masked-with-sign}
-use Rattle.doubles.proofs.WidenedCases.{infinity-widened, normal-widened}
+use Rattle.doubles.proofs.WidenedCases.{infinity-widened}
 use Rattle.doubles.proofs.widening.widen.Statement.{statement}
 use Rattle.doubles.proofs.widening.widen.Tie as tie
 
@@ -19,13 +19,15 @@ returns c =
     let one = c .before .before in
     masked-with-sign (one .before .args .bits) _ _ (omega (arith, one .if1 .taken)) (c .before .widen-subnormal .ensures) (c .with-sign .ensures)
 
+with-sign-requires-2 : tie.Need-with-sign-requires-2
+with-sign-requires-2 c κs =
+    let m = bitAnd (c .before .before .before .args .bits) 0x7fff_ffff in
+    omega (arith, c .widen-normal .ensures, widened-clear m (omega (arith, c .before .if2 .taken)))
+
 returns-2 : tie.Need-returns-2
 returns-2 c =
-    let two = c .before in
-    let one = two .before in
-    let b = one .before .args .bits in
-    let n = normal-widened (bitAnd b 0x7fff_ffff) (one .if1 .left) (two .if2 .taken) in
-    masked-with-sign b _ _ (omega (arith, two .if2 .taken)) (omega (arith, n)) (c .with-sign2 .ensures)
+    let two = c .before .before in
+    masked-with-sign (two .before .before .args .bits) _ _ (omega (arith, two .if2 .taken)) (c .before .widen-normal .ensures) (c .with-sign2 .ensures)
 
 returns-3 : tie.Need-returns-3
 returns-3 c =
@@ -45,11 +47,8 @@ widen-spec =
     (λ c κs. search needs)
     with-sign-requires
     returns
-    (λ c. search needs)
-    (λ c. search needs)
-    (λ c. search needs)
-    (λ c. search needs)
     (λ c κs. search needs)
+    with-sign-requires-2
     returns-2
     (λ c κs. search needs)
     returns-3
