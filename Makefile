@@ -3,7 +3,7 @@
 # Nothing else is needed: the library allocates nothing and calls nothing outside itself.
 
 # The kit that the proofs were last run with; `rt version` prints the kit at hand.
-KIT := rattle-kit-5b logic 064da1ca440f63e7
+KIT := rattle-kit-5b-plain logic 097e4c862dff5811
 
 # The library is x86-64 code. On another processor a cross-compiler links it, and the kit's emulator runs what was linked.
 ifneq ($(shell uname -m),x86_64)
