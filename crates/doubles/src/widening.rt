@@ -1,6 +1,6 @@
 // 32-bit floats as doubles: a double holds the value of every one.
 ghost use mathlib.Core.Path.{_≡_};
-ghost use Prim.Native.Nat.{_≤_, _<_};
+ghost use Prim.Native.Nat.{_<_};
 ghost use Rattle.definitions.specs.Ieee754.{widened};
 use crate::patterns::BIAS;
 use crate::patterns::FRACTION_BITS;
@@ -25,7 +25,7 @@ const MORE_BIAS: u64 = (BIAS - 127) << FRACTION_BITS;
 // A pattern below the normal ones counts units of 2^-149: that exponent, in the field of a double.
 const SUBNORMAL_EXPONENT: u64 = 149 << FRACTION_BITS;
 
-// The double of the number of units, with its exponent lowered to theirs. Only 0 has none to lower.
+// The number of units as a double, whose exponent is lowered to theirs. Only 0 has none to lower.
 fn widen_subnormal(magnitude: u32) -> u64
     requires { ⌜ magnitude < 0x0080_0000 ⌝ }
     ensures { λ r. ⌜ r ≡ widened magnitude ⌝ }
@@ -36,11 +36,14 @@ fn widen_subnormal(magnitude: u32) -> u64
     double_of(magnitude as u64) - SUBNORMAL_EXPONENT
 }
 
-// The fraction moves up, and the exponent with it, which then counts from another bias.
-fn widen_normal(magnitude: u32) -> u64
-    requires { ⌜ (0x0080_0000 ≤ magnitude) × (magnitude < 0x7f80_0000) ⌝ }
+// Of a normal number the fraction moves up, and the exponent with it, which then counts from another bias.
+fn widen_number(magnitude: u32) -> u64
+    requires { ⌜ magnitude < 0x7f80_0000 ⌝ }
     ensures { λ r. ⌜ r ≡ widened magnitude ⌝ }
 {
+    if magnitude < LEAST_NORMAL_32 {
+        return widen_subnormal(magnitude);
+    }
     ((magnitude as u64) << MORE_FRACTION_BITS) + MORE_BIAS
 }
 
@@ -50,11 +53,8 @@ pub fn widen(bits: u32) -> u64
 {
     let magnitude = bits & ALL_BUT_SIGN_32;
     let negative = bits >= SIGN_32;
-    if magnitude < LEAST_NORMAL_32 {
-        return with_sign(negative, widen_subnormal(magnitude));
-    }
     if magnitude < INFINITY_32 {
-        return with_sign(negative, widen_normal(magnitude));
+        return with_sign(negative, widen_number(magnitude));
     }
     if magnitude == INFINITY_32 {
         return with_sign(negative, INFINITY);

@@ -12,33 +12,23 @@ use Rattle.doubles.proofs.widening.widen.Tie as tie
 with-sign-requires : tie.Need-with-sign-requires
 with-sign-requires c κs =
     let m = bitAnd (c .before .before .args .bits) 0x7fff_ffff in
-    omega (arith, c .widen-subnormal .ensures, widened-clear m (omega (arith, c .before .if1 .taken)))
+    omega (arith, c .widen-number .ensures, widened-clear m (omega (arith, c .before .if1 .taken)))
 
 returns : tie.Need-returns
 returns c =
     let one = c .before .before in
-    masked-with-sign (one .before .args .bits) _ _ (omega (arith, one .if1 .taken)) (c .before .widen-subnormal .ensures) (c .with-sign .ensures)
-
-with-sign-requires-2 : tie.Need-with-sign-requires-2
-with-sign-requires-2 c κs =
-    let m = bitAnd (c .before .before .before .args .bits) 0x7fff_ffff in
-    omega (arith, c .widen-normal .ensures, widened-clear m (omega (arith, c .before .if2 .taken)))
+    masked-with-sign (one .before .args .bits) _ _ (omega (arith, one .if1 .taken)) (c .before .widen-number .ensures) (c .with-sign .ensures)
 
 returns-2 : tie.Need-returns-2
 returns-2 c =
-    let two = c .before .before in
-    masked-with-sign (two .before .before .args .bits) _ _ (omega (arith, two .if2 .taken)) (c .before .widen-normal .ensures) (c .with-sign2 .ensures)
+    let two = c .before in
+    let b = two .before .before .args .bits in
+    masked-with-sign b _ _ (omega (arith, two .if2 .taken)) (sym (ap widened (two .if2 .taken) ∙ infinity-widened)) (c .with-sign2 .ensures)
 
 returns-3 : tie.Need-returns-3
 returns-3 c =
-    let three = c .before in
-    let b = three .before .before .before .args .bits in
-    masked-with-sign b _ _ (omega (arith, three .if3 .taken)) (sym (ap widened (three .if3 .taken) ∙ infinity-widened)) (c .with-sign3 .ensures)
-
-returns-4 : tie.Need-returns-4
-returns-4 c =
-    let two = c .before in
-    masked-nan (two .before .before .args .bits) (omega (arith, two .if2 .left, c .if3 .left))
+    let one = c .before in
+    masked-nan (one .before .args .bits) (omega (arith, one .if1 .left, c .if2 .left))
 
 pub widen-spec : {M : Type 1} → statement M
 widen-spec =
@@ -48,8 +38,5 @@ widen-spec =
     with-sign-requires
     returns
     (λ c κs. search needs)
-    with-sign-requires-2
     returns-2
-    (λ c κs. search needs)
-    returns-3
-    returns-4)
+    returns-3)
