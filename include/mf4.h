@@ -3,8 +3,9 @@
  *
  * Every call ends with an answer or a numbered refusal, for every input. A call that can refuse returns a struct by
  * value: `reply` is 0 (MF4_ANSWER) or the refusal's number, `told` is what the refusal tells beside its number (0 where it
- * tells nothing), and the other fields are the answer's, all zero on a refusal. A refusal writes nothing. One exception:
- * mf4_record_value leaves a record that it has fetched in the buffer when the record's field is then refused.
+ * tells nothing), and the other fields are the answer's, all zero on a refusal. A refusal writes nothing, with one
+ * exception: mf4_record_value and mf4_record_payload leave a record, or a payload, that they have fetched in its buffer when
+ * something behind it is then refused.
  *
  * A pair (pointer, count) is a slice, lent for the time of the call; the pointer may be NULL where the count is 0. An
  * output buffer must not overlap an input. Nothing is allocated and nothing is kept between calls, so calls from several
@@ -26,8 +27,8 @@
 
 #define MF4_VERSION_MAJOR 0
 #define MF4_VERSION_MINOR 2
-#define MF4_VERSION_PATCH 1
-#define MF4_VERSION "0.2.1"
+#define MF4_VERSION_PATCH 2
+#define MF4_VERSION "0.2.2"
 
 #ifdef __cplusplus
 extern "C" {
@@ -55,7 +56,7 @@ enum mf4_reply {
     MF4_TOO_MANY_FRAGMENTS = 9,  /* a chain of more than 4,096 data blocks                                        */
     MF4_LIST_DISAGREES = 10,     /* a list that contradicts itself: its count, or the length of its block         */
     MF4_NO_BLOCK_THERE = 11,     /* a start or a data link of 0, or an address without room for a header          */
-    MF4_BAD_DATA_BLOCK = 12,     /* what a list links is no whole ##DT block: damaged, compressed or another kind */
+    MF4_BAD_DATA_BLOCK = 12,     /* what a list links is no whole block of its chain's kind (##DT, ##SD)          */
     MF4_UNTRUE_DECLARATION = 13, /* a block is not as its list declares, or a list not as the first one does      */
     MF4_DATA_TOO_LONG = 14,      /* more joined data than 2^63-1 bytes                                            */
     MF4_BAD_RECORD_SIZE = 15,    /* a record size of 0, over 16,384, or over the record buffer's                  */
@@ -66,6 +67,8 @@ enum mf4_reply {
     MF4_INTEGER_TOO_WIDE = 20,   /* an integer whose bit count is over 64                                         */
     MF4_FIELD_OUTSIDE = 21,      /* a field that ends outside the slice; told: the size needed, at most 2^64-1    */
     MF4_BAD_FLOAT_WIDTH = 22,    /* a float whose bit count is neither 32 nor 64                                  */
+    MF4_PAYLOAD_OUTSIDE = 23,    /* a payload, or its length, that ends behind the joined data of its chain       */
+    MF4_NO_POSITION = 35,        /* a channel whose field in the record is no position of a payload               */
 
     /* Numbers from 256 on are those of this header's own helpers, never the library's. */
     MF4_NO_TEXT_TYPE = 256       /* mf4_text_by_type: a data type that is no text                                 */
@@ -86,7 +89,7 @@ static inline const char *mf4_reply_text(uint32_t reply)
     case MF4_TOO_MANY_FRAGMENTS: return "the chain has over 4096 data blocks";
     case MF4_LIST_DISAGREES: return "a list's count or block length disagrees with its links";
     case MF4_NO_BLOCK_THERE: return "a link leads to no block";
-    case MF4_BAD_DATA_BLOCK: return "a list links something else than a whole ##DT block";
+    case MF4_BAD_DATA_BLOCK: return "a list links something else than a whole block of its chain's kind";
     case MF4_UNTRUE_DECLARATION: return "a data block is not as its list declares, or a list declares otherwise than the first";
     case MF4_DATA_TOO_LONG: return "the joined data passes 2^63-1 bytes";
     case MF4_BAD_RECORD_SIZE: return "the record size is 0 or over 16384, or the buffer is too short";
@@ -97,6 +100,8 @@ static inline const char *mf4_reply_text(uint32_t reply)
     case MF4_INTEGER_TOO_WIDE: return "the description gives the integer over 64 bits";
     case MF4_FIELD_OUTSIDE: return "the field ends outside the record or payload, which has too few bytes";
     case MF4_BAD_FLOAT_WIDTH: return "the description gives the float neither 32 nor 64 bits";
+    case MF4_PAYLOAD_OUTSIDE: return "the payload or its length ends behind the joined data";
+    case MF4_NO_POSITION: return "the channel holds no position of a payload";
     case MF4_NO_TEXT_TYPE: return "the data type is no text";
     default: return "no reply of this library";
     }
@@ -420,6 +425,37 @@ mf4_fetched mf4_read_record(const uint8_t *file, size_t file_len, uint64_t start
 mf4_valid_value mf4_record_value(const uint8_t *file, size_t file_len, uint64_t start, uint64_t number,
                                  uint64_t record_size, uint64_t record_id_size, uint32_t data_bytes, mf4_channel channel,
                                  uint8_t *buffer, size_t buffer_len);
+
+/* ---- payloads through a second chain ---------------------------------------------------------------------------- */
+
+/* A channel of variable length keeps its values outside the record: with channel_type 1 and a `data` that is not 0, the
+ * eight bytes at byte_offset are a position, little-endian whatever the data type, in the joined data of the chain of ##SD
+ * blocks that starts at `data`. There stand four bytes of length, little-endian, and so many bytes of payload.
+ *
+ * kind, number, at and length are those of the payload, as mf4_decode_value gives them of its bytes; at is a place in the
+ * payload's buffer. is_valid is the record's. payload_length is how many bytes of the payload's buffer were written. */
+typedef struct mf4_payload {
+    uint32_t reply;
+    uint32_t kind;
+    uint64_t told;
+    uint64_t number;
+    uint64_t at;
+    uint64_t length;
+    uint64_t payload_length;
+    uint8_t is_valid;
+} mf4_payload;
+
+/* Record `number` into the front of `record`, and the payload that it tells into the front of `payload`. How long a payload
+ * is, only the call tells: lend what most need; where it refuses with 6, lend `told` bytes and call again.
+ *
+ * Refuses with 35 for a channel that is not as above, or with a bit_offset other than 0 or a bit_count other than 64; then as
+ * mf4_read_record; with 21 where the record ends before the position does, told as mf4_decode_value tells it; with what the
+ * chain of ##SD blocks shows, as of the other (a `data` that leads to a single ##SD block is 3); with 23, 6, and at last with
+ * 21, told 8, for a number whose payload has fewer bytes. From the first 21 on the record stays in its buffer, and with the
+ * last also the payload. */
+mf4_payload mf4_record_payload(const uint8_t *file, size_t file_len, uint64_t start, uint64_t number, uint64_t record_size,
+                               uint64_t record_id_size, uint32_t data_bytes, mf4_channel channel, uint8_t *record,
+                               size_t record_len, uint8_t *payload, size_t payload_len);
 
 #ifdef __cplusplus
 }

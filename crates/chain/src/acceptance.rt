@@ -28,7 +28,7 @@ pub enum Located {
 
 // Walks all of a chain, since a position stands in a chain that is whole, and keeps the place before the fragment that
 // holds the wanted position.
-pub(crate) fn locate(file: &[u8], start: FileAddress, id: &[u8; 4], wanted: DataPosition) -> Located
+pub fn locate(file: &[u8], start: FileAddress, id: &[u8; 4], wanted: DataPosition) -> Located
     ensures { λ r. ⌜ Locates (now (id .entry)) (now (file .entry)) (start .0) (wanted .0) (totalOf (now (id .entry)) (now (file .entry)) (start .0)) r ⌝ }
 {
     let mut place = Place::start(start);

@@ -25,6 +25,8 @@ pub enum BlockRead {
 
 impl DataBlock {
     pub const ID: [u8; 4] = *b"##DT";
+    // of a block of payloads
+    pub const SIGNAL_ID: [u8; 4] = *b"##SD";
 }
 
 // The data block with that id at an address

@@ -106,7 +106,7 @@ impl DataPosition {
         self.0 < end.0
     }
 
-    pub(crate) fn further(self, size: u64) -> DataPosition
+    pub fn further(self, size: u64) -> DataPosition
         requires { ⌜ self .0 + size < 18446744073709551616 ⌝ }
         ensures { λ r. ⌜ r ≡ further self size ⌝ }
     {

@@ -51,8 +51,8 @@ fn unless(payload: bool, bytes: usize) -> usize
     if payload { 0 } else { bytes }
 }
 
-// The value of any field
-fn any_value(record: &[u8], record_id_size: usize, channel: Channel) -> ValueRead
+// The value of any field, by the general way
+pub fn any_value(record: &[u8], record_id_size: usize, channel: Channel) -> ValueRead
     ensures { λ r. ⌜ valueReply r ≡ valueOf (now («record» .entry)) «record_id_size» (channelMeant channel) ⌝ }
 {
     let data_type = channel.data_type;

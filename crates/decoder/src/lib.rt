@@ -5,6 +5,7 @@ mod integer;
 mod near;
 
 pub use decode::any_valid_value;
+pub use decode::any_value;
 pub use decode::decode_channel_value;
 pub use decode::decode_channel_value_with_validity;
 pub use double::decode_f64_from_record;

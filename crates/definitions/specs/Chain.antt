@@ -5,7 +5,7 @@ use mathlib.Core.List.{List, [], _∷_, _++_}
 use mathlib.Core.Bool.{Bool, true, false, not, _&&_, _||_}
 use lib.ListN.{length, take, drop}
 use lib.Dec.{ltb, leb, eqb}
-use Rattle.definitions.specs.Reply.{Reply, Outcome, answer, refusal, if_then_else_, andThen}
+use Rattle.definitions.specs.Reply.{Reply, Outcome, answer, refusal, if_then_else_, andThen, onAnswer}
 use Rattle.definitions.specs.Bytes.{span, u64At, idAt}
 use Rattle.definitions.specs.DataList.{DataList, listOf, oneLength}
 use Rattle.definitions.specs.Channel.{Channel, ValidValue, validValueOf}
@@ -177,17 +177,12 @@ recordOf j k size out =
     then record { reply = refusal 16 0; buffer = out }
     else record { reply = answer tt; buffer = span j (k * size) size ++ drop size out }
 
--- what a refused chain leaves, or go on with its blocks
-abbrev pub onBlocks : {A : Type 0} → Reply (List Block) → (List Block → Outcome A) → List ℕ → Outcome A
-onBlocks (answer bs) f out = f bs
-onBlocks (refusal n t) f out = record { reply = refusal n t; buffer = out }
-
 -- 15, 7 for a file longer than 2^40 bytes, the chain's own, 16
 unfoldable pub fetched : List ℕ → ℕ → ℕ → ℕ → List ℕ → Outcome (Unit {0})
 fetched f start k size out =
     if badSize size (length out) then record { reply = refusal 15 0; buffer = out }
     else if ltb fileLimit (length f) then record { reply = refusal 7 0; buffer = out }
-    else onBlocks (chainOf idDT f start) (λ bs. recordOf (joined f bs) k size out) out
+    else onAnswer (chainOf idDT f start) (λ bs. recordOf (joined f bs) k size out) out
 
 -- the record, then its field from those bytes alone; a refused field leaves the record in the buffer
 abbrev pub fieldOf : ℕ → ℕ → ℕ → Channel → Outcome (Unit {0}) → Outcome ValidValue

@@ -10,3 +10,4 @@ pub mod ChannelBlock
 pub mod DataList
 pub mod Chain
 pub mod Accepted
+pub mod Payload

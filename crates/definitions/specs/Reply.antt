@@ -40,3 +40,8 @@ writing out bytes a =
     if ltb (length out) (length bytes)
     then record { reply = refusal 6 (told (length bytes)); buffer = out }
     else record { reply = answer a; buffer = bytes ++ drop (length bytes) out }
+
+-- go on with an answer to what is done with the buffer; a refusal leaves it
+abbrev pub onAnswer : {A B : Type 0} → Reply A → (A → Outcome B) → List ℕ → Outcome B
+onAnswer (answer a) f out = f a
+onAnswer (refusal n t) f out = record { reply = refusal n t; buffer = out }

@@ -20,6 +20,8 @@ pub use form::form_of;
 pub use number::float_bits;
 pub use number::number_at;
 pub use number::number_value;
+pub use span::bytes_needed;
+pub use span::ends_outside;
 pub use validity::check_value_validity;
 pub use value::DecodedChannelValue;
 pub use value::DecodedValue;

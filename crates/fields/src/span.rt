@@ -39,7 +39,7 @@ pub(crate) fn content_span(
 }
 
 // By subtraction, since the sum may be past every number that fits.
-pub(crate) fn ends_outside(length: usize, skipped: usize, byte_offset: usize, span: usize) -> bool
+pub fn ends_outside(length: usize, skipped: usize, byte_offset: usize, span: usize) -> bool
     ensures { λ r. ⌜ r ≡ ltb length (skipped + «byte_offset» + span) ⌝ }
 {
     if length < skipped {
@@ -64,7 +64,7 @@ fn sum_told(a: u64, b: u64) -> u64
 }
 
 // The bytes, from its front, of a slice that would hold the field
-pub(crate) fn bytes_needed(skipped: usize, byte_offset: usize, span: usize) -> u64
+pub fn bytes_needed(skipped: usize, byte_offset: usize, span: usize) -> u64
     ensures { λ r. ⌜ r ≡ told (skipped + «byte_offset» + span) ⌝ }
 {
     sum_told(sum_told(skipped as u64, byte_offset as u64), span as u64)

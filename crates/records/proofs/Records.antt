@@ -70,7 +70,7 @@ module _ (k size : ℕ) (z : 0 < size) where
 -- ---- the ways out
 
 -- the blocks behind the length of the joined data
-whole : (id f : List ℕ) (start n : ℕ) → totalOf id f start ≡ answer n
+pub whole : (id f : List ℕ) (start n : ℕ) → totalOf id f start ≡ answer n
     → (bs : List Block) × (chainOf id f start ≡ answer bs) × (length (joined f bs) ≡ n)
 unfolding totalOf
 whole id f start n e =

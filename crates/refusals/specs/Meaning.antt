@@ -2,7 +2,7 @@
 use Prim.Native.Nat.{ℕ}
 use Rattle.definitions.specs.Reply.{Reply, refusal}
 use Rattle.refusals.specs.declared.Refusal.{Refusal}
-use Rattle.refusals.specs.declared.Refusal.the-variants.{TooFewBytes, OtherId, NoLinks, UnwritableList, NoRoom, FileTooLong, TooManyLists, TooManyFragments, ListDisagrees, NoBlockThere, BadDataBlock, UntrueDeclaration, DataTooLong, BadRecordSize, NoSuchRecord, TooFewLinks, NoBits, BadBitOffset, IntegerTooWide, FieldOutside, BadFloatWidth}
+use Rattle.refusals.specs.declared.Refusal.the-variants.{TooFewBytes, OtherId, NoLinks, UnwritableList, NoRoom, FileTooLong, TooManyLists, TooManyFragments, ListDisagrees, NoBlockThere, BadDataBlock, UntrueDeclaration, DataTooLong, BadRecordSize, NoSuchRecord, TooFewLinks, NoBits, BadBitOffset, IntegerTooWide, FieldOutside, BadFloatWidth, PayloadOutside, NoPosition}
 
 abbrev pub refusalNumber : Refusal → ℕ
 refusalNumber (TooFewBytes n) = 2
@@ -26,6 +26,8 @@ refusalNumber BadBitOffset = 19
 refusalNumber IntegerTooWide = 20
 refusalNumber (FieldOutside n) = 21
 refusalNumber BadFloatWidth = 22
+refusalNumber PayloadOutside = 23
+refusalNumber NoPosition = 35
 
 abbrev pub toldOf : Refusal → ℕ
 toldOf (TooFewBytes n) = n
@@ -49,6 +51,8 @@ toldOf BadBitOffset = 0
 toldOf IntegerTooWide = 0
 toldOf (FieldOutside n) = n
 toldOf BadFloatWidth = 0
+toldOf PayloadOutside = 0
+toldOf NoPosition = 0
 
 abbrev pub refused : {A : Type 0} → Refusal → Reply A
 refused r = refusal (refusalNumber r) (toldOf r)

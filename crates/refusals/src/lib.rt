@@ -45,6 +45,10 @@ pub enum Refusal {
     FieldOutside(u64),
     // 22
     BadFloatWidth,
+    // 23
+    PayloadOutside,
+    // 35
+    NoPosition,
 }
 
 impl Refusal {
@@ -73,6 +77,8 @@ impl Refusal {
             Refusal::IntegerTooWide => 20,
             Refusal::FieldOutside(_) => 21,
             Refusal::BadFloatWidth => 22,
+            Refusal::PayloadOutside => 23,
+            Refusal::NoPosition => 35,
         }
     }
 
@@ -102,6 +108,8 @@ impl Refusal {
             Refusal::IntegerTooWide => 0,
             Refusal::FieldOutside(n) => n,
             Refusal::BadFloatWidth => 0,
+            Refusal::PayloadOutside => 0,
+            Refusal::NoPosition => 0,
         }
     }
 }

@@ -1,8 +1,10 @@
 -- Values and records as C sees them.
 use Prim.Native.Nat.{ℕ, _-_}
+use mathlib.Core.List.{List}
 use lib.IntN.{ℤ, pos, negsuc}
 use Rattle.definitions.specs.Reply.{Reply, answer, refusal}
 use Rattle.definitions.specs.DataType.{typeOf}
+use Rattle.definitions.specs.Payload.{PayloadValue, Outcomes}
 use Rattle.definitions.specs.Channel.{Channel, Value, ValidValue, unsigned, signed, double, text, bytes, sample, stream, unknownValue}
 use Rattle.replies.specs.Replies.{flagC}
 use Rattle.replies.specs.declared.channel.Mf4Channel.{Mf4Channel}
@@ -11,6 +13,7 @@ use Rattle.replies.specs.declared.values.Mf4Value.{Mf4Value}
 use Rattle.replies.specs.declared.valid_values.Mf4ValidValue.{Mf4ValidValue}
 use Rattle.replies.specs.declared.fetches.Mf4Length.{Mf4Length}
 use Rattle.replies.specs.declared.fetches.Mf4Fetched.{Mf4Fetched}
+use Rattle.replies.specs.declared.payload.Mf4Payload.{Mf4Payload}
 
 -- the description that C gives, the type by its code
 abbrev pub channelGiven : Mf4Channel → Channel
@@ -74,3 +77,34 @@ lengthC (refusal n t) = record { reply = n; told = t; length = 0 }
 abbrev pub fetchedC : Reply (Unit {0}) → Mf4Fetched
 fetchedC (answer u) = record { reply = 0; told = 0 }
 fetchedC (refusal n t) = record { reply = n; told = t }
+
+-- ---- payloads
+
+abbrev pub payloadAnswerC : Shown → ℕ → ℕ → Mf4Payload
+payloadAnswerC d size valid = record {
+  reply = 0;
+  kind = d .kind;
+  told = 0;
+  number = d .number;
+  at = d .at;
+  length = d .length;
+  «payload_length» = size;
+  «is_valid» = valid;
+}
+
+abbrev pub payloadC : Reply PayloadValue → Mf4Payload
+payloadC (answer v) = payloadAnswerC (decodedC (v .value)) (v .size) (flagC (v .valid))
+payloadC (refusal n t) =
+    record { reply = n; kind = 0; told = t; number = 0; at = 0; length = 0; «payload_length» = 0; «is_valid» = 0 }
+
+-- what a call returns, and the two buffers that were lent to it as it leaves them
+pub record ReturnedBoth (R : Type 0) : Type 0 where
+  pub result : R
+  pub recordBuffer : List ℕ
+  pub payloadBuffer : List ℕ
+
+abbrev pub returnedBoth : {R : Type 0} → R → List ℕ → List ℕ → ReturnedBoth R
+returnedBoth r a b = record { result = r; recordBuffer = a; payloadBuffer = b }
+
+abbrev pub returnedBothBy : {A R : Type 0} → (Reply A → R) → Outcomes A → ReturnedBoth R
+returnedBothBy toC o = returnedBoth (toC (o .reply)) (o .recordBuffer) (o .payloadBuffer)

@@ -8,7 +8,7 @@ use native.Mathlib.Omega.{arith}
 use lib.ListN.{length, drop}
 use lib.Dec.{ltb, eqb}
 use borrow.Author.Tests.{ltb-false, le-ltb, eqb-true, eqb-false, not-false, ne-eqb, eq-eqb}
-use Rattle.definitions.specs.Reply.{Reply, Outcome, answer, refusal, if_then_else_, andThen, told, writing}
+use Rattle.definitions.specs.Reply.{Reply, Outcome, answer, refusal, if_then_else_, andThen, told, writing, onAnswer}
 use Rattle.definitions.specs.Bytes.{span}
 use Rattle.definitions.specs.Unicode.{Encoding, textOf, writtenText, textWritten}
 use Rattle.definitions.specs.Header.{Header, headerIn, headerOf, headerBytes, headerWritten}
@@ -16,7 +16,7 @@ use Rattle.definitions.specs.DataType.{Kind, integer, floating, whole, undecode
 use Rattle.definitions.specs.DataList.{Lengths, equal, variable, linkLimit, listOf, listBytes, listSize, flagsFor, restFor, unwritable, listWritten}
 use Rattle.definitions.specs.ChannelBlock.{ChannelBlock, channelBlockOf, channelBytes, channelWritten}
 use Rattle.definitions.specs.Channel.{Channel, Value, ValidValue, startOf, spanOf, valueBy, valueOf, validValueOf}
-use Rattle.definitions.specs.Chain.{Block, idDT, fileLimit, recordLimit, joined, total, chainOf, totalOf, dataLength, badSize, onBlocks, recordOf, fetched, valueFetched}
+use Rattle.definitions.specs.Chain.{Block, idDT, fileLimit, recordLimit, joined, total, chainOf, totalOf, dataLength, badSize, recordOf, fetched, valueFetched}
 use Rattle.definitions.specs.Accepted.{Accepted}
 use Rattle.definitions.proofs.Replies.{not-answered}
 use Rattle.blocks.proofs.Headers.{length-header}
@@ -232,7 +232,7 @@ module _ (f : List ℕ) (start k size : ℕ) (out : List ℕ) where
   abbrev Joined : Reply (List Block) → Type 0
   Joined r = (bs : List Block) × (r ≡ answer bs) × (k * size + size ≤ length (joined f bs))
 
-  on-blocks : (r : Reply (List Block)) → Exactly (Joined r) (onBlocks r (λ bs. recordOf (joined f bs) k size out) out .reply)
+  on-blocks : (r : Reply (List Block)) → Exactly (Joined r) (onAnswer r (λ bs. recordOf (joined f bs) k size out) out .reply)
   on-blocks (answer bs) =
       same (λ p. let e : bs ≡ p .0 = answered (p .1) in rw e (p .2)) (λ p. (bs, refl, p)) (record-exactly (joined f bs))
   on-blocks (refusal n m) = record {

@@ -9,14 +9,14 @@ use lib.ListN.{length, drop, length-append, length-drop}
 use lib.Seq.{drop-append-seam}
 use lib.Dec.{ltb}
 use borrow.Author.Tests.{ltb-false}
-use Rattle.definitions.specs.Reply.{Reply, Outcome, answer, refusal, if_then_else_, told, writing}
+use Rattle.definitions.specs.Reply.{Reply, Outcome, answer, refusal, if_then_else_, told, writing, onAnswer}
 use Rattle.definitions.specs.Bytes.{span}
 use Rattle.definitions.specs.Unicode.{Encoding, TextWritten, textOf, writtenText, textWritten}
 use Rattle.definitions.specs.Header.{Header, headerBytes, headerWritten}
 use Rattle.definitions.specs.DataList.{Lengths, listBytes, listSize, flagsFor, restFor, unwritable, listWritten}
 use Rattle.definitions.specs.ChannelBlock.{ChannelBlock, channelBytes, channelWritten}
 use Rattle.definitions.specs.Channel.{Channel}
-use Rattle.definitions.specs.Chain.{Block, idDT, fileLimit, joined, chainOf, badSize, onBlocks, recordOf, fetched, valueFetched}
+use Rattle.definitions.specs.Chain.{Block, idDT, fileLimit, joined, chainOf, badSize, recordOf, fetched, valueFetched}
 use Rattle.definitions.proofs.Replies.{not-answered}
 use Rattle.words.proofs.Spans.{length-span}
 use Rattle.blocks.proofs.Headers.{length-header}
@@ -105,7 +105,7 @@ module _ (out : List ℕ) where
       (λ h. answering (λ u. size) out tt (span j (k * size) size) size refl (length-span j (k * size) size (ltb-false _ _ h)) room)
 
   on-blocks : (size : ℕ) (r : Reply (List Block)) (f : List Block → Outcome (Unit {0})) → ((bs : List Block) → Leaves (λ u. size) out (f bs))
-      → Leaves (λ u. size) out (onBlocks r f out)
+      → Leaves (λ u. size) out (onAnswer r f out)
   on-blocks size (answer bs) f h = h bs
   on-blocks size (refusal n t) f h = refusing (λ u. size) out n t
 

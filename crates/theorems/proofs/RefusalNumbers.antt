@@ -8,7 +8,7 @@ use native.Mathlib.Omega.{arith}
 use lib.ListN.{length, take, drop}
 use lib.Dec.{ltb, leb, eqb}
 use borrow.Author.Tests.{leb-true}
-use Rattle.definitions.specs.Reply.{Reply, Outcome, answer, refusal, if_then_else_, andThen, told, writing}
+use Rattle.definitions.specs.Reply.{Reply, Outcome, answer, refusal, if_then_else_, andThen, told, writing, onAnswer}
 use Rattle.definitions.specs.Bytes.{u64At, idAt}
 use Rattle.definitions.specs.Unicode.{Encoding, textOf, writtenText, textWritten}
 use Rattle.definitions.specs.Header.{Header, headerOf, headerBytes, headerWritten}
@@ -16,7 +16,7 @@ use Rattle.definitions.specs.DataType.{Kind, kindOf}
 use Rattle.definitions.specs.DataList.{DataList, Lengths, idDL, listOf, linksOf, restOf, restIn, flagsAt, listBytes, listSize, flagsFor, restFor, unwritable, listWritten}
 use Rattle.definitions.specs.ChannelBlock.{ChannelBlock, idCN, fieldsAt, fieldsOf, channelBlockOf, channelBytes, channelWritten}
 use Rattle.definitions.specs.Channel.{Channel, ValidValue, startOf, spanOf, isInteger, isFloating, isNumber, valueBy, valueOf, validValueOf}
-use Rattle.definitions.specs.Chain.{Block, idDT, dataLimit, fileLimit, fragmentLimit, hasHeader, blockAt, declared, judged, fragmentOf, fragments, agrees, admitted, listAt, Declaration, declarationOf, keepsTo, chainedAt, lists, listLimit, chainOf, totalOf, dataLength, joined, badSize, recordOf, onBlocks, fetched, valueFetched}
+use Rattle.definitions.specs.Chain.{Block, idDT, dataLimit, fileLimit, fragmentLimit, hasHeader, blockAt, declared, judged, fragmentOf, fragments, agrees, admitted, listAt, Declaration, declarationOf, keepsTo, chainedAt, lists, listLimit, chainOf, totalOf, dataLength, joined, badSize, recordOf, fetched, valueFetched}
 use Rattle.definitions.proofs.Replies.{not-answered, both}
 
 -- P holds of every refusal's number and of what it tells
@@ -188,7 +188,7 @@ module _ (f : List ℕ) (start k size : ℕ) (out : List ℕ) where
   unfolding recordOf
   record-numbered j = of-outcome OfBlocks (ltb (length j) (k * size + size)) 16 0 out _ refl (of-answer OfBlocks tt)
 
-  on-blocks : (r : Reply (List Block)) → Numbered OfBlocks r → Numbered OfBlocks (onBlocks r (λ bs. recordOf (joined f bs) k size out) out .reply)
+  on-blocks : (r : Reply (List Block)) → Numbered OfBlocks r → Numbered OfBlocks (onAnswer r (λ bs. recordOf (joined f bs) k size out) out .reply)
   on-blocks (answer bs) h = record-numbered (joined f bs)
   on-blocks (refusal n t) h = of-refusal OfBlocks n t (h n t refl)
 

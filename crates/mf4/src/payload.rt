@@ -1,0 +1,37 @@
+// A record through its chain, and the payload that it tells through another.
+ghost use mathlib.Core.Path.{_≡_};
+ghost use Rattle.definitions.specs.Payload.{payloadFetched};
+ghost use Rattle.replies.specs.Values.{channelGiven, payloadC, returnedBoth, returnedBothBy};
+use chain::FileAddress;
+use payloads::read_payload;
+use replies::Mf4Channel;
+use replies::Mf4Payload;
+use replies::channel_of;
+use replies::payload_reply;
+
+#[no_mangle]
+pub extern "C" fn mf4_record_payload(
+    file: &[u8],
+    start: u64,
+    number: u64,
+    record_size: u64,
+    record_id_size: u64,
+    data_bytes: u32,
+    channel: Mf4Channel,
+    record: &mut [u8],
+    payload: &mut [u8],
+) -> Mf4Payload
+    ensures { λ r. ⌜ returnedBoth r (now («record» .exit)) (now (payload .exit)) ≡ returnedBothBy payloadC (payloadFetched (now (file .entry)) start number «record_size» «record_id_size» «data_bytes» (channelGiven channel) (now («record» .entry)) (now (payload .entry))) ⌝ }
+{
+    payload_reply(read_payload(
+        file,
+        FileAddress(start),
+        number,
+        record_size,
+        record_id_size as usize,
+        data_bytes,
+        channel_of(channel),
+        record,
+        payload,
+    ))
+}

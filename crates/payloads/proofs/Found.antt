@@ -1,0 +1,108 @@
+-- The payload at a position of the joined data.
+use mathlib.Core.Path.{_≡_, refl, sym, ap, _∙_}
+use mathlib.Core.Bool.{true, false}
+use mathlib.Core.List.{List, [], _∷_}
+use Prim.Native.Nat.{ℕ, _+_, _≤_, _<_}
+use native.Mathlib.Omega.{arith}
+use lib.ListN.{length, take}
+use lib.Seq.{take-all}
+use lib.Dec.{leb, ltb}
+use borrow.Author.Tests.{lt-ltb, le-ltb, leb-true, leb-false}
+use Rattle.definitions.specs.Reply.{answer, refusal}
+use Rattle.definitions.specs.Bytes.{leOf, span, u32At}
+use Rattle.definitions.specs.Chain.{Block, dataLimit, joined, chainOf, totalOf}
+use Rattle.definitions.specs.Payload.{idSD, payloadAt, joinedOf}
+use Rattle.chain.specs.Meaning.{locatedReply}
+use Rattle.chain.specs.Located.{Locates}
+use Rattle.chain.specs.Walk.{Walked}
+use Rattle.chain.specs.declared.place.DataPosition.{DataPosition}
+use Rattle.chain.specs.declared.place.Place.{Place}
+use Rattle.chain.specs.declared.acceptance.Located.{Located}
+use Rattle.chain.specs.declared.acceptance.Located.the-variants.{Whole}
+use Rattle.chain.proofs.Answers.{unfollowed}
+use Rattle.chain.proofs.Chains.{joined-length, chain-stands}
+use Rattle.words.proofs.Spans.{length-span}
+use Rattle.records.specs.Window.{laid}
+use Rattle.records.proofs.Laying.{laid-whole}
+use Rattle.records.proofs.Records.{whole}
+use Rattle.payloads.specs.Found.{payloadIn, Lies}
+
+-- ---- the length
+
+-- a number of four bytes is that of the window on them
+pub length-laid : (j : List ℕ) (p : ℕ) {bytes : List ℕ} {r : ℕ} → p + 4 ≤ length j → bytes ≡ laid (0 ∷ 0 ∷ 0 ∷ 0 ∷ []) p 0 j
+    → r ≡ u32At bytes 0 → r ≡ u32At j p
+length-laid j p h eb er =
+    let four : span (span j p 4) 0 4 ≡ span j p 4 = take-all 4 (span j p 4) (omega (arith, length-span j p 4 h)) in
+    er ∙ ap (λ (b : List ℕ). u32At b 0) (eb ∙ laid-whole (0 ∷ 0 ∷ 0 ∷ 0 ∷ []) p j h) ∙ ap leOf four
+
+-- ---- in the joined data
+
+module _ (j : List ℕ) (p : ℕ) where
+  pub length-past : length j < p + 4 → payloadAt j p ≡ refusal 23 0
+  unfolding payloadAt
+  length-past h = rw (lt-ltb _ _ h)
+
+  module _ (h : p + 4 ≤ length j) where
+    pub payload-past : length j < p + 4 + u32At j p → payloadAt j p ≡ refusal 23 0
+    unfolding payloadAt
+    payload-past l = rw (le-ltb _ _ h, lt-ltb _ _ l)
+
+    pub payload-inside : p + 4 + u32At j p ≤ length j → payloadAt j p ≡ answer (span j (p + 4) (u32At j p))
+    unfolding payloadAt
+    payload-inside l = rw (le-ltb _ _ h, le-ltb _ _ l)
+
+-- ---- in that of a chain
+
+module _ (f : List ℕ) (start : ℕ) where
+  pub chain-refused : (p n t : ℕ) → totalOf idSD f start ≡ refusal n t → payloadIn f start p ≡ refusal n t
+  unfolding joinedOf totalOf
+  chain-refused p n t e = rw (unfollowed (chainOf idSD f start) _ n t e)
+
+  -- a chain that is accepted: its length n, and a place that is not behind the position p
+  module _ (p : ℕ) {r : Located} {n : DataPosition} {place : Place} (found : Locates idSD f start p (totalOf idSD f start) r) (is : r ≡ Whole n place) where
+    accepted : (bs : List Block) × (chainOf idSD f start ≡ answer bs) × (length (joined f bs) ≡ n .0)
+    accepted = whole idSD f start (n .0) (sym (found .replied) ∙ ap locatedReply is)
+
+    pub on-the-way : Walked idSD f place
+    on-the-way =
+        let kept = found .place n place is in
+        record { start = start; before = kept .0; blocks = accepted .0; at = kept .1; whole = accepted .1 }
+
+    pub ahead : place .position .0 ≤ p
+    ahead = found .place n place is .2
+
+    pub as-long : length (joined f (on-the-way .blocks)) ≡ n .0
+    unfolding on-the-way
+    as-long = accepted .2
+
+    pub limited : n .0 ≤ dataLimit
+    limited =
+        let s = chain-stands idSD f start (accepted .0) (accepted .1) in
+        omega (arith, accepted .2, joined-length f (accepted .0) (s .inside), s .bounded)
+
+    in-chain : payloadIn f start p ≡ payloadAt (joined f (on-the-way .blocks)) p
+    unfolding joinedOf on-the-way
+    in-chain = rw (accepted .1)
+
+    pub found-no-length : leb (p + 4) (n .0) ≡ false → payloadIn f start p ≡ refusal 23 0
+    found-no-length h = in-chain ∙ length-past _ p (omega (arith, as-long, leb-false (p + 4) (n .0) h))
+
+    module _ (h : leb (p + 4) (n .0) ≡ true) {first : DataPosition} {size : ℕ} (ef : first .0 ≡ p + 4)
+        (es : (w : Walked idSD f place) → p + 4 ≤ length (joined f (w .blocks)) → size ≡ u32At (joined f (w .blocks)) p) where
+      room : p + 4 ≤ length (joined f (on-the-way .blocks))
+      room = omega (arith, as-long, leb-true (p + 4) (n .0) h)
+
+      pub found-cut : leb (first .0 + size) (n .0) ≡ false → payloadIn f start p ≡ refusal 23 0
+      found-cut l = in-chain ∙ payload-past _ p room (omega (arith, as-long, ef, es on-the-way room, leb-false (first .0 + size) (n .0) l))
+
+      pub found-whole : leb (first .0 + size) (n .0) ≡ true → Lies f (payloadIn f start p) place (first .0) size
+      found-whole l =
+          let inside : first .0 + size ≤ length (joined f (on-the-way .blocks)) = omega (arith, as-long, leb-true (first .0 + size) (n .0) l) in
+          let size-is = es on-the-way room in
+          record {
+            walked = on-the-way;
+            ahead = omega (arith, ahead, ef);
+            inside = inside;
+            is = in-chain ∙ payload-inside _ p room (omega (arith, inside, ef, size-is)) ∙ rw (sym ef, sym size-is);
+          }

@@ -1,0 +1,29 @@
+-- Where a payload lies in the joined data of its chain.
+use mathlib.Core.Path.{_≡_}
+use Prim.Native.Nat.{ℕ, _+_, _≤_}
+use mathlib.Core.List.{List}
+use lib.ListN.{length}
+use Rattle.definitions.specs.Reply.{Reply, answer, andThen}
+use Rattle.definitions.specs.Bytes.{span}
+use Rattle.definitions.specs.Chain.{joined}
+use Rattle.definitions.specs.Payload.{idSD, joinedOf, payloadAt}
+use Rattle.refusals.specs.Meaning.{refused}
+use Rattle.chain.specs.Walk.{Walked}
+use Rattle.chain.specs.declared.place.Place.{Place}
+use Rattle.payloads.specs.declared.payload.PayloadFound.{PayloadFound}
+use Rattle.payloads.specs.declared.payload.PayloadFound.the-variants.{Payload, Refused}
+
+-- the payload at a position of the joined data of the chain of `##SD` blocks from `start` on
+abbrev pub payloadIn : List ℕ → ℕ → ℕ → Reply (List ℕ)
+payloadIn f start position = andThen (joinedOf idSD f start) (λ j. payloadAt j position)
+
+-- it is the n bytes from `first` on of what a walk joins that stands at p, not behind them
+pub record Lies (f : List ℕ) (payload : Reply (List ℕ)) (p : Place) (first n : ℕ) : Type 0 where
+  pub walked : Walked idSD f p
+  pub ahead : p .position .0 ≤ first
+  pub inside : first + n ≤ length (joined f (walked .blocks))
+  pub is : payload ≡ answer (span (joined f (walked .blocks)) first n)
+
+abbrev pub Finds : List ℕ → Reply (List ℕ) → PayloadFound → Type 0
+Finds f payload (Payload p q n) = Lies f payload p (q .0) n
+Finds f payload (Refused r) = payload ≡ refused r
