@@ -12,9 +12,10 @@ use Rattle.definitions.specs.DataList.{listOf, listWritten, equal, variable}
 use Rattle.definitions.specs.ChannelBlock.{channelBlockOf, channelWritten}
 use Rattle.definitions.specs.Channel.{valueOf, validOf, validValueOf, recordDouble}
 use Rattle.definitions.specs.Chain.{dataLength, fetched, valueFetched}
+use Rattle.definitions.specs.Payload.{payloadFetched}
 use Rattle.mf4.specs.Clauses.{Slice, Allows}
 use Rattle.replies.specs.Replies.{flagC, writtenC, headerC, headerGiven, listC, textC, returned, returnedBy}
-use Rattle.replies.specs.Values.{channelGiven, valueC, validValueC, lengthC, fetchedC}
+use Rattle.replies.specs.Values.{channelGiven, valueC, validValueC, lengthC, fetchedC, payloadC, returnedBoth, returnedBothBy}
 use Rattle.replies.specs.Channels.{channelC, blockGiven}
 use Rattle.replies.specs.declared.written.Mf4Written.{Mf4Written}
 use Rattle.replies.specs.declared.header.Mf4BlockHeader.{Mf4BlockHeader}
@@ -28,6 +29,7 @@ use Rattle.replies.specs.declared.values.Mf4Value.{Mf4Value}
 use Rattle.replies.specs.declared.valid_values.Mf4ValidValue.{Mf4ValidValue}
 use Rattle.replies.specs.declared.fetches.Mf4Length.{Mf4Length}
 use Rattle.replies.specs.declared.fetches.Mf4Fetched.{Mf4Fetched}
+use Rattle.replies.specs.declared.payload.Mf4Payload.{Mf4Payload}
 use Rattle.mf4.proofs.mf4_read_header.Kinds as mf4-read-header-kinds
 use Rattle.mf4.proofs.mf4_read_header.Reads as mf4-read-header
 use Rattle.mf4.proofs.mf4_write_header.Kinds as mf4-write-header-kinds
@@ -68,6 +70,8 @@ use Rattle.mf4.proofs.mf4_read_record.Kinds as mf4-read-record-kinds
 use Rattle.mf4.proofs.mf4_read_record.Reads as mf4-read-record
 use Rattle.mf4.proofs.mf4_record_value.Kinds as mf4-record-value-kinds
 use Rattle.mf4.proofs.mf4_record_value.Reads as mf4-record-value
+use Rattle.mf4.proofs.mf4_record_payload.Kinds as mf4-record-payload-kinds
+use Rattle.mf4.proofs.mf4_record_payload.Reads as mf4-record-payload
 
 pub mf4-read-header-arguments : (κs : Lfts 1) (bytes : Slice) (y : Mf4Header)
     → Allows 1 mf4-read-header-kinds.ps mf4-read-header-kinds.r mf4-read-header.Learnt κs (bytes, tt) y (tt, tt)
@@ -168,3 +172,8 @@ pub mf4-record-value-arguments : (κs : Lfts 2) (file : Slice) (start number rec
     → Allows 2 mf4-record-value-kinds.ps mf4-record-value-kinds.r mf4-record-value.Learnt κs (file, (start, (number, (recordSize, (recordIdSize, (dataBytes, (channel, (buffer, tt)))))))) y (tt, (tt, (tt, (tt, (tt, (tt, (tt, (after, tt))))))))
     ≡ (returned y after ≡ returnedBy validValueC (valueFetched (file .now) start number recordSize recordIdSize dataBytes (channelGiven channel) (buffer .now)))
 mf4-record-value-arguments κs file start number recordSize recordIdSize dataBytes channel buffer y after = refl
+
+pub mf4-record-payload-arguments : (κs : Lfts 3) (file : Slice) (start number recordSize recordIdSize dataBytes : ℕ) (channel : Mf4Channel) («record» payload : Slice) (y : Mf4Payload) (recordAfter payloadAfter : List ℕ)
+    → Allows 3 mf4-record-payload-kinds.ps mf4-record-payload-kinds.r mf4-record-payload.Learnt κs (file, (start, (number, (recordSize, (recordIdSize, (dataBytes, (channel, («record», (payload, tt))))))))) y (tt, (tt, (tt, (tt, (tt, (tt, (tt, (recordAfter, (payloadAfter, tt)))))))))
+    ≡ (returnedBoth y recordAfter payloadAfter ≡ returnedBothBy payloadC (payloadFetched (file .now) start number recordSize recordIdSize dataBytes (channelGiven channel) («record» .now) (payload .now)))
+mf4-record-payload-arguments κs file start number recordSize recordIdSize dataBytes channel «record» payload y recordAfter payloadAfter = refl

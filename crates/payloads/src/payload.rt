@@ -85,7 +85,13 @@ pub(crate) fn store_payload(
     if buffer.len() < size {
         return PayloadStored::Refused(Refusal::NoRoom(size as u64));
     }
-    window(file, place, &DataBlock::SIGNAL_ID, first, &mut buffer[..size]);
+    window(
+        file,
+        place,
+        &DataBlock::SIGNAL_ID,
+        first,
+        &mut buffer[..size],
+    );
     PayloadStored::Bytes(size)
 }
 

@@ -77,7 +77,13 @@ pub fn read_payload(
     let PayloadStored::Bytes(length) = stored else {
         return PayloadRead::Refused(stored.refusal());
     };
-    payload_value(&record[..size], &payload[..length], record_id_size, data_bytes, channel)
+    payload_value(
+        &record[..size],
+        &payload[..length],
+        record_id_size,
+        data_bytes,
+        channel,
+    )
 }
 
 impl PayloadRead {

@@ -3,9 +3,11 @@ use mathlib.Core.Path.{_≡_, sym, ap, ap₂, _∙_}
 use mathlib.Core.List.{List}
 use Prim.Native.Nat.{ℕ}
 use Rattle.definitions.specs.Reply.{Reply, Outcome, refusal}
+use Rattle.definitions.specs.Payload.{Outcomes}
 use Rattle.refusals.specs.Meaning.{refusalNumber, toldOf, refused}
 use Rattle.refusals.specs.declared.Refusal.{Refusal}
 use Rattle.replies.specs.Replies.{returned, returnedBy}
+use Rattle.replies.specs.Values.{returnedBoth, returnedBothBy}
 
 -- R is the library's answer
 module _ {R A C : Type 0} (toC : Reply A → C) (meant : R → Reply A) where
@@ -22,6 +24,11 @@ module _ {R A C : Type 0} (toC : Reply A → C) (meant : R → Reply A) where
   pub handed-back-given : {X : Type 0} (o : X → Outcome A) {x y : X} (read : R) {r : C} {out : List ℕ} → r ≡ toC (meant read)
       → record { reply = meant read; buffer = out } ≡ o x → x ≡ y → returned r out ≡ returnedBy toC (o y)
   handed-back-given o read er eo ex = handed-back read er (eo ∙ ap o ex)
+
+  -- of a call that was lent two buffers
+  pub handed-back-both : {X : Type 0} (o : X → Outcomes A) {x y : X} (read : R) {r : C} {a b : List ℕ} → r ≡ toC (meant read)
+      → record { reply = meant read; recordBuffer = a; payloadBuffer = b } ≡ o x → x ≡ y → returnedBoth r a b ≡ returnedBothBy toC (o y)
+  handed-back-both o read {a = a} {b = b} er eo ex = ap (λ (z : C). returnedBoth z a b) er ∙ ap (returnedBothBy toC) (eo ∙ ap o ex)
 
 -- a refusal by its number and what it tells
 pub by-numbers : {A C : Type 0} (toC : Reply A → C) (q : Refusal) {n t : ℕ} → n ≡ refusalNumber q → t ≡ toldOf q → toC (refusal n t) ≡ toC (refused q)

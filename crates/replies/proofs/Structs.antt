@@ -12,6 +12,7 @@ use Rattle.replies.specs.declared.values.Mf4Value.{Mf4Value}
 use Rattle.replies.specs.declared.valid_values.Mf4ValidValue.{Mf4ValidValue}
 use Rattle.replies.specs.declared.fetches.Mf4Length.{Mf4Length}
 use Rattle.replies.specs.declared.fetches.Mf4Fetched.{Mf4Fetched}
+use Rattle.replies.specs.declared.payload.Mf4Payload.{Mf4Payload}
 use Rattle.replies.proofs.written.Mf4Written as mf4-written
 use Rattle.replies.proofs.header.Mf4BlockHeader as mf4-block-header
 use Rattle.replies.proofs.header.Mf4Header as mf4-header
@@ -24,6 +25,7 @@ use Rattle.replies.proofs.values.Mf4Value as mf4-value
 use Rattle.replies.proofs.valid_values.Mf4ValidValue as mf4-valid-value
 use Rattle.replies.proofs.fetches.Mf4Length as mf4-length
 use Rattle.replies.proofs.fetches.Mf4Fetched as mf4-fetched
+use Rattle.replies.proofs.payload.Mf4Payload as mf4-payload
 
 pub mf4-written-fields : (s : Mf4Written) → mf4-written.struct .as-values s ≡ (s .reply, (s .told, (s .count, tt)))
 mf4-written-fields s = refl
@@ -60,3 +62,6 @@ mf4-length-fields s = refl
 
 pub mf4-fetched-fields : (s : Mf4Fetched) → mf4-fetched.struct .as-values s ≡ (s .reply, (s .told, tt))
 mf4-fetched-fields s = refl
+
+pub mf4-payload-fields : (s : Mf4Payload) → mf4-payload.struct .as-values s ≡ (s .reply, (s .kind, (s .told, (s .number, (s .at, (s .length, (s .«payload_length», (s .«is_valid», tt))))))))
+mf4-payload-fields s = refl

@@ -16,11 +16,12 @@ use Rattle.definitions.specs.Header.{Header}
 use Rattle.definitions.specs.DataList.{DataList}
 use Rattle.definitions.specs.DataType.{DataType, typeOf, isKnown, codeOf}
 use Rattle.definitions.specs.ChannelBlock.{ChannelBlock}
+use Rattle.definitions.specs.Payload.{PayloadValue}
 use Rattle.definitions.specs.Channel.{Channel, Value, ValidValue, unsigned, signed, double, text, bytes, sample, stream, unknownValue, doubleValue}
 use Rattle.definitions.proofs.Types.{known-back, not-known}
 use Rattle.replies.specs.Replies.{flagC, writtenC, headerC, headerGiven, listC, textC}
 use Rattle.replies.specs.Channels.{typeC, descriptionC, blockC, blockGiven, channelC}
-use Rattle.replies.specs.Values.{channelGiven, wordOf, decodedC, valueC, validValueC, lengthC, fetchedC}
+use Rattle.replies.specs.Values.{channelGiven, wordOf, decodedC, valueC, validValueC, lengthC, fetchedC, payloadC}
 use Rattle.replies.specs.declared.written.Mf4Written.{Mf4Written}
 use Rattle.replies.specs.declared.header.Mf4Header.{Mf4Header}
 use Rattle.replies.specs.declared.list.Mf4List.{Mf4List}
@@ -28,6 +29,7 @@ use Rattle.replies.specs.declared.channel_block.Mf4ChannelReply.{Mf4Chan
 use Rattle.replies.specs.declared.texts.Mf4Text.{Mf4Text}
 use Rattle.replies.specs.declared.values.Mf4Value.{Mf4Value}
 use Rattle.replies.specs.declared.valid_values.Mf4ValidValue.{Mf4ValidValue}
+use Rattle.replies.specs.declared.payload.Mf4Payload.{Mf4Payload}
 use Rattle.replies.specs.declared.fetches.Mf4Length.{Mf4Length}
 use Rattle.replies.specs.declared.fetches.Mf4Fetched.{Mf4Fetched}
 
@@ -230,4 +232,17 @@ pub valid-value-told : (r : Reply ValidValue) → Tellable (λ v. Reversible (v 
 valid-value-told =
     told-by (λ v. Reversible (v .value)) validValueC validValueAgain
     (λ v h. ap₂ (λ (x : Value) (b : Bool). answer (record { value = x; valid = b })) (value-back (v .value) h) (flag-back (v .valid)))
+    (again-refused _)
+
+-- ---- payloads
+
+abbrev pub payloadAgain : Mf4Payload → Reply PayloadValue
+payloadAgain s =
+    again (s .reply) (s .told)
+    (record { value = valueAgain (s .kind) (s .number) (s .at) (s .length); valid = eqb (s .«is_valid») 1; size = s .«payload_length» })
+
+pub payload-told : (r : Reply PayloadValue) → Tellable (λ v. Reversible (v .value)) r → payloadAgain (payloadC r) ≡ r
+payload-told =
+    told-by (λ v. Reversible (v .value)) payloadC payloadAgain
+    (λ v h. ap₂ (λ (x : Value) (b : Bool). answer (record { value = x; valid = b; size = v .size })) (value-back (v .value) h) (flag-back (v .valid)))
     (again-refused _)

@@ -80,8 +80,8 @@ fetchedC (refusal n t) = record { reply = n; told = t }
 
 -- ---- payloads
 
-abbrev pub payloadAnswerC : Shown → ℕ → ℕ → Mf4Payload
-payloadAnswerC d size valid = record {
+abbrev pub payloadAnswerC : ℕ → Shown → ℕ → Mf4Payload
+payloadAnswerC size d valid = record {
   reply = 0;
   kind = d .kind;
   told = 0;
@@ -93,7 +93,7 @@ payloadAnswerC d size valid = record {
 }
 
 abbrev pub payloadC : Reply PayloadValue → Mf4Payload
-payloadC (answer v) = payloadAnswerC (decodedC (v .value)) (v .size) (flagC (v .valid))
+payloadC (answer v) = payloadAnswerC (v .size) (decodedC (v .value)) (flagC (v .valid))
 payloadC (refusal n t) =
     record { reply = n; kind = 0; told = t; number = 0; at = 0; length = 0; «payload_length» = 0; «is_valid» = 0 }
 

@@ -40,8 +40,11 @@ further-requires c κs =
     let else = c .before in
     let told = else .before .before in
     let a = told .before .before .before .before .before .before .args in
-    omega (arith, leb-true (a .position .0 + 4) (told .before .found .given .0 .0 .0) (there else),
-    limited (a .file .now) (a .start .0) (a .position .0) (told .before .before .before .locate .ensures) (told .before .found .given .1))
+    omega (
+      arith,
+      leb-true (a .position .0 + 4) (told .before .found .given .0 .0 .0) (there else),
+      limited (a .file .now) (a .start .0) (a .position .0) (told .before .before .before .locate .ensures) (told .before .found .given .1),
+    )
 
 returns-3 : tie.Need-returns-3
 returns-3 c =
