@@ -204,7 +204,7 @@ module _ (s : List ℕ) (idSize : ℕ) (c : Channel) {word from : ℕ} (near : N
 -- ---- elsewhere
 
 -- the place of the field, its type, and whether there is a payload, say all of its value
-abbrev alike : Channel → ℕ → ℕ → Channel
+abbrev pub alike : Channel → ℕ → ℕ → Channel
 alike c channelType dataLink = placed (c .dataType) channelType (c .bitOffset) (c .byteOffset) (c .bitCount) dataLink
 
 decoded-alike : (type : DataType) (s : List ℕ) (at n : ℕ) (c : Channel) (t d : ℕ) → decoded type s at n (alike c t d) ≡ decoded type s at n c
@@ -232,7 +232,7 @@ module _ (s : List ℕ) (idSize : ℕ) (c : Channel) (t d : ℕ) (same : variabl
   by-alike k at n =
       value-tested k at n s (alike c t d) ∙ ap (tested k at n (length s) c) (decoded-alike (c .dataType) s at n c t d) ∙ sym (value-tested k at n s c)
 
-  value-alike : valueOf s idSize (alike c t d) ≡ valueOf s idSize c
+  pub value-alike : valueOf s idSize (alike c t d) ≡ valueOf s idSize c
   unfolding valueOf
   value-alike =
       let k : Kind = kindOf (c .dataType) in

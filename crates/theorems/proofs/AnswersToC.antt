@@ -36,7 +36,7 @@ use Rattle.theorems.proofs.Answers.{header-exactly, list-exactly, chann
 use Rattle.theorems.proofs.ToldToC.{mf4-read-header-told, mf4-write-header-told, mf4-read-list-told, mf4-write-list-equal-told, mf4-write-list-variable-told, mf4-read-channel-told, mf4-write-channel-told, mf4-text-told, mf4-decode-value-told, mf4-decode-valid-value-told, mf4-data-length-told, mf4-read-record-told, mf4-record-value-told}
 
 -- a struct tells an answer exactly where its reply is 0
-zero-exactly : {A P : Type 0} (n t : ℕ) (a : A) (r : Reply A) → (if eqb n 0 then answer a else refusal n t) ≡ r → Exactly P r → ExactlyZero P n
+pub zero-exactly : {A P : Type 0} (n t : ℕ) (a : A) (r : Reply A) → (if eqb n 0 then answer a else refusal n t) ≡ r → Exactly P r → ExactlyZero P n
 zero-exactly {A} {P} n t a r q h = go (eqb n 0) refl q
   where
     go : (b : Bool) → eqb n 0 ≡ b → (if b then answer a else refusal n t) ≡ r → ExactlyZero P n

@@ -21,6 +21,8 @@ pub mod Answers
 pub mod RefusalNumbers
 pub mod Causes
 pub mod LeftAlone
+pub mod PayloadEnds
+pub mod PayloadAnswers
 pub mod LeftAloneByCalls
 pub mod AnswersByCalls
 pub mod RoundTripsInBuffers
@@ -32,3 +34,6 @@ pub mod LocalityByCalls
 pub mod AnswersToC
 pub mod LeftAloneToC
 pub mod RoundTripsToC
+pub mod PayloadsByCalls
+pub mod PayloadsToC
+pub mod TwoFilesPayloads

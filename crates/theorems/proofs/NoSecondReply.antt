@@ -1,5 +1,5 @@
 -- No public call has a second reply: each theorem is about the very clause of the call's contract.
-use mathlib.Core.Path.{_≡_, refl, sym, ap, _∙_}
+use mathlib.Core.Path.{_≡_, refl, sym, ap, ap₂, _∙_}
 use mathlib.Core.List.{List}
 use Prim.Native.Nat.{ℕ}
 use contract.Lifetimes.{Lfts}
@@ -20,6 +20,7 @@ use Rattle.text.proofs.Back.{text-one}
 use Rattle.fields.proofs.Back.{description-one, field-one, value-one, valid-value-one}
 use Rattle.chain.proofs.Back.{chain-one}
 use Rattle.records.proofs.Back.{record-one}
+use Rattle.payloads.proofs.Back.{payload-fetched-one}
 use Rattle.refusals.proofs.Refusal.number.Kinds as refusal-number-kinds
 use Rattle.refusals.proofs.Refusal.number.Reads as refusal-number
 use Rattle.refusals.proofs.Refusal.told.Kinds as refusal-told-kinds
@@ -68,12 +69,18 @@ use Rattle.fields.proofs.is_no_float_width.Kinds as no-float-width-kinds
 use Rattle.fields.proofs.is_no_float_width.Reads as no-float-width
 use Rattle.fields.proofs.find_field.Kinds as field-found-kinds
 use Rattle.fields.proofs.find_field.Reads as field-found
+use Rattle.fields.proofs.ends_outside.Kinds as field-outside-kinds
+use Rattle.fields.proofs.ends_outside.Reads as field-outside
+use Rattle.fields.proofs.bytes_needed.Kinds as field-needed-kinds
+use Rattle.fields.proofs.bytes_needed.Reads as field-needed
 use Rattle.fields.proofs.check_value_validity.Kinds as validity-kinds
 use Rattle.fields.proofs.check_value_validity.Reads as validity
 use Rattle.decoder.proofs.decode_channel_value.Kinds as value-read-kinds
 use Rattle.decoder.proofs.decode_channel_value.Reads as value-read
 use Rattle.decoder.proofs.decode_channel_value_with_validity.Kinds as valid-value-read-kinds
 use Rattle.decoder.proofs.decode_channel_value_with_validity.Reads as valid-value-read
+use Rattle.decoder.proofs.any_value.Kinds as any-value-kinds
+use Rattle.decoder.proofs.any_value.Reads as any-value
 use Rattle.decoder.proofs.any_valid_value.Kinds as any-valid-value-kinds
 use Rattle.decoder.proofs.any_valid_value.Reads as any-valid-value
 use Rattle.decoder.proofs.decode_f64_from_record.Kinds as record-double-kinds
@@ -90,6 +97,8 @@ use Rattle.records.proofs.read_record.Kinds as record-read-kinds
 use Rattle.records.proofs.read_record.Reads as record-read
 use Rattle.records.proofs.read_value.Kinds as record-value-kinds
 use Rattle.records.proofs.read_value.Reads as record-value
+use Rattle.payloads.proofs.read_payload.Kinds as record-payload-kinds
+use Rattle.payloads.proofs.read_payload.Reads as record-payload
 
 -- what differs from call to call is why two replies are one; that a clause asks nothing and is the plain fact is computed
 pub settled : {n : ℕ} {ps : List (PK n)} {r : RK n} {learnt : Out n ps r}
@@ -103,6 +112,10 @@ one-outcome : {A Y B : Type 0} (meaning : Y → Reply A) → ((y z : Y) → mean
     {y z : Y} {b c : List ℕ} → _≡_ {A = Outcome A} (record { reply = meaning y; buffer = b }) (record { reply = meaning z; buffer = c })
     → (y ≡ z) × (place b ≡ place c)
 one-outcome {A} meaning one place {y} {z} e = (one y z (ap (λ (o : Outcome A). o .reply) e), ap (λ (o : Outcome A). place (o .buffer)) e)
+
+-- one result and two buffers, which stand among the lent ones at their places
+pub in-places : {Y B : Type 0} (place : List ℕ → List ℕ → B) {y z : Y} {a b v w : List ℕ} → (y ≡ z) × (a ≡ b) × (v ≡ w) → (y ≡ z) × (place a v ≡ place b w)
+in-places place one = (one .0, ap₂ place (one .1) (one .2))
 
 pub refusal-number-settled : Settled 0 refusal-number-kinds.ps refusal-number-kinds.r refusal-number.Asked refusal-number.ensures refusal-number.Learnt
 refusal-number-settled = settled (λ κs a y z b c p q. (p ∙ sym q, refl))
@@ -176,6 +189,12 @@ no-float-width-settled = settled (λ κs a y z b c p q. (p ∙ sym q, refl))
 pub field-found-settled : Settled 1 field-found-kinds.ps field-found-kinds.r field-found.Asked field-found.ensures field-found.Learnt
 field-found-settled = settled (λ κs a y z b c p q. (field-one _ _ _ _ _ _ y z p q, refl))
 
+pub field-outside-settled : Settled 0 field-outside-kinds.ps field-outside-kinds.r field-outside.Asked field-outside.ensures field-outside.Learnt
+field-outside-settled = settled (λ κs a y z b c p q. (p ∙ sym q, refl))
+
+pub field-needed-settled : Settled 0 field-needed-kinds.ps field-needed-kinds.r field-needed.Asked field-needed.ensures field-needed.Learnt
+field-needed-settled = settled (λ κs a y z b c p q. (p ∙ sym q, refl))
+
 pub value-read-settled : Settled 1 value-read-kinds.ps value-read-kinds.r value-read.Asked value-read.ensures value-read.Learnt
 value-read-settled = settled (λ κs a y z b c p q. (value-one y z (p ∙ sym q), refl))
 
@@ -184,6 +203,9 @@ validity-settled = settled (λ κs a y z b c p q. (p ∙ sym q, refl))
 
 pub valid-value-read-settled : Settled 1 valid-value-read-kinds.ps valid-value-read-kinds.r valid-value-read.Asked valid-value-read.ensures valid-value-read.Learnt
 valid-value-read-settled = settled (λ κs a y z b c p q. (valid-value-one y z (p ∙ sym q), refl))
+
+pub any-value-settled : Settled 1 any-value-kinds.ps any-value-kinds.r any-value.Asked any-value.ensures any-value.Learnt
+any-value-settled = settled (λ κs a y z b c p q. (value-one y z (p ∙ sym q), refl))
 
 pub any-valid-value-settled : Settled 1 any-valid-value-kinds.ps any-valid-value-kinds.r any-valid-value.Asked any-valid-value.ensures any-valid-value.Learnt
 any-valid-value-settled = settled (λ κs a y z b c p q. (valid-value-one y z (p ∙ sym q), refl))
@@ -208,3 +230,6 @@ record-read-settled = settled (λ κs a y z b c p q. one-outcome recordReply rec
 
 pub record-value-settled : Settled 2 record-value-kinds.ps record-value-kinds.r record-value.Asked record-value.ensures record-value.Learnt
 record-value-settled = settled (λ κs a y z b c p q. one-outcome validValueReply valid-value-one (λ out. (tt, (tt, (tt, (tt, (tt, (tt, (tt, (out, tt))))))))) (p ∙ sym q))
+
+pub record-payload-settled : Settled 3 record-payload-kinds.ps record-payload-kinds.r record-payload.Asked record-payload.ensures record-payload.Learnt
+record-payload-settled = settled (λ κs a y z b c p q. in-places (λ out room. (tt, (tt, (tt, (tt, (tt, (tt, (tt, (out, (room, tt)))))))))) (payload-fetched-one y z _ _ _ _ (p ∙ sym q)))

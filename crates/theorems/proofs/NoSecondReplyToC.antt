@@ -3,8 +3,9 @@ use mathlib.Core.Path.{_≡_, refl, sym, ap, _∙_}
 use mathlib.Core.List.{List}
 use Prim.Native.Nat.{ℕ}
 use Rattle.theorems.specs.Sole.{Settled}
-use Rattle.theorems.proofs.NoSecondReply.{settled}
+use Rattle.theorems.proofs.NoSecondReply.{settled, in-places}
 use Rattle.replies.specs.Replies.{Returned, returned}
+use Rattle.replies.specs.Values.{ReturnedBoth, returnedBoth}
 use Rattle.mf4.proofs.mf4_read_header.Kinds as mf4-read-header-kinds
 use Rattle.mf4.proofs.mf4_read_header.Reads as mf4-read-header
 use Rattle.mf4.proofs.mf4_write_header.Kinds as mf4-write-header-kinds
@@ -45,10 +46,17 @@ use Rattle.mf4.proofs.mf4_read_record.Kinds as mf4-read-record-kinds
 use Rattle.mf4.proofs.mf4_read_record.Reads as mf4-read-record
 use Rattle.mf4.proofs.mf4_record_value.Kinds as mf4-record-value-kinds
 use Rattle.mf4.proofs.mf4_record_value.Reads as mf4-record-value
+use Rattle.mf4.proofs.mf4_record_payload.Kinds as mf4-record-payload-kinds
+use Rattle.mf4.proofs.mf4_record_payload.Reads as mf4-record-payload
 
 -- what is returned comes of one struct, and of one buffer, which stands among the lent ones at its place
 one-returned : {R B : Type 0} (place : List ℕ → B) {y z : R} {b c : List ℕ} → returned y b ≡ returned z c → (y ≡ z) × (place b ≡ place c)
 one-returned {R} place e = (ap (λ (x : Returned R). x .result) e, ap (λ (x : Returned R). place (x .buffer)) e)
+
+-- the same of two buffers
+pub one-returned-both : {R : Type 0} {y z : R} {a b v w : List ℕ} → returnedBoth y a v ≡ returnedBoth z b w → (y ≡ z) × (a ≡ b) × (v ≡ w)
+one-returned-both {R} e =
+    (ap (λ (x : ReturnedBoth R). x .result) e, ap (λ (x : ReturnedBoth R). x .recordBuffer) e, ap (λ (x : ReturnedBoth R). x .payloadBuffer) e)
 
 pub mf4-read-header-settled : Settled 1 mf4-read-header-kinds.ps mf4-read-header-kinds.r mf4-read-header.Asked mf4-read-header.ensures mf4-read-header.Learnt
 mf4-read-header-settled = settled (λ κs a y z b c p q. (p ∙ sym q, refl))
@@ -109,3 +117,6 @@ mf4-read-record-settled = settled (λ κs a y z b c p q. one-returned (λ out. (
 
 pub mf4-record-value-settled : Settled 2 mf4-record-value-kinds.ps mf4-record-value-kinds.r mf4-record-value.Asked mf4-record-value.ensures mf4-record-value.Learnt
 mf4-record-value-settled = settled (λ κs a y z b c p q. one-returned (λ out. (tt, (tt, (tt, (tt, (tt, (tt, (tt, (out, tt))))))))) (p ∙ sym q))
+
+pub mf4-record-payload-settled : Settled 3 mf4-record-payload-kinds.ps mf4-record-payload-kinds.r mf4-record-payload.Asked mf4-record-payload.ensures mf4-record-payload.Learnt
+mf4-record-payload-settled = settled (λ κs a y z b c p q. in-places (λ out room. (tt, (tt, (tt, (tt, (tt, (tt, (tt, (out, (room, tt)))))))))) (one-returned-both (p ∙ sym q)))

@@ -1,5 +1,5 @@
--- Which numbers refusals have: a field's are 18 to 22, and all others 2 to 17. So a reply of 0 is an answer, and one from 18 on
--- is about a field.
+-- Which numbers refusals have: a field's are 18 to 22, those of blocks, chains and records 2 to 17, and a payload's also 21, 23
+-- and 35. So a reply of 0 is an answer, and of a value one from 18 on is about a field.
 use mathlib.Core.Path.{_≡_, refl, sym}
 use mathlib.Core.Bool.{Bool, true, false, not, _&&_, _||_}
 use mathlib.Core.List.{List, [], _∷_, _++_}
@@ -9,7 +9,7 @@ use lib.ListN.{length, take, drop}
 use lib.Dec.{ltb, leb, eqb}
 use borrow.Author.Tests.{leb-true}
 use Rattle.definitions.specs.Reply.{Reply, Outcome, answer, refusal, if_then_else_, andThen, told, writing, onAnswer}
-use Rattle.definitions.specs.Bytes.{u64At, idAt}
+use Rattle.definitions.specs.Bytes.{u32At, u64At, idAt}
 use Rattle.definitions.specs.Unicode.{Encoding, textOf, writtenText, textWritten}
 use Rattle.definitions.specs.Header.{Header, headerOf, headerBytes, headerWritten}
 use Rattle.definitions.specs.DataType.{Kind, kindOf}
@@ -17,6 +17,7 @@ use Rattle.definitions.specs.DataList.{DataList, Lengths, idDL, listOf, linksOf
 use Rattle.definitions.specs.ChannelBlock.{ChannelBlock, idCN, fieldsAt, fieldsOf, channelBlockOf, channelBytes, channelWritten}
 use Rattle.definitions.specs.Channel.{Channel, ValidValue, startOf, spanOf, isInteger, isFloating, isNumber, valueBy, valueOf, validValueOf}
 use Rattle.definitions.specs.Chain.{Block, idDT, dataLimit, fileLimit, fragmentLimit, hasHeader, blockAt, declared, judged, fragmentOf, fragments, agrees, admitted, listAt, Declaration, declarationOf, keepsTo, chainedAt, lists, listLimit, chainOf, totalOf, dataLength, joined, badSize, recordOf, fetched, valueFetched}
+use Rattle.definitions.specs.Payload.{idSD, positionOf, payloadAt, joinedOf, payloadOf}
 use Rattle.definitions.proofs.Replies.{not-answered, both}
 
 -- P holds of every refusal's number and of what it tells
@@ -40,10 +41,10 @@ pub weaker : {A : Type 0} {P Q : ℕ → ℕ → Type 0} (r : Reply A) → ((n t
 weaker r on h n t e = on n t (h n t e)
 
 module _ (P : ℕ → ℕ → Type 0) where
-  of-answer : {A : Type 0} (a : A) → Numbered P (answer a)
+  pub of-answer : {A : Type 0} (a : A) → Numbered P (answer a)
   of-answer a n t e = not-answered a n t (sym e)
 
-  of-refusal : {A : Type 0} (n t : ℕ) → P n t → Numbered {A = A} P (refusal n t)
+  pub of-refusal : {A : Type 0} (n t : ℕ) → P n t → Numbered {A = A} P (refusal n t)
   of-refusal n t p m s e = let en : n ≡ m = cc in let et : t ≡ s = cc in rw (← en, ← et) p
 
   of-either : {A : Type 0} (b : Bool) (q r : Reply A) → Numbered P q → Numbered P r → Numbered P (if b then q else r)
@@ -249,3 +250,33 @@ module _ (f : List ℕ) (start k size : ℕ) (out : List ℕ) (idSize dataBytes 
       go : (r : Reply (Unit {0})) → andThen r (λ u. validValueOf (take size (fetched f start k size out .buffer)) idSize dataBytes c) ≡ refusal n t → r ≡ refusal n t
       go (answer u) e = let no : ⊥ = omega (arith, between 18 22 n (valid-value-numbered _ idSize c dataBytes n t e) .0) in absurd no
       go (refusal m s) e = cc
+
+-- ---- a payload
+
+abbrev pub OfPayloads : ℕ → ℕ → Type 0
+OfPayloads n t = leb 2 n && leb n 17 || eqb n 21 || eqb n 23 || eqb n 35 ≡ true
+
+pub of-blocks-too : (n t : ℕ) → OfBlocks n t → OfPayloads n t
+of-blocks-too n t h = rw h
+
+module _ (f s : List ℕ) (idSize : ℕ) (c : Channel) where
+  position-numbered : Numbered OfPayloads (positionOf s idSize c)
+  unfolding positionOf
+  position-numbered = of-test OfPayloads (ltb (length s) (idSize + c .byteOffset + 8)) 21 _ _ refl (of-answer OfPayloads _)
+
+  joined-numbered : Numbered OfPayloads (joinedOf idSD f (c .dataLink))
+  unfolding joinedOf
+  joined-numbered =
+      of-following OfPayloads (chainOf idSD f (c .dataLink)) _ (weaker _ of-blocks-too (chain-numbered idSD f (c .dataLink))) (λ bs. of-answer OfPayloads _)
+
+  at-numbered : (j : List ℕ) (p : ℕ) → Numbered OfPayloads (payloadAt j p)
+  unfolding payloadAt
+  at-numbered j p =
+      of-test OfPayloads (ltb (length j) (p + 4)) 23 0 _ refl
+      (of-test OfPayloads (ltb (length j) (p + 4 + u32At j p)) 23 0 _ refl (of-answer OfPayloads _))
+
+  pub payload-numbered : Numbered OfPayloads (payloadOf (joinedOf idSD f (c .dataLink)) s idSize c)
+  unfolding payloadOf
+  payload-numbered =
+      of-following OfPayloads (positionOf s idSize c) _ position-numbered
+      (λ p. of-following OfPayloads (joinedOf idSD f (c .dataLink)) _ joined-numbered (λ j. at-numbered j p))

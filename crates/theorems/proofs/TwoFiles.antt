@@ -11,12 +11,16 @@ use Rattle.definitions.specs.Accepted.{Accepted}
 use Rattle.chain.proofs.Chains.{joined-length, chain-stands}
 use Rattle.theorems.proofs.AcceptedChains.{accepts}
 
--- a file within the limit of 7, with an accepted chain of ##DT blocks that joins to j
-pub record Joins (f : List ℕ) (start : ℕ) (j : List ℕ) : Type 0 where
+-- a file within the limit of 7, with an accepted chain of blocks with that id that joins to j
+pub record JoinsBy (id f : List ℕ) (start : ℕ) (j : List ℕ) : Type 0 where
   pub short : length f ≤ fileLimit
   pub blocks : List Block
-  pub accepted : Accepted idDT f start blocks
+  pub accepted : Accepted id f start blocks
   pub same : joined f blocks ≡ j
+
+-- of ##DT blocks
+abbrev pub Joins : List ℕ → ℕ → List ℕ → Type 0
+Joins = JoinsBy idDT
 
 -- what the definitions give on the joined bytes alone
 abbrev pub recordIn : List ℕ → ℕ → ℕ → List ℕ → Outcome (Unit {0})

@@ -19,6 +19,7 @@ use Rattle.fields.specs.declared.value.ValidValueRead.{ValidValueRead}
 use Rattle.chain.specs.declared.place.FileAddress.{FileAddress}
 use Rattle.chain.specs.declared.acceptance.ChainRead.{ChainRead}
 use Rattle.records.specs.declared.record.RecordRead.{RecordRead}
+use Rattle.payloads.specs.declared.value.PayloadRead.{PayloadRead}
 use Rattle.blocks.proofs.header.BlockHeader.from_bytes.Kinds as header-read-kinds
 use Rattle.blocks.proofs.header.BlockHeader.from_bytes.Reads as header-read
 use Rattle.blocks.proofs.header.BlockHeader.to_bytes.Kinds as header-write-kinds
@@ -53,6 +54,8 @@ use Rattle.records.proofs.read_record.Kinds as record-read-kinds
 use Rattle.records.proofs.read_record.Reads as record-read
 use Rattle.records.proofs.read_value.Kinds as record-value-kinds
 use Rattle.records.proofs.read_value.Reads as record-value
+use Rattle.payloads.proofs.read_payload.Kinds as record-payload-kinds
+use Rattle.payloads.proofs.read_payload.Reads as record-payload
 
 -- ---- blocks
 
@@ -128,3 +131,11 @@ ReadsRecordValue κs file start number size idSize dataBytes channel out y after
     Allows 2 record-value-kinds.ps record-value-kinds.r record-value.Learnt κs
     (file, (start, (number, (size, (idSize, (dataBytes, (channel, (out, tt)))))))) y
     (tt, (tt, (tt, (tt, (tt, (tt, (tt, (after, tt))))))))
+
+-- ---- a payload
+
+abbrev pub ReadsPayload : Lfts 3 → Slice → FileAddress → ℕ → ℕ → ℕ → ℕ → Channel → Slice → Slice → PayloadRead → List ℕ → List ℕ → Type 0
+ReadsPayload κs file start number size idSize dataBytes channel out room y after later =
+    Allows 3 record-payload-kinds.ps record-payload-kinds.r record-payload.Learnt κs
+    (file, (start, (number, (size, (idSize, (dataBytes, (channel, (out, (room, tt))))))))) y
+    (tt, (tt, (tt, (tt, (tt, (tt, (tt, (after, (later, tt)))))))))

@@ -18,6 +18,7 @@ use Rattle.replies.specs.declared.values.Mf4Value.{Mf4Value}
 use Rattle.replies.specs.declared.valid_values.Mf4ValidValue.{Mf4ValidValue}
 use Rattle.replies.specs.declared.fetches.Mf4Length.{Mf4Length}
 use Rattle.replies.specs.declared.fetches.Mf4Fetched.{Mf4Fetched}
+use Rattle.replies.specs.declared.payload.Mf4Payload.{Mf4Payload}
 use Rattle.mf4.proofs.mf4_read_header.Kinds as read-header-kinds
 use Rattle.mf4.proofs.mf4_read_header.Reads as read-header
 use Rattle.mf4.proofs.mf4_write_header.Kinds as write-header-kinds
@@ -54,6 +55,8 @@ use Rattle.mf4.proofs.mf4_read_record.Kinds as read-record-kinds
 use Rattle.mf4.proofs.mf4_read_record.Reads as read-record
 use Rattle.mf4.proofs.mf4_record_value.Kinds as record-value-kinds
 use Rattle.mf4.proofs.mf4_record_value.Reads as record-value
+use Rattle.mf4.proofs.mf4_record_payload.Kinds as record-payload-kinds
+use Rattle.mf4.proofs.mf4_record_payload.Reads as record-payload
 
 -- ---- blocks
 
@@ -121,3 +124,11 @@ ReadsRecordValueC κs file start number size idSize dataBytes channel out y afte
     Allows 2 record-value-kinds.ps record-value-kinds.r record-value.Learnt κs
     (file, (start, (number, (size, (idSize, (dataBytes, (channel, (out, tt)))))))) y
     (tt, (tt, (tt, (tt, (tt, (tt, (tt, (after, tt))))))))
+
+-- ---- a payload
+
+abbrev pub ReadsPayloadC : Lfts 3 → Slice → ℕ → ℕ → ℕ → ℕ → ℕ → Mf4Channel → Slice → Slice → Mf4Payload → List ℕ → List ℕ → Type 0
+ReadsPayloadC κs file start number size idSize dataBytes channel out room y after later =
+    Allows 3 record-payload-kinds.ps record-payload-kinds.r record-payload.Learnt κs
+    (file, (start, (number, (size, (idSize, (dataBytes, (channel, (out, (room, tt))))))))) y
+    (tt, (tt, (tt, (tt, (tt, (tt, (tt, (after, (later, tt)))))))))

@@ -7,12 +7,13 @@ use Prim.Native.Nat.{ℕ, _+_, _*_, _≤_, _<_}
 use lib.ListN.{length}
 use Rattle.definitions.specs.Reply.{Reply, answer}
 use Rattle.definitions.specs.DataType.{Kind, integer, floating, whole, undecoded, kindOf}
-use Rattle.definitions.specs.Bytes.{span, u64At, idAt}
+use Rattle.definitions.specs.Bytes.{span, u32At, u64At, idAt}
 use Rattle.definitions.specs.DataList.{Lengths, equal, variable, idDL, linkLimit, flagsAt, restIn, listSize, restFor}
 use Rattle.definitions.specs.ChannelBlock.{idCN, fieldsAt}
-use Rattle.definitions.specs.Channel.{Channel, startOf, spanOf}
+use Rattle.definitions.specs.Channel.{Channel, startOf, spanOf, isNumber}
 use Rattle.definitions.specs.Chain.{Block, idDT, fileLimit, recordLimit, joined}
 use Rattle.definitions.specs.Accepted.{Accepted}
+use Rattle.definitions.specs.Payload.{idSD}
 
 -- there is an answer where P holds, and nowhere else
 pub record Exactly {A : Type 0} (P : Type 0) (r : Reply A) : Type 0 where
@@ -82,3 +83,33 @@ pub record ValueFetchable (f : List ℕ) (start k size idSize : ℕ) (c : Channe
   pub fetchable : Fetchable f start k size out
   -- in the record's own bytes
   pub field : FieldStands (span (joined f (fetchable .blocks)) (k * size) size) idSize c
+
+-- ---- a payload
+
+-- a channel of variable length with a field of eight whole bytes
+pub record Positioned (c : Channel) : Type 0 where
+  pub variable : c .channelType ≡ 1
+  pub linked : 0 < c .dataLink
+  pub from-first : c .bitOffset ≡ 0
+  pub eight : c .bitCount ≡ 64
+
+-- the record that can be fetched
+abbrev pub recordOf : (f : List ℕ) (start k size : ℕ) (out : List ℕ) → Fetchable f start k size out → List ℕ
+recordOf f start k size out h = span (joined f (h .blocks)) (k * size) size
+
+pub record PayloadFetchable (f : List ℕ) (start k size idSize : ℕ) (c : Channel) (out room : List ℕ) : Type 0 where
+  pub positioned : Positioned c
+  pub fetchable : Fetchable f start k size out
+  -- the position lies in the record
+  pub within : idSize + c .byteOffset + 8 ≤ size
+  pub blocks : List Block
+  pub accepted : Accepted idSD f (c .dataLink) blocks
+  -- there the length n lies in the joined data, and the payload behind it
+  pub position : ℕ
+  pub told : u64At (recordOf f start k size out fetchable) (idSize + c .byteOffset) ≡ position
+  pub n : ℕ
+  pub length-is : u32At (joined f blocks) position ≡ n
+  pub inside : position + 4 + n ≤ length (joined f blocks)
+  -- the buffer holds it, and a number has its eight bytes
+  pub fits : n ≤ length room
+  pub enough : isNumber (kindOf (c .dataType)) ≡ true → 8 ≤ n

@@ -4,3 +4,4 @@ pub mod Clauses
 pub mod ClausesToC
 pub mod Exactly
 pub mod Causes
+pub mod PayloadEnds
