@@ -8,8 +8,9 @@ use Rattle.definitions.specs.Header.{headerOf, headerBytes}
 use Rattle.definitions.specs.DataList.{listOf, linksOf, restOf, listBytes}
 use Rattle.definitions.specs.ChannelBlock.{fieldsOf, channelBlockOf}
 use Rattle.definitions.specs.Chain.{joined, total, blockAt, fragmentOf, fragments, listAt, chainedAt, lists, chainOf, recordOf, fetched}
+use Rattle.definitions.specs.Payload.{positionOf, payloadAt, joinedOf, payloadOf, payloadValueOf, payloadFetched}
 use Rattle.theorems.specs.Examples.{copies, Claim}
 
 pub claim : Claim
-unfolding copies toUnsigned ofBits toBits ofInt leOf le les stopped beforeNul decoded valueBy valueOf recordDouble validOf headerOf headerBytes listOf linksOf restOf listBytes fieldsOf channelBlockOf joined total blockAt fragmentOf fragments listAt chainedAt lists chainOf recordOf fetched
+unfolding copies toUnsigned ofBits toBits ofInt leOf le les stopped beforeNul decoded valueBy valueOf recordDouble validOf headerOf headerBytes listOf linksOf restOf listBytes fieldsOf channelBlockOf joined total blockAt fragmentOf fragments listAt chainedAt lists chainOf recordOf fetched positionOf payloadAt joinedOf payloadOf payloadValueOf payloadFetched
 claim = refl

@@ -10,10 +10,11 @@ use Rattle.definitions.specs.Reply.{Reply, Outcome, answer, refusal}
 use Rattle.definitions.specs.Bytes.{little, big, le, les}
 use Rattle.definitions.specs.Unicode.{latin1}
 use Rattle.definitions.specs.DataType.{DataType, unsignedInteger, signedInteger, float, string, byteArray, canOpenDate}
-use Rattle.definitions.specs.Channel.{Channel, Value, unsigned, signed, double, text, unknownValue, valueOf, recordDouble, validOf}
+use Rattle.definitions.specs.Channel.{Channel, Value, unsigned, signed, double, text, bytes, unknownValue, valueOf, recordDouble, validOf}
 use Rattle.definitions.specs.DataList.{DataList, idDL, listOf, listBytes}
 use Rattle.definitions.specs.ChannelBlock.{ChannelBlock, idCN, channelBlockOf, described}
 use Rattle.definitions.specs.Chain.{idDT, fetched}
+use Rattle.definitions.specs.Payload.{idSD, PayloadValue, Outcomes, payloadFetched}
 
 -- a fixed channel: byte offset, flags, invalidation bit position, data type, bit offset, bit count
 abbrev pub fixed : ℕ → ℕ → ℕ → DataType → ℕ → ℕ → Channel
@@ -92,9 +93,15 @@ channelRead size more = record {
   upperExtended = 16;
 }
 
--- a data block
+-- a block of data with an id, of records and of payloads
+abbrev pub blockWith : List ℕ → List ℕ → List ℕ
+blockWith id content = id ++ le 4 0 ++ le 8 (24 + length content) ++ le 8 0 ++ content
+
 abbrev pub dataBlock : List ℕ → List ℕ
-dataBlock bytes = idDT ++ le 4 0 ++ le 8 (24 + length bytes) ++ le 8 0 ++ bytes
+dataBlock = blockWith idDT
+
+abbrev pub signalBlock : List ℕ → List ℕ
+signalBlock = blockWith idSD
 
 -- 01 to 06 in three blocks of 3, 0 and 3 bytes, with their offsets; and in one block, with its length. The list is at 8
 abbrev pub threeBlocks : List ℕ
@@ -120,6 +127,33 @@ twoLists flags number a n lastFlags lastNumber b =
     le 8 0 ++ listBytes 64 ((112 + n * 8) ∷ []) flags (number ∷ [])
     ++ listBytes 0 (copies n (136 + n * 8 + length a)) lastFlags (lastNumber ∷ []) ++ dataBlock a ++ dataBlock b
 
+-- One record of 9 bytes, from the list at 8 on: a position, and a byte with the invalidation bit. From the list at 97 on, with
+-- offsets, two blocks of payloads at 169 and 196: the length 2, cut behind its third byte, the text PX, and a 00
+abbrev pub remarks : ℕ → ℕ → List ℕ
+remarks position invalid =
+    le 8 0 ++ listBytes 0 (64 ∷ []) 0 (0 ∷ []) ++ dataBlock (le 8 position ++ (invalid ∷ []))
+    ++ listBytes 0 (169 ∷ 196 ∷ []) 0 (0 ∷ 3 ∷ []) ++ signalBlock (2 ∷ 0 ∷ 0 ∷ []) ++ signalBlock (0 ∷ 0x50 ∷ 0x58 ∷ 0 ∷ [])
+
+-- a channel with its position at the given byte, and a link to its payloads
+abbrev pub remark : DataType → ℕ → ℕ → Channel
+remark t at link = record {
+  dataType = t;
+  channelType = 1;
+  bitOffset = 0;
+  byteOffset = at;
+  bitCount = 64;
+  flags = 2;
+  invalidationBit = 0;
+  dataLink = link;
+}
+
+-- its record in a buffer that holds one byte more, and the buffer as it was
+abbrev pub remarkLeft : ℕ → ℕ → List ℕ
+remarkLeft position invalid = le 8 position ++ (invalid ∷ 255 ∷ [])
+
+abbrev pub untouched : List ℕ
+untouched = 255 ∷ 255 ∷ 255 ∷ 255 ∷ 255 ∷ 255 ∷ 255 ∷ 255 ∷ 255 ∷ 255 ∷ []
+
 -- a call, and what it replies
 pub data Row : Type 0 where
   value : List ℕ → Channel → Reply Value → Row
@@ -134,6 +168,9 @@ pub data Row : Type 0 where
   description : ChannelBlock → Channel → Row
   -- record k of size 2 from the chain at 8, into a buffer of 2 bytes FF
   fetch : List ℕ → ℕ → Outcome (Unit {0}) → Row
+  -- the payload of record 0 of size 9 from the chain at 8, with id size 0 and 8 data bytes, into buffers of 10 bytes FF and of
+  -- the given number
+  follow : List ℕ → Channel → ℕ → Reply PayloadValue → List ℕ → List ℕ → Row
 
 -- a reply, of whichever call
 pub data Said : Type 0 where
@@ -144,6 +181,7 @@ pub data Said : Type 0 where
   aBlock : Reply ChannelBlock → Said
   aChannel : Channel → Said
   aRecord : Outcome (Unit {0}) → Said
+  aPayload : Outcomes PayloadValue → Said
 
 -- what the definitions give for a row's call, and what the row says
 abbrev pub given : Row → Said
@@ -155,6 +193,7 @@ given (list s r) = aList (listOf s)
 given (block s r) = aBlock (channelBlockOf s)
 given (description b r) = aChannel (described b)
 given (fetch f k r) = aRecord (fetched f 8 k 2 (255 ∷ 255 ∷ []))
+given (follow f c n r a b) = aPayload (payloadFetched f 8 0 9 0 8 c untouched (copies n 255))
 
 abbrev pub stated : Row → Said
 stated (value s c r) = aValue r
@@ -165,6 +204,7 @@ stated (list s r) = aList r
 stated (block s r) = aBlock r
 stated (description b r) = aChannel r
 stated (fetch f k r) = aRecord r
+stated (follow f c n r a b) = aPayload (record { reply = r; recordBuffer = a; payloadBuffer = b })
 
 abbrev pub table : List Row
 table =
@@ -253,6 +293,22 @@ table =
     ∷ fetch (twoLists 1 4 (1 ∷ 2 ∷ 3 ∷ 4 ∷ []) 1 0 4 (5 ∷ 6 ∷ [])) 0 (record { reply = refusal 13 0; buffer = 255 ∷ 255 ∷ [] })
     ∷ fetch (twoLists 0 0 (1 ∷ 2 ∷ 3 ∷ 4 ∷ []) 1 1 2 (5 ∷ 6 ∷ [])) 0 (record { reply = refusal 13 0; buffer = 255 ∷ 255 ∷ [] })
     ∷ fetch (twoLists 0 0 (1 ∷ 2 ∷ []) 1 0 2 (3 ∷ 4 ∷ 5 ∷ 6 ∷ [])) 2 (record { reply = answer tt; buffer = 5 ∷ 6 ∷ [] })
+    -- a payload whose length is cut by a block's end, and its validity by the record
+    ∷ follow (remarks 0 0) (remark (string latin1) 0 97) 3 (answer (record { value = text 0 2; valid = true; size = 2 })) (remarkLeft 0 0) (0x50 ∷ 0x58 ∷ 255 ∷ [])
+    ∷ follow (remarks 0 1) (remark byteArray 0 97) 2 (answer (record { value = bytes 0 2; valid = false; size = 2 })) (remarkLeft 0 1) (0x50 ∷ 0x58 ∷ [])
+    -- the refusals in their order, and what each leaves
+    ∷ follow (remarks 0 0) (channel (string latin1) 0 64) 3 (refusal 35 0) untouched (255 ∷ 255 ∷ 255 ∷ [])
+    ∷ follow (le 8 0) (remark (string latin1) 0 97) 1 (refusal 11 0) untouched (255 ∷ [])
+    ∷ follow (remarks 0 0) (remark (string latin1) 2 97) 1 (refusal 21 10) (remarkLeft 0 0) (255 ∷ [])
+    -- a link to a block of payloads, and to the list of the records
+    ∷ follow (remarks 0 0) (remark (string latin1) 0 169) 1 (refusal 3 0) (remarkLeft 0 0) (255 ∷ [])
+    ∷ follow (remarks 0 0) (remark (string latin1) 0 8) 1 (refusal 12 0) (remarkLeft 0 0) (255 ∷ [])
+    -- a length that ends behind the data, a payload that does, and a position near 2^64, which is little-endian for every type
+    ∷ follow (remarks 4 0) (remark (string latin1) 0 97) 1 (refusal 23 0) (remarkLeft 4 0) (255 ∷ [])
+    ∷ follow (remarks 3 0) (remark (string latin1) 0 97) 1 (refusal 23 0) (remarkLeft 3 0) (255 ∷ [])
+    ∷ follow (remarks 18446744073709551615 0) (remark (signedInteger big) 0 97) 1 (refusal 23 0) (remarkLeft 18446744073709551615 0) (255 ∷ [])
+    ∷ follow (remarks 0 0) (remark (string latin1) 0 97) 1 (refusal 6 2) (remarkLeft 0 0) (255 ∷ [])
+    ∷ follow (remarks 0 0) (remark (unsignedInteger big) 0 97) 3 (refusal 21 8) (remarkLeft 0 0) (0x50 ∷ 0x58 ∷ 255 ∷ [])
     ∷ []
 
 -- every row of the table is right
