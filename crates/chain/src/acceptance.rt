@@ -28,7 +28,7 @@ pub enum Located {
 
 // Walks all of a chain, since a position stands in a chain that is whole, and keeps the place before the fragment that
 // holds the wanted position.
-pub fn locate(file: &[u8], start: FileAddress, id: &[u8; 4], wanted: DataPosition) -> Located
+fn walk(file: &[u8], start: FileAddress, id: &[u8; 4], wanted: DataPosition) -> Located
     ensures { λ r. ⌜ Locates (now (id .entry)) (now (file .entry)) (start .0) (wanted .0) (totalOf (now (id .entry)) (now (file .entry)) (start .0)) r ⌝ }
 {
     let mut place = Place::start(start);
@@ -61,6 +61,14 @@ pub fn locate(file: &[u8], start: FileAddress, id: &[u8; 4], wanted: DataPositio
             }
         }
     }
+}
+
+// The same, for callers elsewhere. Called from here alone the loop is inlined, and only then does the compiler keep the list in
+// registers.
+pub fn locate(file: &[u8], start: FileAddress, id: &[u8; 4], wanted: DataPosition) -> Located
+    ensures { λ r. ⌜ Locates (now (id .entry)) (now (file .entry)) (start .0) (wanted .0) (totalOf (now (id .entry)) (now (file .entry)) (start .0)) r ⌝ }
+{
+    walk(file, start, id, wanted)
 }
 
 // The same in a chain of data blocks, of a file that is not too long

@@ -1,5 +1,8 @@
 // The position that a record holds in place of the value.
 ghost use mathlib.Core.Path.{_≡_};
+ghost use Prim.Native.Nat.{_+_, _≤_};
+ghost use lib.ListN.{length};
+ghost use Rattle.definitions.specs.Bytes.{u64At};
 ghost use Rattle.definitions.specs.Payload.{holdsPosition, positionOf};
 ghost use Rattle.fields.specs.Meaning.{channelMeant};
 ghost use Rattle.payloads.specs.Meaning.{positionReply};
@@ -29,6 +32,14 @@ pub(crate) fn holds_position(channel: Channel) -> bool
 }
 
 // Little-endian, whatever the data type: that is the payload's
+fn position_at(record: &[u8], at: usize) -> DataPosition
+    requires { ⌜ at + 8 ≤ length (now «record») ⌝ }
+    ensures { λ r. ⌜ r .0 ≡ u64At (now («record» .entry)) at ⌝ }
+{
+    DataPosition(read_u64_le(record, at))
+}
+
+// The position in a record, behind the record id and the byte offset
 pub(crate) fn position_in(record: &[u8], record_id_size: usize, channel: Channel) -> PositionRead
     ensures { λ r. ⌜ positionReply r ≡ positionOf (now («record» .entry)) «record_id_size» (channelMeant channel) ⌝ }
 {
@@ -37,7 +48,7 @@ pub(crate) fn position_in(record: &[u8], record_id_size: usize, channel: Channel
         let needed = bytes_needed(record_id_size, byte_offset, 8);
         return PositionRead::Refused(Refusal::FieldOutside(needed));
     }
-    PositionRead::Position(DataPosition(read_u64_le(record, record_id_size + byte_offset)))
+    PositionRead::Position(position_at(record, record_id_size + byte_offset))
 }
 
 impl PositionRead {

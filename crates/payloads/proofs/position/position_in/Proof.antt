@@ -22,16 +22,16 @@ inside c =
     let a = c .before .before .before .before .args in
     ltb-false (length (a .«record» .now)) (a .record-id-size + a .channel .«byte_offset» + 8) (sym (c .before .ends-outside .ensures) ∙ c .if1 .left)
 
-add-read-u64-le : tie.Need-add-read-u64-le
-add-read-u64-le c = omega (arith, inside c)
+add-position-at : tie.Need-add-position-at
+add-position-at c = omega (arith, inside c)
 
-read-u64-le-requires : tie.Need-read-u64-le-requires
-read-u64-le-requires c κs = omega (arith, inside c)
+position-at-requires : tie.Need-position-at-requires
+position-at-requires c κs = omega (arith, inside c)
 
 returns-2 : tie.Need-returns-2
 returns-2 c =
     let left = c .before in
-    position-inside _ _ (channelMeant (left .before .before .before .before .args .channel)) (sym (left .before .ends-outside .ensures) ∙ left .if1 .left) (c .read-u64-le .ensures)
+    position-inside _ _ (channelMeant (left .before .before .before .before .args .channel)) (sym (left .before .ends-outside .ensures) ∙ left .if1 .left) (c .position-at .ensures)
 
 pub position-in-spec : {M : Type 1} → statement M
 position-in-spec =
@@ -41,6 +41,6 @@ position-in-spec =
     (λ c κs. search needs)
     (λ c κs. search needs)
     returns
-    add-read-u64-le
-    read-u64-le-requires
+    add-position-at
+    position-at-requires
     returns-2)
