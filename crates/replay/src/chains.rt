@@ -13,16 +13,16 @@ use mf4::mf4_read_record;
 use mf4::mf4_record_value;
 
 // What a fetch is asked; `file_count` and `room` are the bytes of the file and of the lent buffer
-struct FetchWords {
-    file_count: usize,
-    start: u64,
-    number: u64,
-    size: u64,
-    room: usize,
-    next: usize,
+pub(crate) struct FetchWords {
+    pub file_count: usize,
+    pub start: u64,
+    pub number: u64,
+    pub size: u64,
+    pub room: usize,
+    pub next: usize,
 }
 
-fn fetch_words(line: &[u8], at: usize, file: &mut [u8], out: &[u8]) -> FetchWords
+pub(crate) fn fetch_words(line: &[u8], at: usize, file: &mut [u8], out: &[u8]) -> FetchWords
     ensures { λ r. ⌜ Counts (r .«file_count») (now (file .exit)) × Counts (r .room) (now (out .entry)) ⌝ }
 {
     let read = bytes(line, at, file);

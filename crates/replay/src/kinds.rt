@@ -8,6 +8,7 @@ use crate::chains::replay_record_value;
 use crate::channels::replay_channel_read;
 use crate::channels::replay_channel_write;
 use crate::fields::replay_field;
+use crate::payloads::replay_record_payload;
 use crate::texts::replay_text;
 use crate::types::replay_type;
 use crate::words::WRONG;
@@ -45,11 +46,13 @@ pub(crate) const CHANNEL_READ: usize = 13;
 
 pub(crate) const CHANNEL_WRITE: usize = 14;
 
-pub(crate) const UNKNOWN: usize = 15;
+pub(crate) const RECORD_PAYLOAD: usize = 15;
+
+pub(crate) const UNKNOWN: usize = 16;
 
 // One string, each name with a blank behind it: checking a string for each name takes far longer
-const NAMES: [u8; 164] =
-    *b"type header-read header-write list-read list-write-equal list-write-variable value validity both double text record record-value channel-read channel-write unknown ";
+const NAMES: [u8; 179] =
+    *b"type header-read header-write list-read list-write-equal list-write-variable value validity both double text record record-value channel-read channel-write record-payload unknown ";
 
 // Whether the line's first word is the name that begins at `from`
 fn begins(line: &[u8], names: &[u8], from: usize) -> bool {
@@ -130,6 +133,7 @@ pub(crate) fn replay(line: &[u8], kind: usize, at: usize) -> usize {
         RECORD_VALUE => replay_record_value(line, at),
         CHANNEL_READ => replay_channel_read(line, at),
         CHANNEL_WRITE => replay_channel_write(line, at),
+        RECORD_PAYLOAD => replay_record_payload(line, at),
         _ => WRONG,
     }
 }
