@@ -669,9 +669,12 @@ def data_block(fields):
             + fields["links_nr"].to_bytes(8, "little") + fields["data"])
 
 
-def data_fields(data):
+DATA_ID, SIGNAL_ID = b"##DT", b"##SD"
+
+
+def data_fields(data, data_id=DATA_ID):
     """A data block in which everything agrees."""
-    return {"id": b"##DT", "reserved0": 0, "block_len": 24 + len(data), "links_nr": 0, "data": data}
+    return {"id": data_id, "reserved0": 0, "block_len": 24 + len(data), "links_nr": 0, "data": data}
 
 
 class Chain:
@@ -679,10 +682,10 @@ class Chain:
 
     blocks: the data of each data block. plan: for each list, the numbers of the blocks that it links.
     is_equal: whether the lists have one length, `length` if it is given, or offsets.
-    other_form: the number of a list that has the other form all the same.
+    other_form: the number of a list that has the other form all the same. data_id: the kind of the data blocks.
     """
 
-    def __init__(self, rng, blocks, plan, is_equal=False, length=None, other_form=None, front=None, gap=3):
+    def __init__(self, rng, blocks, plan, is_equal=False, length=None, other_form=None, front=None, gap=3, data_id=DATA_ID):
         self.rng = rng
         self.plan = plan
         self.forms = [is_equal != (index == other_form) for index in range(len(plan))]
@@ -693,7 +696,7 @@ class Chain:
                   for numbers, has_one_length in zip(plan, self.forms)]
         self.places, self.end = self.lay_out(sizes, rng.choice([24, 64, 1]) if front is None else front, gap)
         self.data_places, self.list_places = self.places[:len(blocks)], self.places[len(blocks):]
-        self.datas = [data_fields(data) for data in blocks]
+        self.datas = [data_fields(data, data_id) for data in blocks]
         self.lists = self.make_lists(blocks)
         self.start = self.list_places[0]
         self.tail = rng.choice([0, 0, 5, 24, 40])
@@ -853,7 +856,8 @@ def damage_data(rng, chain, index=None):
     fields, place = chain.datas[index], chain.data_places[index]
     name = rng.choice(["id", "links_nr", "block_len", "block_len", "block_len", "reserved0"])
     if name == "id":
-        fields["id"] = rng.choice([b"##DL", b"##DZ", b"##dt", b"##SD", rng.randbytes(4)])
+        other_kind = SIGNAL_ID if fields["id"] == DATA_ID else DATA_ID
+        fields["id"] = rng.choice([b"##DL", b"##DZ", b"##dt", other_kind, rng.randbytes(4)])
     elif name == "links_nr":
         fields["links_nr"] = rng.choice([1, 2**32, U64])
     elif name == "block_len":
@@ -1180,8 +1184,335 @@ def record_refusal_boundaries(rng):
                 yield "record_value", (file, chain.start, number, 5, id_size, 4, as_payload(rng, channel), buffer)
 
 
+# ---- files with payloads -----------------------------------------------------------------------------------------------
+
+
+def shared_out(rng, count, is_equal):
+    """So many blocks as a plan of lists: with one length as many in each but the last, else as it comes, in some none."""
+    numbers = list(range(count))
+    if is_equal:
+        per_list = rng.choice([1, 2, 3, max(1, count)])
+        return [numbers[at:at + per_list] for at in range(0, count, per_list)] or [[]]
+    ends = sorted(rng.choices(range(count + 1), k=rng.choice([0, 1, 2])))
+    return [numbers[low:high] for low, high in zip([0] + ends, ends + [count])]
+
+
+def cut_chain(rng, data, data_id, front=None, is_equal=None, most=5):
+    """A chain with this joined data, whose fragments have so many bytes, or with offsets up to so many."""
+    is_equal = rng.random() < 0.5 if is_equal is None else is_equal
+    blocks = []
+    while data:
+        size = most if is_equal else rng.randint(0, most)
+        blocks.append(data[:size])
+        data = data[size:]
+    return Chain(rng, blocks, shared_out(rng, len(blocks), is_equal), is_equal, front=front, data_id=data_id)
+
+
+def file_of(chains):
+    """One file with all these chains, each laid out behind the end of the one before."""
+    file = b""
+    for chain in chains:
+        file += chain.file()[len(file):]
+    return file
+
+
+def stream_of(payloads):
+    """Payloads one behind the other, each behind its length; and the place of each."""
+    stream, positions = b"", []
+    for payload in payloads:
+        positions.append(len(stream))
+        stream += len(payload).to_bytes(4, "little") + payload
+    return stream, positions
+
+
+def hard_payload(rng, length):
+    """Random bytes, or such as hold the stop of a text in one encoding and not in another."""
+    pattern = rng.choice([b"AB", b"A\0", b"\0A", b"AB\0\0", b"A\0\0B", b"\xd8\0", b"\xff\xfe"])
+    return rng.choice([(pattern * length)[:length], some_bytes(rng, length)])
+
+
+class PayloadCall:
+    """A call for a payload that is answered, or refused for its payload alone, and open to faults before its file is made.
+
+    stream: the joined data of the payloads. positions: what each record holds, behind an id and `before` bytes, all zeros,
+    and in front of the bytes `behind`, where the invalidation bits are. cut: how the chain of payloads is cut.
+    """
+
+    def __init__(self, rng, stream, positions, data_type=10, id_size=None, before=None, behind=None, **cut):
+        self.rng, self.stream, self.positions = rng, stream, positions
+        self.id_size = rng.choice([0, 0, 1, 2, 8]) if id_size is None else id_size
+        before = rng.choice([0, 0, 1, 5]) if before is None else before
+        behind = rng.randbytes(rng.choice([0, 0, 1, 3])) if behind is None else behind
+        self.record_size = self.id_size + before + 8 + len(behind)
+        self.data_bytes = before + 8
+        records = b"".join(bytes(self.id_size + before) + position.to_bytes(8, "little") + behind for position in positions)
+        self.lay_out(records + rng.randbytes(rng.choice([0, 0, 1, 7])), cut)
+        self.long_file = None
+        self.start = self.records.start
+        self.channel = Channel(data_type, 1, 0, before, 64, data=self.payloads.start)
+        self.record = self.filled(self.record_size + rng.choice([0, 0, 9]))
+        self.ask(0, rng.choice([0, 0, 1, 9]))
+
+    def lay_out(self, records, cut):
+        """The two chains in either order."""
+        if self.rng.random() < 0.5:
+            self.records = cut_chain(self.rng, records, DATA_ID)
+            self.payloads = cut_chain(self.rng, self.stream, SIGNAL_ID, self.records.end + self.records.tail, **cut)
+        else:
+            self.payloads = cut_chain(self.rng, self.stream, SIGNAL_ID, **cut)
+            self.records = cut_chain(self.rng, records, DATA_ID, self.payloads.end + self.payloads.tail)
+
+    def filled(self, size):
+        """A buffer whose bytes do not look like what is fetched into it."""
+        return self.rng.choice([bytes(size), b"\xa5" * size])
+
+    def ask(self, number, surplus=0):
+        """Asks for the payload of that record, with about so many bytes of room more than it has."""
+        place = self.positions[number]
+        length = int.from_bytes(self.stream[place:place + 4], "little")
+        self.number = number
+        self.payload = self.filled(max(0, min(length, len(self.stream)) + surplus))
+
+    def file(self):
+        return self.long_file or file_of(sorted((self.records, self.payloads), key=lambda chain: chain.end))
+
+    def case(self):
+        return "record_payload", (self.file(), self.start, self.number, self.record_size, self.id_size, self.data_bytes,
+                                  self.channel, self.record, self.payload)
+
+
+def payload_cut_boundaries(rng):
+    """Payloads in fragments of 0 to 5 bytes, which cut lengths and bytes everywhere; also files cut at each length."""
+    stream, positions = stream_of([rng.randbytes(length) for length in (3, 0, 9, 1, 0, 8, 4, 5)])
+    for is_equal, most, _ in itertools.product((True, False), range(1, 6), range(4)):
+        call = PayloadCall(rng, stream, positions, is_equal=is_equal, most=most)
+        for number in range(len(positions)):
+            call.ask(number, rng.choice([0, 1]))
+            yield call.case()
+    for _ in range(4):
+        name, (file, *arguments) = PayloadCall(rng, stream[:7], [0]).case()
+        for length in range(len(file)):
+            yield name, (file[:length], *arguments)
+
+
+def payload_places(total):
+    """Positions and lengths around the end of so many bytes of joined data, and some whose sums would wrap."""
+    near = [total + i for i in range(-10, 3)]
+    far = [2**32 - 4, 2**32, 2**32 + total - 4, 2**63 - 1, 2**63, 2**64 - total - 4] + [U64 - i for i in range(10)]
+    for position in sorted({0, *near, *far}):
+        left = total - position - 4
+        wrapping = {2**16 + left, 2**31, 2**32 - position - 5, 2**32 - position - 4, U32}
+        lengths = {0, left - 1, left, left + 1, left + 4} | wrapping
+        for length in sorted(lengths) if left >= 0 else [0]:
+            if 0 <= position <= U64 and 0 <= length <= U32:
+                yield position, length
+
+
+def payload_place_boundaries(rng):
+    for total in (0, 1, 3, 4, 5, 8, 12, 13, 30):
+        for position, length in payload_places(total):
+            stream = rng.randbytes(total)
+            if position + 4 <= total:
+                stream = stream[:position] + length.to_bytes(4, "little") + stream[position + 4:]
+            yield PayloadCall(rng, stream, [position], rng.choice([7, 10])).case()
+
+
+def payload_type_boundaries(rng):
+    """Every type with payloads of 0 to 20 bytes, in buffers of as many bytes and of more, which are no part of them."""
+    for data_type, length in itertools.product(TYPE_CODES, range(21)):
+        for surplus in (0, 9):
+            stream, positions = stream_of([rng.randbytes(rng.randint(1, 9)), hard_payload(rng, length)])
+            call = PayloadCall(rng, stream + rng.randbytes(2), positions, data_type)
+            call.ask(1, surplus)
+            yield call.case()
+
+
+def payload_validity_boundaries(rng):
+    """Flags and bits inside the record and behind it, where the payload and what is behind the record tell the contrary."""
+    bits = (0, 1, 7, 8, 15, 16, 23, 24, 25, 32, 64, 100, U32)
+    for flags, bit, fill, surplus in itertools.product((0, 1, 2, 3, 4, 6, U32 - 1), bits, (b"\0", b"\xff"), (0, 20)):
+        contrary = b"\xff" if fill == b"\0" else b"\0"
+        stream, positions = stream_of([b"", contrary * 40])
+        call = PayloadCall(rng, stream, positions, rng.choice([0, 3, 4, 8, 10, 16]), behind=fill * 3)
+        call.ask(1, rng.choice([0, 5]))
+        call.record = contrary * (call.record_size + surplus)
+        call.data_bytes = rng.choice([call.data_bytes] * 3 + [0, call.record_size, U32])
+        call.channel = call.channel._replace(flags=flags, pos_invalidation_bit=bit)
+        yield call.case()
+
+
+def position_field_boundaries(rng):
+    """The position at, before and past the record's end, with every id size and sums that pass 2^64. All else is zeros, so
+    that a position read elsewhere is another one."""
+    stream, positions = stream_of([b"\1", b"\2\3"])
+    for id_size, surplus in itertools.product(ID_SIZES + HUGE_ID_SIZES, (0, 9)):
+        for before, behind in ((0, 0), (3, 0), (2, 2)):
+            call = PayloadCall(rng, stream, positions[1:], rng.choice([7, 10]), rng.choice(ID_SIZES), before, bytes(behind))
+            call.id_size, call.record, call.payload = id_size, bytes(call.record_size + surplus), bytes(2)
+            at_end = call.record_size - id_size - 8
+            at_most = U64 - id_size - 8  # its end is the largest that can be told
+            near = {at_end + i for i in (-1, 0, 1, 2, 7, 8, 9)} | {at_most + i for i in (-1, 0, 1, 2, 8, 9)}
+            for byte_offset in sorted(near | {before, U32}):
+                if 0 <= byte_offset <= U32:
+                    call.channel = call.channel._replace(byte_offset=byte_offset, data_type=rng.choice(TYPE_CODES[6:]))
+                    yield call.case()
+
+
+def payload_link_boundaries(rng):
+    """Starts and data links at each block of either chain, so that a chain of the one kind is read as one of the other."""
+    for _ in range(5):
+        call = PayloadCall(rng, *stream_of([rng.randbytes(4), rng.randbytes(9)]))
+        places = {*call.records.places, *call.payloads.places}
+        addresses = sorted(places | {place + 1 for place in places} | set(edge_addresses(rng, call.payloads)))
+        start, link = call.start, call.channel.data
+        for address in addresses:
+            call.start, call.channel = start, call.channel._replace(data=address)
+            yield call.case()
+            call.start, call.channel = address, call.channel._replace(data=link)
+            yield call.case()
+        call.start, call.channel = link, call.channel._replace(data=start)
+        yield call.case()
+
+
+def payload_buffer_boundaries(rng):
+    """Buffers of the record and of the payload, each empty, a byte short, of just the size and longer."""
+    for length, data_type in itertools.product((0, 1, 7, 8, 9, 20), (0, 5, 6, 9, 12, 13)):
+        call = PayloadCall(rng, *stream_of([rng.randbytes(length)]), data_type)
+        for record_room, payload_room in itertools.product(out_sizes(call.record_size), out_sizes(length)):
+            call.record, call.payload = out_buffer(rng, record_room), out_buffer(rng, payload_room)
+            yield call.case()
+
+
+def large_payload_boundaries(rng):
+    """A payload is not bound to the limit of a record, nor its length to two bytes."""
+    for length in (16384, 16385, 65535, 65536, 70000):
+        most = rng.choice([999, 16384, 80000])
+        call = PayloadCall(rng, *stream_of([rng.randbytes(length)]), rng.choice([6, 10]), most=most)
+        for surplus in (-1, 0):
+            call.ask(0, surplus)
+            yield call.case()
+
+
+# ---- faults of a call for a payload, in the order in which they are told
+
+# The records of a call that can have each of them: one whose payload is too short for a number, and those whose payload is
+# outside the joined data.
+SHORT_RECORD, OUTSIDE_RECORDS = 1, (2, 3, 4)
+
+
+def other_channel(rng, call):
+    """Not of variable length, or its field no eight whole bytes."""
+    field, numbers = rng.choice([("channel_type", (0, 2, 255)), ("data", (0,)), ("bit_offset", (1, 7, 8, 255)),
+                                 ("bit_count", (0, 1, 32, 63, 65, 128, 64 + 2**8, 64 + 2**16, U32))])
+    call.channel = call.channel._replace(**{field: rng.choice(numbers)})
+
+
+def bad_record_size(rng, call):
+    size, room = rng.choice([(0, len(call.record)), (16385, 16385), (U64, len(call.record)),
+                             (call.record_size, call.record_size - 1), (call.record_size, 0)])
+    call.record_size, call.record = size, out_buffer(rng, room)
+
+
+def too_long_file(rng, call):
+    call.long_file = LongFile(2**40 + rng.choice([1, 2, 2**40]))
+
+
+def broken_chain(rng, chain):
+    """A damage for which the chain is refused, whatever its form."""
+    fields = rng.choice([fields for fields in chain.lists if fields["links"]])
+    data, last = rng.choice(chain.datas), chain.lists[-1]
+    struck, damage = rng.choice([
+        (fields, {"id": rng.choice([DATA_ID, SIGNAL_ID])}), (fields, {"links_nr": rng.choice([0, 2**61, U64])}),
+        (fields, {"count": fields["count"] - 1}), (fields, {"block_len": 47}),
+        (fields, {"links": [0, *fields["links"][1:]]}), (last, {"next": U64}),
+        (data, {"id": DATA_ID if data["id"] == SIGNAL_ID else SIGNAL_ID}), (data, {"links_nr": 1}),
+        (data, {"block_len": rng.choice([0, 23, 2**63, U64])})])
+    struck.update(damage)
+
+
+def broken_records(rng, call):
+    broken_chain(rng, call.records)
+
+
+def no_such_record(rng, call):
+    call.number = rng.choice([len(call.positions), 2**61, 2**63, U64])
+
+
+def position_outside(rng, call):
+    past = call.record_size - call.id_size - 7
+    if rng.random() < 0.5:
+        call.channel = call.channel._replace(byte_offset=rng.choice([max(0, past), max(0, past) + 7, U32]))
+    else:
+        call.id_size = rng.choice([call.record_size, *HUGE_ID_SIZES])
+
+
+def broken_payloads(rng, call):
+    broken_chain(rng, call.payloads)
+
+
+def payload_outside(rng, call):
+    call.number = rng.choice(OUTSIDE_RECORDS)
+
+
+def no_room(_rng, call):
+    call.payload = call.payload[:2]
+
+
+def short_number(rng, call):
+    call.number = SHORT_RECORD
+    call.channel = call.channel._replace(data_type=rng.choice(list(NUMBER_TYPES)))
+
+
+PAYLOAD_FAULTS = (other_channel, bad_record_size, too_long_file, broken_records, no_such_record, position_outside,
+                  broken_payloads, payload_outside, no_room, short_number)
+
+
+def faulty_call(rng, faults):
+    """A call with all these faults. What is told later is done first, so that it does not undo what is told."""
+    stream, positions = stream_of([rng.randbytes(12), rng.randbytes(rng.randint(3, 7)), rng.randbytes(5)])
+    stream = stream[:-1]  # so that the third payload is outside
+    positions += [len(stream) - 3, rng.choice([2**63, U64 - 3, U64])]
+    call = PayloadCall(rng, stream, positions, rng.choice(TYPE_CODES))
+    for fault in reversed(PAYLOAD_FAULTS):
+        if fault in faults:
+            fault(rng, call)
+    return call
+
+
+def payload_order_boundaries(rng):
+    """Each set of faults once, and each pair of them often: the one that comes first is told."""
+    for count in range(len(PAYLOAD_FAULTS) + 1):
+        for faults in itertools.combinations(PAYLOAD_FAULTS, count):
+            for _ in range(12 if count <= 2 else 1):
+                yield faulty_call(rng, faults).case()
+
+
+# ---- chains of the one kind as chains of the other
+
+
+def with_kinds_swapped(file):
+    """##SD blocks for ##DT blocks, and the other way round."""
+    return DATA_ID.join(part.replace(DATA_ID, SIGNAL_ID) for part in file.split(SIGNAL_ID))
+
+
+def with_record_behind(file):
+    """The file with a chain behind it whose one record is of eight zeros; and where that chain starts."""
+    start = len(file)
+    fields = list_fields(0, [start + 56], 0, [0])
+    return file + list_block(fields) + data_block(data_fields(bytes(8))), start
+
+
+def as_either_chain(file, start, number, record_size, buffer):
+    """A chain that was asked for a record, as the first chain of a call for a payload, and as the second one."""
+    channel = Channel(10, 1, bit_count=64, data=start or 1)  # 0 would be no link
+    yield "record_payload", (file, start, number, record_size, 0, 0, channel, buffer, bytes(4))
+    if not isinstance(file, LongFile):
+        both, records = with_record_behind(with_kinds_swapped(file))
+        yield "record_payload", (both, records, 0, 8, 0, 0, channel, b"\xa5" * 8, bytes(4))
+
+
 def asked_by_every_call(chain_cases):
-    """The same cases; and each chain that is asked for records is also asked once for its length and for a value."""
+    """The same cases; and each chain that is asked for records is also asked once for its length, a value and payloads."""
     asked = None
     for call, arguments in chain_cases:
         yield call, arguments
@@ -1189,6 +1520,34 @@ def asked_by_every_call(chain_cases):
             asked = arguments[:2]
             yield "data_length", asked
             yield "record_value", (*arguments[:4], 0, 0, Channel(bit_count=8), arguments[4])
+            yield from as_either_chain(*arguments)
+
+
+def random_payload_call(rng):
+    """Payloads of a few bytes, and positions of which some lead elsewhere."""
+    stream, positions = stream_of([hard_payload(rng, rng.choice([0, 1, 7, 8, 9, rng.randint(0, 20)]))
+                                   for _ in range(rng.randint(0, 4))])
+    stream += rng.randbytes(rng.choice([0, 0, 1, 4, 9]))
+    near = len(stream) + rng.randint(-9, 2)
+    positions.append(rng.choice([rng.randint(0, len(stream)), max(0, near), edge_number(rng, U64)]))
+    call = PayloadCall(rng, stream, positions, rng.choice(TYPE_CODES + [10, 7, 8, rng.randint(17, 255)]),
+                       is_equal=rng.random() < 0.5, most=rng.randint(1, 9))
+    call.ask(rng.randrange(len(positions)), rng.choice([0, 0, 0, 1, 9, -1]))
+    call.channel = with_validity(rng, call.channel, call.record_size)
+    call.data_bytes = rng.choice([call.data_bytes] * 3 + [0, edge_number(rng, U32)])
+    return call
+
+
+def random_payload_case(rng):
+    if rng.random() < 0.2:
+        return faulty_call(rng, rng.sample(PAYLOAD_FAULTS, rng.choice([0, 1, 1, 2]))).case()
+    call = random_payload_call(rng)
+    for _ in range(rng.choice([0, 0, 0, 0, 1, 1, 2])):
+        rng.choice([damage_list, damage_data])(rng, rng.choice([call.records, call.payloads, call.payloads]))
+    if rng.random() < 0.1:
+        call.channel = call.channel._replace(data=rng.choice(edge_addresses(rng, call.payloads)))
+    name, (file, *arguments) = call.case()
+    return name, (damaged_file(rng, file) if rng.random() < 0.1 else file, *arguments)
 
 
 # ---- all of them -------------------------------------------------------------------------------------------------------
@@ -1202,8 +1561,12 @@ CHAIN_BOUNDARIES = (cut_boundaries, query_boundaries, long_file_boundaries, loop
                     limit_boundaries, form_boundaries, breach_boundaries, large_record_boundaries, record_value_boundaries,
                     record_refusal_boundaries)
 
+PAYLOAD_BOUNDARIES = (payload_cut_boundaries, payload_place_boundaries, payload_type_boundaries,
+                      payload_validity_boundaries, position_field_boundaries, payload_link_boundaries,
+                      payload_buffer_boundaries, large_payload_boundaries, payload_order_boundaries)
+
 RANDOM_CASES = ([random_header_case] + [random_list_case] * 2 + [random_channel_block_case] * 2 + [random_value_case] * 6
-                + [random_text_case] * 4 + [random_chain_case] * 5)
+                + [random_text_case] * 4 + [random_chain_case] * 5 + [random_payload_case] * 4)
 
 # The replies of each call that has any, which the boundary cases reach. Reply 14 has no case: 4,096 fragments of at most
 # 2^40 bytes never pass 2^63-1.
@@ -1224,11 +1587,12 @@ REPLIES = {
     "data_length": CHAIN_REPLIES,
     "read_record": CHAIN_REPLIES | {15, 16},
     "record_value": CHAIN_REPLIES | FIELD_REPLIES | {15, 16},
+    "record_payload": CHAIN_REPLIES | {6, 15, 16, 21, 23, 35},
 }
 
 
 def boundary_cases(seed):
-    for boundaries in BOUNDARIES:
+    for boundaries in BOUNDARIES + PAYLOAD_BOUNDARIES:
         yield from boundaries(random.Random(f"{seed} {boundaries.__name__}"))
     for boundaries in CHAIN_BOUNDARIES:
         yield from asked_by_every_call(boundaries(random.Random(f"{seed} {boundaries.__name__}")))

@@ -395,6 +395,14 @@ static void print_valid_value(mf4_valid_value answer)
     print_number("is_valid", answer.is_valid);
 }
 
+static void print_payload(mf4_payload answer)
+{
+    mf4_value value = { answer.reply, answer.kind, answer.told, answer.number, answer.at, answer.length };
+    print_value(value);
+    print_number("payload_length", answer.payload_length);
+    print_number("is_valid", answer.is_valid);
+}
+
 static void print_text(mf4_text answer, const slice *out)
 {
     print_reply(answer.reply, answer.told);
@@ -623,6 +631,25 @@ static void record_value(void)
     print_out(buffer);
 }
 
+static void record_payload(void)
+{
+    slice *file = next_input();
+    uint64_t start = next_u64();
+    uint64_t number = next_u64();
+    uint64_t record_size = next_u64();
+    uint64_t record_id_size = next_u64();
+    uint32_t data_bytes = next_u32();
+    mf4_channel channel = next_channel();
+    slice *record = next_output();
+    slice *payload = next_output();
+    if (is_malformed)
+        return;
+    print_payload(mf4_record_payload(file->bytes, file->length, start, number, record_size, record_id_size, data_bytes,
+                                     channel, record->bytes, record->length, payload->bytes, payload->length));
+    print_out(record);
+    print_out(payload);
+}
+
 static const struct {
     const char *name;
     void (*answer)(void);
@@ -649,6 +676,7 @@ static const struct {
     {"data_length", data_length},
     {"read_record", read_record},
     {"record_value", record_value},
+    {"record_payload", record_payload},
 };
 
 static void answer_case(char *line)

@@ -10,7 +10,7 @@ A case is a call's name and its arguments in the order of reference.py. As words
     header      4 numbers, channel: 8 numbers, channel block: 31 numbers, in the order of their C structs
 
 A result is the fields of the C struct as name=number words in the order of mf4.h, a plain answer as answer=number, and
-the output buffer afterwards as out=x and hex digits.
+each output buffer afterwards, in turn, as out=x and hex digits.
 """
 
 import reference
@@ -65,6 +65,8 @@ CALLS = {
     "read_record": (reference.read_record, (BYTES, NUMBER, NUMBER, NUMBER, BYTES)),
     "record_value": (reference.record_value,
                      (BYTES, NUMBER, NUMBER, NUMBER, NUMBER, NUMBER, CHANNEL, BYTES)),
+    "record_payload": (reference.record_payload,
+                       (BYTES, NUMBER, NUMBER, NUMBER, NUMBER, NUMBER, CHANNEL, BYTES, BYTES)),
 }
 
 # ---- cases -------------------------------------------------------------------------------------------------------------
@@ -161,5 +163,5 @@ def result_line(call, arguments):
         return f"answer={result}"
     if hasattr(result, "_fields"):
         return " ".join(field_words(result))
-    struct, out = result
-    return " ".join(field_words(struct) + ["out=x" + out.hex()])
+    struct, *outs = result
+    return " ".join(field_words(struct) + ["out=x" + out.hex() for out in outs])

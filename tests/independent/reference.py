@@ -3,8 +3,8 @@
 It shares no code with the library or with the crate that the library ports. Python's whole numbers never wrap, so "summed
 without wrapping" is an ordinary sum here, and "at most 2^64-1" is a min().
 
-A call that can refuse returns a tuple with the fields of its C struct; reply is 0 for an answer. A call with an output
-buffer returns that tuple and the buffer as it stands afterwards.
+A call that can refuse returns a tuple with the fields of its C struct; reply is 0 for an answer. A call with output
+buffers returns that tuple and each buffer as it stands afterwards.
 """
 
 from typing import NamedTuple
@@ -15,6 +15,7 @@ NAN = 0x7FF8000000000000
 HEADER_SIZE = 24
 LIST_ID = b"##DL"
 DATA_ID = b"##DT"
+SIGNAL_ID = b"##SD"
 CHANNEL_ID = b"##CN"
 MOST_FILE_BYTES = 2**40
 MOST_LISTS = 256
@@ -46,6 +47,8 @@ BAD_BIT_OFFSET = 19
 INTEGER_TOO_WIDE = 20
 FIELD_OUTSIDE = 21
 BAD_FLOAT_WIDTH = 22
+PAYLOAD_OUTSIDE = 23
+NO_POSITION = 35
 NO_TEXT_TYPE = 256  # of a helper of mf4.h, not of the library
 
 # A field is refused with one of these, the first that holds.
@@ -159,6 +162,18 @@ class ValidValue(NamedTuple):
     number: int = 0
     at: int = 0
     length: int = 0
+    is_valid: int = 0
+
+
+class Payload(NamedTuple):
+    """at: a place in the payload's own buffer."""
+    reply: int = ANSWER
+    kind: int = 0
+    told: int = 0
+    number: int = 0
+    at: int = 0
+    length: int = 0
+    payload_length: int = 0
     is_valid: int = 0
 
 
@@ -708,12 +723,12 @@ def fits_first(chain_list, first):
     return chain_list.declared == first.declared and is_count_kept
 
 
-def fragment_at(file, address):
+def fragment_at(file, address, data_id):
     """A fragment's data: its block after the first 24 bytes."""
     refuse_if(is_no_block_address(file, address), NO_BLOCK_THERE)
     header = header_of(file[address:address + HEADER_SIZE])
     end = address + header.block_len
-    is_sound = (little_bytes(header.id, 4) == DATA_ID and header.links_nr == 0
+    is_sound = (little_bytes(header.id, 4) == data_id and header.links_nr == 0
                 and header.block_len >= HEADER_SIZE and end <= len(file))
     refuse_if(not is_sound, BAD_DATA_BLOCK)
     return file[address + HEADER_SIZE:end]
@@ -728,9 +743,10 @@ def is_declared_truly(chain_list, index, data_before, data):
     return len(data) == length or (may_be_short and len(data) < length)
 
 
-def joined_data(file, start):
+def joined_data(file, start, data_id=DATA_ID):
     """The data of the chain's fragments, joined in chain order; refused with 7 first.
 
+    The fragments are blocks of one id. The lists that link them are ##DL blocks, whatever that id is.
     Only a next link of 0 ends the chain: a list that links back to itself is read again, until a limit is passed.
     """
     refuse_if(len(file) > MOST_FILE_BYTES, FILE_TOO_LONG)
@@ -745,7 +761,7 @@ def joined_data(file, start):
         refuse_if(fragments > MOST_FRAGMENTS, TOO_MANY_FRAGMENTS)
         refuse_if(not fits_first(chain_list, first), UNTRUE_DECLARATION)
         for index, link in enumerate(chain_list.links):
-            data = fragment_at(file, link)
+            data = fragment_at(file, link, data_id)
             refuse_if(len(joined) + len(data) > MOST_JOINED_BYTES, DATA_TOO_LONG)
             refuse_if(not is_declared_truly(chain_list, index, len(joined), data), UNTRUE_DECLARATION)
             joined += data
@@ -781,3 +797,45 @@ def record_value(file, start, number, record_size, id_size, data_bytes, channel,
         return ValidValue(fetched.reply, told=fetched.told), after
     # The field is read from the record's bytes alone, and the record stays even if its field is refused.
     return decode_valid_value(after[:record_size], id_size, data_bytes, channel), after
+
+
+# ---- from record to payload --------------------------------------------------------------------------------------------
+
+POSITION_SIZE, PAYLOAD_LENGTH_SIZE = 8, 4
+
+
+def holds_position(channel):
+    """Whether the channel's field in the record is eight whole bytes that tell where its payload stands."""
+    return is_variable_length(channel) and channel.bit_offset == 0 and channel.bit_count == 8 * POSITION_SIZE
+
+
+def position_of(record, id_size, channel):
+    """Little-endian for every data type, since that is the payload's."""
+    place = id_size + channel.byte_offset
+    refuse_if(place + POSITION_SIZE > len(record), FIELD_OUTSIDE, place + POSITION_SIZE)
+    return little(record, place, POSITION_SIZE)
+
+
+def payload_at(joined, position):
+    """The bytes behind the length that stands at a position of the joined data."""
+    begin = position + PAYLOAD_LENGTH_SIZE
+    refuse_if(begin > len(joined), PAYLOAD_OUTSIDE)
+    end = begin + little(joined, position, PAYLOAD_LENGTH_SIZE)
+    refuse_if(end > len(joined), PAYLOAD_OUTSIDE)
+    return joined[begin:end]
+
+
+def record_payload(file, start, number, record_size, id_size, data_bytes, channel, record, payload):
+    """The two buffers change in turn, so that what was fetched before a refusal stays."""
+    try:
+        refuse_if(not holds_position(channel), NO_POSITION)
+        fetched = record_of(file, start, number, record_size, len(record))
+        record = placed(fetched, record)
+        position = position_of(fetched, id_size, channel)
+        content = payload_at(joined_data(file, channel.data, SIGNAL_ID), position)
+        payload = placed(content, payload)
+        value = value_of(content, id_size, channel)
+        is_valid = check_validity(fetched, id_size, data_bytes, channel)
+        return Payload(*value, payload_length=len(content), is_valid=is_valid), record, payload
+    except Refusal as refusal:
+        return Payload(refusal.number, told=refusal.told), record, payload

@@ -151,6 +151,11 @@ def fetched_word(buffer, record_size, fetched):
     return [bytes_word(buffer[:record_size]) if fetched else "-"]
 
 
+def written_word(after, before):
+    """What was written at the front of a buffer that was full of one byte, which no stored answer ends with."""
+    return [bytes_word(after.rstrip(bytes([LEFT_ALONE])) if after != before else b"")]
+
+
 def record_answer(words):
     file, start, number, size = words.bytes(), words.number(), words.number(), words.number()
     reply, buffer = reference.read_record(file, start, number, size, words.buffer())
@@ -162,6 +167,15 @@ def record_value_answer(words):
     before, id_size, data_bytes = words.buffer(), words.number(), words.number()
     reply, buffer = reference.record_value(file, start, number, size, id_size, data_bytes, words.channel(), before)
     return valid_value_words(reply) + fetched_word(buffer, size, buffer != before)
+
+
+def record_payload_answer(words):
+    file, start, number, size = words.bytes(), words.number(), words.number(), words.number()
+    record, payload, id_size, data_bytes = words.buffer(), words.buffer(), words.number(), words.number()
+    reply, left, kept = reference.record_payload(file, start, number, size, id_size, data_bytes, words.channel(), record,
+                                                 payload)
+    return (reply_words(reply, lambda r: value_words(r) + number_words(r.is_valid, r.payload_length))
+            + fetched_word(left, size, left != record) + written_word(kept, payload))
 
 
 ANSWERS = {
@@ -180,6 +194,7 @@ ANSWERS = {
     "text": text_answer,
     "record": record_answer,
     "record-value": record_value_answer,
+    "record-payload": record_payload_answer,
 }
 
 

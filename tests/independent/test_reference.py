@@ -2,6 +2,7 @@
 
 import codecs
 import collections
+import itertools
 import random
 import struct
 import sys
@@ -197,6 +198,57 @@ def example_chain():
               (r.ValidValue(kind=r.UNSIGNED_KIND, number=0x0403, is_valid=1), hexed("03 04")))
         check("refused field of record 1", r.record_value(chain.file(), chain.start, 1, 2, 1, 2, field(0, 16), b".."),
               (r.ValidValue(21, told=3), hexed("03 04")))
+
+
+# At 8 a list of records, whose block at 64 has three of them; at 115 a list of payloads, whose blocks at 187 and 216 have
+# the payloads abc, which is cut, one that is empty and one of eight bytes.
+PAYLOAD_FILE = hexed(
+    "0000000000000000"
+    "23 23 44 4c 00000000 3800000000000000 0200000000000000 0000000000000000 4000000000000000"
+    "00 000000 01000000 0000000000000000"
+    "23 23 44 54 00000000 3300000000000000 0000000000000000"
+    "0000000000000000 00 0700000000000000 01 0b00000000000000 00"
+    "23 23 44 4c 00000000 4800000000000000 0300000000000000 0000000000000000 bb00000000000000 d800000000000000"
+    "00 000000 02000000 0000000000000000 0500000000000000"
+    "23 23 53 44 00000000 1d00000000000000 0000000000000000 03000000 61"
+    "23 23 53 44 00000000 2a00000000000000 0000000000000000 6263 00000000 08000000 0201000000000000")
+FIRST_POSITION_AT, LAST_LENGTH_AT = 88, 246
+POSITION = Channel(r.UTF8, 1, 0, 0, 64, flags=2, data=115)
+
+
+def changed(place, digits):
+    """The file with other bytes at a place."""
+    content = hexed(digits)
+    return PAYLOAD_FILE[:place] + content + PAYLOAD_FILE[place + len(content):]
+
+
+def payload(number, channel=POSITION, record=b"." * 9, room=b"." * 9, file=PAYLOAD_FILE):
+    return r.record_payload(file, 8, number, 9, 0, 8, channel, record, room)
+
+
+def example_payloads():
+    records = [hexed("0000000000000000 00"), hexed("0700000000000000 01"), hexed("0b00000000000000 00")]
+    text = r.Payload(kind=r.TEXT_KIND, length=3, payload_length=3, is_valid=1)
+    check("a text", payload(0), (text, records[0], b"abc......"))
+    check("an empty text of an invalid record", payload(1), (r.Payload(kind=r.TEXT_KIND), records[1], b"." * 9))
+    for data_type, number in ((r.UNSIGNED_LE, 0x0102), (r.UNSIGNED_BE, 0x0201000000000000)):
+        check(f"a number of type {data_type}", payload(2, POSITION._replace(data_type=data_type)),
+              (r.Payload(kind=r.UNSIGNED_KIND, number=number, payload_length=8, is_valid=1), records[2],
+               hexed("0201000000000000") + b"."))
+    check("no number", payload(0, POSITION._replace(data_type=r.FLOAT_LE)),
+          (r.Payload(21, told=8), records[0], b"abc......"))
+    check("no room", payload(0, room=b".."), (r.Payload(6, told=3), records[0], b".."))
+    check("no room is needed", payload(1, room=b""), (r.Payload(kind=r.TEXT_KIND), records[1], b""))
+    check("a length outside", payload(0, file=changed(FIRST_POSITION_AT, "14")),
+          (r.Payload(23), hexed("1400000000000000 00"), b"." * 9))
+    check("a payload outside", payload(2, file=changed(LAST_LENGTH_AT, "09")), (r.Payload(23), records[2], b"." * 9))
+    check("a position outside", payload(0, POSITION._replace(byte_offset=2)),
+          (r.Payload(21, told=10), records[0], b"." * 9))
+    check("a single block", payload(0, POSITION._replace(data=187)), (r.Payload(3), records[0], b"." * 9))
+    check("the other chain", payload(0, POSITION._replace(data=8)), (r.Payload(12), records[0], b"." * 9))
+    check("no such record", payload(3), (r.Payload(16), b"." * 9, b"." * 9))
+    check("no room for the record", payload(0, record=b"." * 8), (r.Payload(15), b"." * 8, b"." * 9))
+    check("no position", payload(0, POSITION._replace(bit_count=32)), (r.Payload(35), b"." * 9, b"." * 9))
 
 
 # ---- rules without an example ------------------------------------------------------------------------------------------
@@ -506,6 +558,79 @@ def cases_of_forms():
         check(f"{reply} among many fragments is reached", reached[cases.crowded_breach_boundaries, reply] >= 4, True)
 
 
+def rules_of_positions():
+    """Which channels hold a position, and where it stands."""
+    for other in ({"channel_type": 0}, {"channel_type": 2}, {"data": 0}, {"bit_offset": 1}, {"bit_offset": 8},
+                  {"bit_count": 0}, {"bit_count": 63}, {"bit_count": 65}, {"bit_count": 320}):
+        channel = POSITION._replace(**other)
+        check(f"no position with {other}", payload(0, channel), (r.Payload(35), b"." * 9, b"." * 9))
+        check(f"{other} before all else", r.record_payload(b"", 0, 9, 0, 9, 0, channel, b"", b"")[0], r.Payload(35))
+    record = bytes(range(12))
+    for data_type in r.NUMBERS + r.TEXTS + (r.COMPLEX_BE, 99):
+        channel = POSITION._replace(data_type=data_type, byte_offset=3)
+        check(f"position for type {data_type}", r.position_of(record, 1, channel), 0x0B0A090807060504)
+    for id_size, byte_offset, told in (
+            (2, 3, 13), (5, 0, 13), (0, 5, 13), (12, 0, 20), (0, 2**32 - 1, 2**32 + 7), (2**64 - 9, 0, 2**64 - 1),
+            (2**64 - 10, 0, 2**64 - 2), (2**64 - 1, 2**32 - 1, 2**64 - 1)):
+        channel = POSITION._replace(byte_offset=byte_offset)
+        asked = r.record_payload(PAYLOAD_FILE, 8, 0, 12, id_size, 0, channel, bytes(12), b"")
+        check(f"position behind {id_size} and {byte_offset}", asked[0], r.Payload(21, told=told))
+
+
+def rules_of_places():
+    """Where a payload and its length end, in sums that never wrap."""
+    joined = hexed("02000000 6162" "00000000" "ffffffff")
+    for position, wanted in ((0, b"ab"), (6, b""), (2, None), (10, None), (11, None), (12, None), (14, None), (2**32, None),
+                             (2**64 - 4, None), (2**64 - 1, None)):
+        try:
+            found = r.payload_at(joined, position)
+        except r.Refusal as refusal:
+            found = None
+            check(f"refused at {position}", (refusal.number, refusal.told), (23, 0))
+        check(f"payload at {position}", found, wanted)
+
+
+FAULT_REPLIES = {
+    cases.other_channel: {35}, cases.bad_record_size: {15}, cases.too_long_file: {7},
+    cases.broken_records: cases.CHAIN_REPLIES - {0, 7}, cases.no_such_record: {16}, cases.position_outside: {21},
+    cases.broken_payloads: cases.CHAIN_REPLIES - {0, 7}, cases.payload_outside: {23}, cases.no_room: {6},
+    cases.short_number: {21}}
+
+
+def rules_of_order():
+    """Of any faults the first is told; and what was fetched before it stays, and nothing else is written."""
+    rng = random.Random(15)
+    order = list(FAULT_REPLIES)
+    check("all faults", tuple(order), cases.PAYLOAD_FAULTS)
+    for count in range(len(order) + 1):
+        for faults in itertools.combinations(order, count):
+            _name, arguments = cases.faulty_call(rng, faults).case()
+            answer, record, payload_after = r.record_payload(*arguments)
+            first = order.index(faults[0]) if faults else len(order)
+            check(f"first of {faults}", answer.reply in (FAULT_REPLIES[faults[0]] if faults else {0}), True)
+            check(f"record left by {faults}", record != arguments[7], first > order.index(cases.no_such_record))
+            check(f"payload left by {faults}", payload_after != arguments[8], first > order.index(cases.no_room))
+            check(f"bytes behind {faults}", record[arguments[3]:], arguments[7][arguments[3]:])
+
+
+def cases_of_payloads():
+    """The cases reach each reply of either chain, told apart by whether a record was fetched, and each other one often."""
+    reached = collections.Counter()
+    chains = (cases.order_boundaries, cases.loop_boundaries, cases.breach_boundaries)
+    asked = [cases.asked_by_every_call(boundaries(random.Random(16))) for boundaries in chains]
+    asked += [boundaries(random.Random(17)) for boundaries in cases.PAYLOAD_BOUNDARIES]
+    for call, arguments in itertools.chain(*asked):
+        if call == "record_payload":
+            answer, record, _payload = r.record_payload(*arguments)
+            reached[record != arguments[7], answer.reply] += 1
+    for is_fetched, replies in ((False, (15, 16, 35)), (True, (0, 6, 21, 23))):
+        for reply in replies:
+            check(f"{reply} is reached often", reached[is_fetched, reply] >= 50, True)
+    for reply in cases.CHAIN_REPLIES - {0, 7}:
+        check(f"{reply} of the records' chain is reached", reached[False, reply] >= 8, True)
+        check(f"{reply} of the payloads' chain is reached", reached[True, reply] >= 8, True)
+
+
 # ---- vectors from outside ----------------------------------------------------------------------------------------------
 
 
@@ -651,6 +776,28 @@ def joined_equal_chains():
             check("length", r.data_length(chain.file(), chain.start), r.Length(length=len(data)))
 
 
+def joined_equal_payloads():
+    """Files that cut the same records and the same payloads differently give the same answers, in the bytes that the struct
+    module finds."""
+    rng = random.Random(18)
+    for _ in range(300):
+        call = cases.random_payload_call(rng)
+        position, room = call.positions[call.number], bytes(len(call.stream))
+        outcomes = set()
+        for _ in range(3):
+            cut = cases.PayloadCall(rng, call.stream, call.positions, is_equal=rng.random() < 0.5, most=rng.randint(1, 6),
+                                    id_size=0, before=0, behind=b"")
+            outcomes.add(r.record_payload(cut.file(), cut.start, call.number, 8, 0, 8, cut.channel, bytes(8), room))
+        try:
+            (length,) = struct.unpack_from("<I", call.stream, position)
+            (content,) = struct.unpack_from(f"<{length}s", call.stream, position + 4)
+            wanted = r.Payload(kind=r.BYTES_KIND, length=length, payload_length=length, is_valid=1)
+        except (struct.error, OverflowError):
+            content, wanted = b"", r.Payload(23)
+        check(f"payload at {position}", outcomes,
+              {(wanted, struct.pack("<Q", position), content + room[len(content):])})
+
+
 def lines_read_back():
     rng = random.Random(8)
     for _, (call, arguments) in zip(range(3000), cases.random_cases(9)):
@@ -669,6 +816,7 @@ def main():
     section("example: lists", example_lists)
     section("example: channels", example_channels)
     section("example: chain", example_chain)
+    section("example: payloads", example_payloads)
     section("rules of types", rules_of_types)
     section("rules of headers", rules_of_headers)
     section("rules of writing lists", rules_of_writing)
@@ -685,6 +833,10 @@ def main():
     section("rules of fragments that do not fit", rules_of_untrue_fragments)
     section("rules of loops", rules_of_loops)
     section("cases of the form of a chain", cases_of_forms)
+    section("rules of positions", rules_of_positions)
+    section("rules of a payload's place", rules_of_places)
+    section("rules of the order", rules_of_order)
+    section("cases of payloads", cases_of_payloads)
     section("IEEE 754 vectors", outside_doubles)
     section("Unicode vectors", outside_unicode)
     section("against float() and struct", python_floats)
@@ -692,6 +844,7 @@ def main():
     section("against packed structs", python_structs)
     section("against Python's codecs", python_codecs)
     section("chains with the same joined bytes", joined_equal_chains)
+    section("payloads with the same joined bytes", joined_equal_payloads)
     section("lines read back", lines_read_back)
     return 1 if failures else 0
 
