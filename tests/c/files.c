@@ -38,6 +38,13 @@ size_t put_data(size_t at, unsigned first, size_t size)
     return at + 24 + size;
 }
 
+size_t put_data_of(size_t at, const char *id, const uint8_t *data, size_t size)
+{
+    put_block(at, id, 24 + size, 0);
+    memcpy(built.bytes + at + 24, data, size);
+    return at + 24 + size;
+}
+
 void make_cut_file(void)
 {
     start_file(174);

@@ -17,8 +17,9 @@ size_t file_length(void);
 void put(size_t at, uint64_t number, int size);
 void put_block(size_t at, const char *id, uint64_t block_len, uint64_t links_nr);
 
-/* A data block whose bytes count on from `first`. Gives the address behind it. */
+/* A data block whose bytes count on from `first`, and one of that id with those bytes. They give the address behind it. */
 size_t put_data(size_t at, unsigned first, size_t size);
+size_t put_data_of(size_t at, const char *id, const uint8_t *data, size_t size);
 
 /* 01 to 06, cut 3, 0, 3 by a list with offsets:
  *   list at 8: length 16, links 24, next 32, data links 40 48 56, flags 64, count 68, offsets 72 80 88, end 96

@@ -66,14 +66,14 @@ static void check_types(void)
     }
 }
 
-/* 1 is given no more, and has no more words than a number behind the last. */
+/* 1 is given no more, and has no more words than a number behind the last, or one that is not given yet. */
 static void check_reply_texts(void)
 {
+    const char *no_reply = mf4_reply_text(UINT32_MAX);
     uint32_t reply;
     name_case("replies in words");
-    for (reply = 0; reply <= 22; reply++)
-        CHECK((strcmp(mf4_reply_text(reply), mf4_reply_text(23)) != 0) == (reply != 1));
-    CHECK(strcmp(mf4_reply_text(UINT32_MAX), mf4_reply_text(23)) == 0);
+    for (reply = 0; reply <= 40; reply++)
+        CHECK((strcmp(mf4_reply_text(reply), no_reply) != 0) == ((reply <= 23 && reply != 1) || reply == 35));
 }
 
 void check_headers(void)

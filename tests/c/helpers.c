@@ -74,10 +74,18 @@ static void check_names_of_refused_fields(void)
           && strcmp(mf4_reply_text(22), "the description gives the float neither 32 nor 64 bits") == 0);
 }
 
+static void check_names_of_refused_payloads(void)
+{
+    name_case("names of a payload's refusals");
+    CHECK(MF4_PAYLOAD_OUTSIDE == 23
+          && strcmp(mf4_reply_text(23), "the payload or its length ends behind the joined data") == 0);
+    CHECK(MF4_NO_POSITION == 35 && strcmp(mf4_reply_text(35), "the channel holds no position of a payload") == 0);
+}
+
 static void check_reply_of_helpers(void)
 {
     name_case("the helpers' own reply");
-    CHECK(MF4_NO_TEXT_TYPE == 256 && strcmp(mf4_reply_text(MF4_NO_TEXT_TYPE), mf4_reply_text(23)) != 0);
+    CHECK(MF4_NO_TEXT_TYPE == 256 && strcmp(mf4_reply_text(MF4_NO_TEXT_TYPE), mf4_reply_text(UINT32_MAX)) != 0);
 }
 
 void check_helpers(void)
@@ -88,5 +96,6 @@ void check_helpers(void)
     check_text_room();
     check_channel_names();
     check_names_of_refused_fields();
+    check_names_of_refused_payloads();
     check_reply_of_helpers();
 }

@@ -110,6 +110,8 @@ static void check_everything(void)
     check_one_length();
     check_long_chains();
     check_long_files();
+    check_payloads();
+    check_refused_payloads();
 }
 
 int main(void)

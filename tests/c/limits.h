@@ -51,5 +51,7 @@ void check_damages(void);
 void check_one_length(void);
 void check_long_chains(void);
 void check_long_files(void);
+void check_payloads(void);
+void check_refused_payloads(void);
 
 #endif

@@ -1,59 +1,19 @@
 /* Chains of several lists. With flag bit 0 all of them have one length and one count; without it each is cut as it likes. */
-#include "files.h"
-
-#include <string.h>
-
-enum { MOST_LAID = 3 };
-
-/* A list to be laid out, with its blocks behind it. */
-typedef struct laid_list {
-    uint8_t flags;
-    uint64_t length;   /* declared with flag bit 0; without it, the true offset of each block is        */
-    const char *sizes; /* a digit for each block: how many bytes of data it has. NULL: there is no list */
-} laid_list;
-
-typedef laid_list laid_chain[MOST_LAID + 1];
-
-/* A list that declares the length 3, and one with offsets. */
-#define THREE(sizes) { MF4_LIST_EQUAL_LENGTH, 3, sizes }
-#define FREE(sizes) { 0, 0, sizes }
-
-/* The bytes of data count on from those before. Gives the address behind the last block. */
-static size_t lay_list(size_t at, const laid_list *list, unsigned *data)
-{
-    const int is_one_length = (list->flags & MF4_LIST_EQUAL_LENGTH) != 0;
-    const size_t count = strlen(list->sizes), fields = at + 32 + 8 * count;
-    size_t end = fields + 8 + 8 * (is_one_length ? 1 : count), i;
-    put_block(at, "##DL", end - at, 1 + count);
-    put(fields, list->flags, 1), put(fields + 4, count, 4);
-    if (is_one_length)
-        put(fields + 8, list->length, 8);
-    for (i = 0; i < count; i++) {
-        const unsigned size = (unsigned)(list->sizes[i] - '0');
-        if (!is_one_length)
-            put(fields + 8 + 8 * i, *data, 8);
-        put(at + 32 + 8 * i, end, 8);
-        end = put_data(end, *data + 1, size);
-        *data += size;
-    }
-    return end;
-}
+#include "laid_chains.h"
 
 /* Where the lists of the chain stand that was laid out last. */
-static size_t places[MOST_LAID];
+static laid chain;
 
-static void lay_chain(const laid_list *lists)
+/* A file with the chain alone. Its data counts on from 1. */
+static void lay_counting_chain(const laid_list *lists)
 {
-    size_t at = START, i;
-    unsigned data = 0;
+    uint8_t data[64];
+    size_t i;
+    for (i = 0; i < sizeof data; i++)
+        data[i] = (uint8_t)(i + 1);
     start_file(0);
-    for (i = 0; lists[i].sizes != NULL; i++) {
-        if (i > 0)
-            put(places[i - 1] + 24, at, 8);
-        places[i] = at;
-        at = lay_list(at, &lists[i], &data);
-    }
-    cut_file(at);
+    chain = lay_chain(START, "##DT", data, lists);
+    cut_file(chain.end);
 }
 
 /* ---- chains that keep the rule ---------------------------------------------------------------------------------- */
@@ -104,7 +64,7 @@ static void check_whole_chains(void)
     size_t i;
     for (i = 0; i < COUNT(whole_chains); i++) {
         name_row("chains that keep the rule", i);
-        lay_chain(whole_chains[i].lists);
+        lay_counting_chain(whole_chains[i].lists);
         CHECK(joins(whole_chains[i].length));
         check_every_record(whole_chains[i].length);
     }
@@ -142,21 +102,14 @@ static void check_broken_chains(void)
     size_t i;
     for (i = 0; i < COUNT(broken_chains); i++) {
         name_row("chains that break the rule", i);
-        lay_chain(broken_chains[i]);
+        lay_counting_chain(broken_chains[i]);
         CHECK(refuses(0, 1, 13));
     }
 }
 
 /* ---- which refusal comes first ---------------------------------------------------------------------------------- */
 
-/* Places in a list, and their sizes: the count where it has two blocks, and the first of them where it tells one length. */
-#define ID 0, 4
-#define BLOCK_LENGTH 8, 8
-#define LINK_COUNT 16, 8
-#define NEXT 24, 8
-#define FIRST_LINK 32, 8
-#define SECOND_LINK 40, 8
-#define COUNT_OF_TWO 52, 4
+/* The first of the two blocks of a list that tells one length. */
 #define FIRST_BLOCK_ID 64, 4
 
 /* A chain with one number of one of its lists changed. */
@@ -198,8 +151,8 @@ static void check_changed_chains(void)
     size_t i;
     for (i = 0; i < COUNT(changed_chains); i++) {
         name_row("chains with a number changed", i);
-        lay_chain(changed_chains[i].lists);
-        put(places[changed_chains[i].list] + changed_chains[i].at, changed_chains[i].number, changed_chains[i].size);
+        lay_counting_chain(changed_chains[i].lists);
+        put(chain.places[changed_chains[i].list] + changed_chains[i].at, changed_chains[i].number, changed_chains[i].size);
         CHECK(refuses(0, 1, changed_chains[i].reply));
     }
 }

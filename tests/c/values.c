@@ -13,11 +13,24 @@ int valid_value_is(mf4_valid_value a, expected value, uint8_t is_valid)
     return value_is(found, value) && a.is_valid == is_valid;
 }
 
-int valid_value_refused(mf4_valid_value a, uint32_t reply, uint64_t told)
+int payload_is(mf4_payload a, expected value, uint64_t payload_length, uint8_t is_valid)
+{
+    const mf4_value found = { a.reply, a.kind, a.told, a.number, a.at, a.length };
+    return value_is(found, value) && a.payload_length == payload_length && a.is_valid == is_valid;
+}
+
+static expected refusal_of(uint32_t reply, uint64_t told)
 {
     const expected refusal = { reply, MF4_KIND_NOTHING, told, 0, 0, 0 };
-    return valid_value_is(a, refusal, 0);
+    return refusal;
 }
+
+int valid_value_refused(mf4_valid_value a, uint32_t reply, uint64_t told)
+{
+    return valid_value_is(a, refusal_of(reply, told), 0);
+}
+
+int payload_refused(mf4_payload a, uint32_t reply, uint64_t told) { return payload_is(a, refusal_of(reply, told), 0, 0); }
 
 static const value_case integer_cases[] = {
     { "34 12", 0, FIELD(MF4_UNSIGNED_LE, 0, 0, 16), UNSIGNED_IS(4660) },

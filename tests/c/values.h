@@ -21,7 +21,10 @@ typedef mf4_value expected;
 int value_is(mf4_value a, expected value);
 int valid_value_is(mf4_valid_value a, expected value, uint8_t is_valid);
 
+int payload_is(mf4_payload a, expected value, uint64_t payload_length, uint8_t is_valid);
+
 int valid_value_refused(mf4_valid_value a, uint32_t reply, uint64_t told);
+int payload_refused(mf4_payload a, uint32_t reply, uint64_t told);
 
 /* The value alone and with its validity; where it is refused, the double and the validity alone too. */
 void check_value(lent record, uint64_t id_size, mf4_channel channel, expected value);
