@@ -20,7 +20,7 @@ int same_written(mf4_written a, mf4_written b)
     return a.reply == b.reply && a.told == b.told && a.count == b.count;
 }
 
-void check_written(enum call call, mf4_written answer, lent out, uint32_t allowed)
+void check_written(enum call call, mf4_written answer, lent out, uint64_t allowed)
 {
     check_reply(call, answer.reply, answer.told, allowed);
     MUST(answer.reply == MF4_ANSWER ? answer.count <= out.length : answer.count == 0);

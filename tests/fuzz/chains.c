@@ -3,9 +3,7 @@
 
 #include <string.h>
 
-#define CHAIN_REPLIES (REPLY(0) | REPLY(2) | REPLY(3) | REPLY(4) | REPLY(8) | REPLY(9) | REPLY(10) | REPLY(11) | REPLY(12) \
-                       | REPLY(13))
-#define RECORD_REPLIES (CHAIN_REPLIES | REPLY(15) | REPLY(16))
+#include "slow_chains.h"
 
 typedef struct query {
     lent file;
@@ -14,20 +12,23 @@ typedef struct query {
     reading how;
 } query;
 
-static int is_bad_size(query asked)
+int is_bad_size(uint64_t record_size, size_t room)
 {
-    return asked.record_size == 0 || asked.record_size > MF4_MAX_RECORD_SIZE || asked.buffer_length < asked.record_size;
+    return record_size == 0 || record_size > MF4_MAX_RECORD_SIZE || room < record_size;
 }
 
 static mf4_length exercise_length(const log_file *log, query asked)
 {
+    static slow_chain slow;
     mf4_length answer = mf4_data_length(asked.file.bytes, asked.file.length, asked.start);
     mf4_length again = mf4_data_length(asked.file.bytes, asked.file.length, asked.start);
     check_reply(DATA_LENGTH, answer.reply, answer.told, CHAIN_REPLIES);
     MUST(answer.reply == again.reply && answer.told == again.told && answer.length == again.length);
-    MUST(answer.reply == MF4_ANSWER || answer.length == 0);
-    MUST(log->state != WHOLE || (answer.reply == MF4_ANSWER && answer.length == log->joined_length));
-    MUST(log->state != BREACHED || answer.reply == MF4_UNTRUE_DECLARATION);
+    walk_slowly(asked.file, asked.start, MF4_ID_DT, &slow);
+    MUST(answer.reply == slow.reply && answer.told == slow.told);
+    MUST(answer.length == (answer.reply == MF4_ANSWER ? slow.length : 0));
+    MUST(log->records.state != WHOLE || (answer.reply == MF4_ANSWER && answer.length == log->records.joined_length));
+    MUST(log->records.state != BREACHED || answer.reply == MF4_UNTRUE_DECLARATION);
     MUST(is_unchanged(asked.file));
     return answer;
 }
@@ -35,7 +36,7 @@ static mf4_length exercise_length(const log_file *log, query asked)
 /* A record is there exactly where the joined data's length says so, and a chain that is refused is refused alike. */
 static void check_against_length(query asked, mf4_length length, mf4_fetched answer)
 {
-    if (is_bad_size(asked))
+    if (is_bad_size(asked.record_size, asked.buffer_length))
         MUST(answer.reply == MF4_BAD_RECORD_SIZE);
     else if (length.reply != MF4_ANSWER)
         MUST(answer.reply == length.reply && answer.told == length.told);
@@ -64,8 +65,8 @@ static mf4_fetched exercise_record(const log_file *log, query asked, mf4_length 
     check_against_length(asked, length, answer);
     MUST(is_unchanged_from(buffer, answer.reply == MF4_ANSWER ? (size_t)asked.record_size : 0));
     MUST(is_unchanged(asked.file));
-    if (log->state == WHOLE && answer.reply == MF4_ANSWER)
-        MUST(same_bytes(buffer.bytes, log->joined + asked.number * asked.record_size, (size_t)asked.record_size));
+    if (log->records.state == WHOLE && answer.reply == MF4_ANSWER)
+        MUST(same_bytes(buffer.bytes, log->records.joined + asked.number * asked.record_size, (size_t)asked.record_size));
     again = read_record(asked, asked.file.length, buffer);
     MUST(again.reply == answer.reply && again.told == answer.told);
     return answer;
@@ -94,7 +95,7 @@ static void exercise_record_value(query asked, mf4_fetched fetched, lent record)
 static void exercise_long_file(query asked, lent buffer)
 {
     size_t claimed = (size_t)MF4_MAX_FILE_SIZE + 1 + (size_t)choose_raw(2);
-    uint32_t expected = is_bad_size(asked) ? MF4_BAD_RECORD_SIZE : MF4_FILE_TOO_LONG;
+    uint32_t expected = is_bad_size(asked.record_size, asked.buffer_length) ? MF4_BAD_RECORD_SIZE : MF4_FILE_TOO_LONG;
     mf4_length length = mf4_data_length(asked.file.bytes, claimed, asked.start);
     mf4_fetched fetched = read_record(asked, claimed, buffer);
     mf4_valid_value value = record_value(asked, claimed, buffer);
@@ -104,24 +105,15 @@ static void exercise_long_file(query asked, lent buffer)
     MUST(is_unchanged(buffer));
 }
 
-static size_t choose_buffer_length(uint64_t record_size)
-{
-    size_t wanted = record_size <= MF4_MAX_RECORD_SIZE + 16 ? (size_t)record_size : 16;
-    uint8_t how = choose_byte() % 8;
-    return how == 7 ? choose_size(64) : wanted + how % 3;
-}
-
 static query choose_query(const log_file *log, reading how)
 {
     query asked;
     asked.file = lend_copy(INPUT, log->bytes, log->length);
-    asked.start = log->start;
+    asked.start = log->records.start;
     asked.how = how;
     asked.record_size = choose_byte() % 8 == 7 ? choose_number() : 1u + choose_byte() % 12;
-    asked.number = choose_number();
-    if (asked.number < 0xE0)
-        asked.number %= 24;
-    asked.buffer_length = choose_buffer_length(asked.record_size);
+    asked.number = choose_below(24);
+    asked.buffer_length = choose_room(asked.record_size);
     return asked;
 }
 

@@ -8,14 +8,6 @@
 enum { LEAST_LINKS = 8, MOST_LINKS = 12, FIELDS_SIZE = 72, MOST_BEHIND = 2 };
 enum { MOST_BLOCK = 24 + 8 * MOST_LINKS + FIELDS_SIZE + MOST_BEHIND };
 
-static uint64_t little(const uint8_t *place, int size)
-{
-    uint64_t number = 0;
-    while (size-- > 0)
-        number = number << 8 | place[size];
-    return number;
-}
-
 static int same_channel(mf4_channel_reply a, mf4_channel_reply b)
 {
     return a.reply == b.reply && a.told == b.told && same_channel_block(a.block, b.block);

@@ -50,4 +50,17 @@ uint64_t choose_number(void)
     return choose_raw(8);
 }
 
+uint64_t choose_below(uint64_t limit)
+{
+    uint64_t number = choose_number();
+    return number < 0xE0 ? number % limit : number;
+}
+
 size_t choose_size(size_t most) { return (size_t)(choose_number() % (most + 1)); }
+
+size_t choose_room(uint64_t needed)
+{
+    size_t wanted = needed <= MF4_MAX_RECORD_SIZE + 16 ? (size_t)needed : 16;
+    uint8_t how = choose_byte() % 8;
+    return how == 7 ? choose_size(64) : wanted + how % 3;
+}

@@ -2,9 +2,9 @@
  * A fuzz target: every call of mf4.h on one input, with what must hold of each answer whatever the input is.
  *
  * The archive has no coverage instrumentation, so bytes alone would hardly ever become a chain. Two things make up for it.
- * The input is a row of choices: they say whether the file is raw bytes or a chain of lists and blocks, which is built, true
- * or with one breach, and then damaged a little, and they give the sizes, addresses and descriptions, with the limits among
- * the likely numbers.
+ * The input is a row of choices: they say whether the file is raw bytes or a chain of lists and blocks, or two of them,
+ * which are built, each true or with one breach, and then damaged a little, and they give the sizes, addresses and
+ * descriptions, with the limits among the likely numbers.
  * And each answer is counted in counters that the fuzzer reads as coverage, so that an input with a new answer is kept.
  *
  * The address checker does not see an archive that is not instrumented either: where slices stand is a choice, and two of
@@ -26,10 +26,20 @@ __attribute__((section("__libfuzzer_extra_counters"))) static uint8_t seen[CALLS
 
 void note(enum call call, unsigned what) { seen[call][what % 64] = 1; }
 
-void check_reply(enum call call, uint32_t reply, uint64_t told, uint32_t allowed)
+uint64_t little(const uint8_t *place, int size)
+{
+    uint64_t number = 0;
+    while (size-- > 0)
+        number = number << 8 | place[size];
+    return number;
+}
+
+uint64_t sum_of(uint64_t a, uint64_t b) { return a <= UINT64_MAX - b ? a + b : UINT64_MAX; }
+
+void check_reply(enum call call, uint32_t reply, uint64_t told, uint64_t allowed)
 {
     note(call, reply);
-    MUST(reply <= MF4_BAD_FLOAT_WIDTH && (allowed >> reply & 1) == 1);
+    MUST(reply <= MF4_NO_POSITION && (allowed >> reply & 1) == 1);
     MUST(told == 0 || reply == MF4_TOO_FEW_BYTES || reply == MF4_NO_ROOM || reply == MF4_FIELD_OUTSIDE);
     MUST(strcmp(mf4_reply_text(reply), "no reply of this library") != 0);
 }
@@ -43,7 +53,7 @@ static lent part_from(const log_file *log, uint64_t address)
 
 static void exercise_part(const log_file *log, reading how)
 {
-    lent part = part_from(log, choose_byte() % 4 == 3 ? choose_number() : log->start);
+    lent part = part_from(log, choose_byte() % 4 == 3 ? choose_number() : log->records.start);
     exercise_header(part);
     exercise_list(part);
     exercise_channel(part, how);
@@ -63,6 +73,7 @@ int LLVMFuzzerTestOneInput(const uint8_t *data, size_t size)
     how = choose_reading();
     exercise_types(choose_byte());
     exercise_chain(&log, how);
+    exercise_payload(&log, how);
     exercise_part(&log, how);
     exercise_writer(0);
     exercise_writer(1);

@@ -13,17 +13,23 @@ void fail(const char *claim, const char *file, int line);
 enum call {
     READ_HEADER, WRITE_HEADER, READ_LIST, WRITE_EQUAL, WRITE_VARIABLE, READ_CHANNEL, WRITE_CHANNEL, DECODE, VALIDITY,
     DECODE_VALID, DECODE_DOUBLE, TEXT_LATIN1, TEXT_UTF8, TEXT_UTF16_LE, TEXT_UTF16_BE, DATA_LENGTH, READ_RECORD,
-    RECORD_VALUE, CALLS
+    RECORD_VALUE, RECORD_PAYLOAD, CALLS
 };
 
 /* Counts what a call answered, so that an input with a new answer is kept. */
 void note(enum call call, unsigned what);
 
-#define REPLY(number) (1u << (number))
+#define REPLY(number) ((uint64_t)1 << (number))
 #define FIELD_REFUSALS (REPLY(18) | REPLY(19) | REPLY(20) | REPLY(21) | REPLY(22))
 
 /* The reply is one of those allowed, and tells something only where it may. */
-void check_reply(enum call call, uint32_t reply, uint64_t told, uint32_t allowed);
+void check_reply(enum call call, uint32_t reply, uint64_t told, uint64_t allowed);
+
+/* A number of so many bytes as it stands in a file. */
+uint64_t little(const uint8_t *place, int size);
+
+/* At most 2^64-1, which is more bytes than a slice has. */
+uint64_t sum_of(uint64_t a, uint64_t b);
 
 /* Choices. An input that has run out goes on with zeros. */
 void start_choices(const uint8_t *data, size_t size);
@@ -32,7 +38,13 @@ uint64_t choose_raw(int size);
 
 /* Mostly small, at times a limit, at times anything. */
 uint64_t choose_number(void);
+
+/* Where it is small, below the limit. */
+uint64_t choose_below(uint64_t limit);
 size_t choose_size(size_t most);
+
+/* Mostly as many bytes as are needed, or one or two more. */
+size_t choose_room(uint64_t needed);
 
 /* How a channel is read in a record: its description, and the sizes beside it. */
 typedef struct reading {
@@ -47,7 +59,7 @@ int same_valid_value(mf4_valid_value a, mf4_valid_value b);
 int same_written(mf4_written a, mf4_written b);
 
 /* The reply is one of those allowed, and nothing behind the count has changed. */
-void check_written(enum call call, mf4_written answer, lent out, uint32_t allowed);
+void check_written(enum call call, mf4_written answer, lent out, uint64_t allowed);
 
 void exercise_types(uint8_t code);
 void exercise_header(lent input);

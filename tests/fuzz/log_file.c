@@ -11,19 +11,28 @@ static uint64_t add_block(log_file *file, size_t size)
     return address;
 }
 
-static uint64_t add_data_block(log_file *file, size_t size, uint8_t seed)
+static uint64_t add_data_block(log_file *file, log_chain *chain, uint32_t data_id, size_t size, uint8_t seed)
 {
     uint64_t address = add_block(file, 24 + size);
-    mf4_block_header header = { MF4_ID_DT, 0, 0, 0 };
+    mf4_block_header header = { data_id, 0, 24 + size, 0 };
     size_t i;
-    header.block_len = 24 + size;
     MUST(mf4_write_header(header, file->bytes + address, 24).reply == MF4_ANSWER);
     for (i = 0; i < size; i++) {
         uint8_t byte = (uint8_t)(seed + 37 * i);
         file->bytes[address + 24 + i] = byte;
-        file->joined[file->joined_length++] = byte;
+        chain->places[chain->joined_length] = (size_t)address + 24 + i;
+        chain->joined[chain->joined_length++] = byte;
     }
     return address;
+}
+
+void put_joined(log_file *file, log_chain *chain, uint64_t at, uint64_t number, int size)
+{
+    for (; size > 0 && at < chain->joined_length; size--, at++, number >>= 8) {
+        chain->joined[at] = (uint8_t)number;
+        if (chain->places[at] < file->length)
+            file->bytes[chain->places[at]] = (uint8_t)number;
+    }
 }
 
 /* A list to be written: with one length, or with an offset for each fragment. */
@@ -100,7 +109,7 @@ static void breach(list_plan *plans, size_t lists)
 }
 
 /* The list's block stands in front of its data, so its room is kept and it is written once the addresses are known. */
-static uint64_t add_list(log_file *file, const list_plan *plan, uint64_t previous_list, size_t previous_next_at)
+static uint64_t add_list(log_file *file, log_chain *chain, uint32_t data_id, const list_plan *plan, uint64_t previous)
 {
     size_t count = plan->count, i;
     uint64_t links[MOST_FRAGMENTS] = { 0 }, offsets[MOST_FRAGMENTS] = { 0 };
@@ -108,42 +117,48 @@ static uint64_t add_list(log_file *file, const list_plan *plan, uint64_t previou
     uint64_t address = add_block(file, size);
     mf4_written written;
     for (i = 0; i < count; i++) {
-        offsets[i] = file->joined_length;
-        links[i] = add_data_block(file, plan->sizes[i], choose_byte());
+        offsets[i] = chain->joined_length;
+        links[i] = add_data_block(file, chain, data_id, plan->sizes[i], choose_byte());
     }
     if (plan->equal)
         written = mf4_write_list_equal(0, links, count, plan->length, file->bytes + address, size);
     else
         written = mf4_write_list_variable(0, links, count, offsets, count, file->bytes + address, size);
     MUST(written.reply == MF4_ANSWER && written.count == size);
-    if (previous_list != 0)
-        memcpy(file->bytes + previous_next_at, &address, 8);
+    if (previous != 0)
+        memcpy(file->bytes + previous + 24, &address, 8);
     return address;
 }
 
-static void build_chain(log_file *file)
+/* Behind what the file has already. */
+static void build_chain(log_file *file, log_chain *chain, uint32_t data_id)
 {
     list_plan plans[MOST_LISTS];
     size_t lists = 1 + choose_byte() % MOST_LISTS, i;
     uint64_t list = 0;
     choose_plans(plans, lists);
-    file->state = lists > 1 && choose_byte() % 4 == 3 ? BREACHED : WHOLE;
-    if (file->state == BREACHED)
+    chain->state = lists > 1 && choose_byte() % 4 == 3 ? BREACHED : WHOLE;
+    if (chain->state == BREACHED)
         breach(plans, lists);
-    file->length = 1 + choose_byte() % 64;
+    file->length += 1 + choose_byte() % 64;
     for (i = 0; i < lists; i++) {
-        list = add_list(file, &plans[i], list, (size_t)list + 24);
-        if (file->start == 0)
-            file->start = list;
+        list = add_list(file, chain, data_id, &plans[i], list);
+        if (chain->start == 0)
+            chain->start = list;
     }
+}
+
+uint64_t choose_link(const log_file *file)
+{
+    int to_a_block = choose_byte() % 2;
+    return to_a_block && file->block_count > 0 ? file->blocks[choose_byte() % file->block_count] : choose_number();
 }
 
 /* A word of a block: its id, length, links, count or offsets. Links to other blocks make loops and repeats. */
 static void damage_word(log_file *file)
 {
     uint64_t address = file->blocks[choose_byte() % file->block_count] + 8u * (choose_byte() % 14);
-    int to_a_block = choose_byte() % 2;
-    uint64_t number = to_a_block ? file->blocks[choose_byte() % file->block_count] : choose_number();
+    uint64_t number = choose_link(file);
     if (address + 8 <= file->length)
         memcpy(file->bytes + address, &number, 8);
 }
@@ -159,7 +174,7 @@ static void damage(log_file *file)
     uint8_t count = choose_byte() % 4;
     for (; count > 0; count--) {
         uint8_t how = choose_byte() % 8;
-        file->state = DAMAGED;
+        file->records.state = file->payloads.state = DAMAGED;
         if (how == 0)
             file->length -= choose_byte() % file->length;
         else if (how < 3)
@@ -171,11 +186,11 @@ static void damage(log_file *file)
 
 static void take_raw(log_file *file)
 {
-    size_t i, length = (size_t)choose_raw(2) % (MOST_FILE / 4);
+    size_t i, length = (size_t)choose_raw(2) % MOST_RAW;
     for (i = 0; i < length; i++)
         file->bytes[i] = choose_byte();
     file->length = length;
-    file->start = choose_number();
+    file->records.start = choose_number();
 }
 
 void make_file(log_file *file)
@@ -185,10 +200,12 @@ void make_file(log_file *file)
         take_raw(file);
         return;
     }
-    build_chain(file);
+    build_chain(file, &file->records, MF4_ID_DT);
+    if (choose_byte() % 2 == 1)
+        build_chain(file, &file->payloads, MF4_ID_SD);
     damage(file);
     if (choose_byte() % 16 == 15) {
-        file->start = choose_number();
-        file->state = DAMAGED;
+        file->records.start = choose_number();
+        file->records.state = DAMAGED;
     }
 }

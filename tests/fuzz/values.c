@@ -32,9 +32,7 @@ static mf4_channel choose_channel(void)
 reading choose_reading(void)
 {
     reading how;
-    how.id_size = choose_number();
-    if (how.id_size < 0xE0)
-        how.id_size %= 9;
+    how.id_size = choose_below(9);
     how.data_bytes = (uint32_t)choose_number();
     how.channel = choose_channel();
     return how;
@@ -92,9 +90,6 @@ static void check_number(mf4_value value, uint64_t field, mf4_channel channel)
         MUST(value.kind == MF4_KIND_DOUBLE && value.number == (channel.bit_count == 32 ? widened((uint32_t)field) : field));
     MUST(value.at == 0 && value.length == 0);
 }
-
-/* At most 2^64-1, which is more bytes than a slice has. */
-static uint64_t sum_of(uint64_t a, uint64_t b) { return a <= UINT64_MAX - b ? a + b : UINT64_MAX; }
 
 static uint64_t start_of(reading how)
 {
