@@ -6,6 +6,7 @@
 
 enum {
     MOST_TEXT_WIDTH = 24,
+    PAYLOAD_WIDTH = 16,
     HEADING_ROOM = 2 * MDF_TEXT_ROOM + 4,
     CELL_ROOM = 2 * MF4_MAX_RECORD_SIZE + 1 /* mf4_text_room of a whole record, and a NUL */
 };
@@ -41,8 +42,8 @@ static const char *type_name(uint8_t data_type)
     return data_type < sizeof names / sizeof names[0] ? names[data_type] : "unknown";
 }
 
-/* The values of such a channel are payloads in other blocks, which are not read here. */
-static int is_elsewhere(const mf4_channel *channel)
+/* The values of such a channel are payloads in other blocks, and its field in the record is a position there. */
+static int has_payloads(const mf4_channel *channel)
 {
     return channel->channel_type == MF4_CHANNEL_VARIABLE_LENGTH && channel->data != 0;
 }
@@ -57,8 +58,8 @@ static void print_place(const mf4_channel_block *block)
         printf("; all invalid");
     else if ((block->channel.flags & MF4_CHANNEL_INVALIDATION_BIT) != 0)
         printf("; invalid where invalidation bit %" PRIu32 " is set", block->channel.pos_invalidation_bit);
-    if (is_elsewhere(&block->channel))
-        printf("; its values stand elsewhere");
+    if (has_payloads(&block->channel))
+        printf("; a position in the payloads at %" PRIu64, block->channel.data);
     if (block->conversion_addr != 0)
         printf("; raw, its conversion is not applied");
     printf("\n");
@@ -68,7 +69,7 @@ mf4_value field_reply(const mdf_group *group, const mf4_channel *channel)
 {
     static const uint8_t any_record[MF4_MAX_RECORD_SIZE];
     static const mf4_value nothing_said;
-    if (is_elsewhere(channel))
+    if (has_payloads(channel))
         return nothing_said;
     return mf4_decode_value(any_record, (size_t)group->record_size, group->record_id_size, *channel);
 }
@@ -129,10 +130,11 @@ static void spell_heading(const mdf_channel *channel, char heading[HEADING_ROOM]
         snprintf(heading, HEADING_ROOM, "%s [%s]", channel->name, unit);
 }
 
-/* Wide enough for the heading and for most values: the digits of an integer, six digits of a float, a short text. */
+/* Wide enough for the heading and for most values: the digits of an integer, six digits of a float, a short text. Where a
+ * channel has payloads, its bits are those of a position. */
 static int width_of(const mdf_channel *channel)
 {
-    const uint32_t bits = channel->block.channel.bit_count;
+    const uint32_t bits = has_payloads(&channel->block.channel) ? 8 * PAYLOAD_WIDTH : channel->block.channel.bit_count;
     const uint8_t type = channel->block.channel.data_type;
     char heading[HEADING_ROOM];
     spell_heading(channel, heading);
@@ -143,37 +145,73 @@ static int width_of(const mdf_channel *channel)
     return larger(columns_of(heading), (int)(bits / 8 < MOST_TEXT_WIDTH ? bits / 8 : MOST_TEXT_WIDTH));
 }
 
-static void spell_text(const mdf_channel *channel, const uint8_t *bytes, size_t length, char cell[CELL_ROOM])
+/* No blanks stand behind a text that is the last in its line. */
+static void print_column(const mdf_channel *channels, size_t count, size_t place, const char *text)
 {
-    const mf4_text text = mf4_text_by_type(channel->block.channel.data_type, bytes, length, (uint8_t *)cell, CELL_ROOM - 1);
-    cell[text.count] = '\0';
+    const int is_right = is_number(&channels[place]), is_last = place + 1 == count;
+    print_cell(text, is_last && !is_right ? 0 : width_of(&channels[place]), is_right);
+}
+
+/* A text without a character is told by a dash, and one that no line has room for by its size. */
+static void spell_text(uint8_t data_type, const uint8_t *bytes, const mf4_valid_value *value, char cell[CELL_ROOM])
+{
+    mf4_text text;
+    strcpy(cell, "-");
+    if (value->length == 0)
+        return;
+    text = mf4_text_by_type(data_type, bytes + value->at, (size_t)value->length, (uint8_t *)cell, CELL_ROOM - 1);
+    if (text.reply != MF4_ANSWER)
+        snprintf(cell, CELL_ROOM, "(%" PRIu64 " bytes)", text.told);
+    else
+        cell[text.count] = '\0';
     mdf_make_printable(cell);
 }
 
-/* A value is looked at only where there is one, and it is valid. A text ends at its stop: the leftovers are left out. */
-static void spell_value(const mdf_group *group, const mdf_channel *channel, const uint8_t *record, char cell[CELL_ROOM])
+/* Why a field is refused stands below its channel; why a payload is may differ between records, and is said here. */
+static void spell_refusal(const mf4_channel *channel, uint32_t reply, char cell[CELL_ROOM])
 {
-    const mf4_channel described = channel->block.channel;
-    const mf4_valid_value value = mf4_decode_valid_value(record, (size_t)group->record_size, group->record_id_size,
-                                                         group->data_bytes, described);
-    if (is_elsewhere(&described))
-        strcpy(cell, "elsewhere");
-    else if (value.reply != MF4_ANSWER)
-        snprintf(cell, CELL_ROOM, "refused (%" PRIu32 ")", value.reply);
-    else if (!value.is_valid)
+    if (has_payloads(channel))
+        snprintf(cell, CELL_ROOM, "refused (%" PRIu32 "): %s", reply, mf4_reply_text(reply));
+    else
+        snprintf(cell, CELL_ROOM, "refused (%" PRIu32 ")", reply);
+}
+
+/* A value is looked at only where there is one, and it is valid. A text ends at its stop: the leftovers are left out. */
+static void spell_value(const mf4_channel *channel, const uint8_t *bytes, const mf4_valid_value *value, char cell[CELL_ROOM])
+{
+    if (value->reply != MF4_ANSWER)
+        spell_refusal(channel, value->reply, cell);
+    else if (!value->is_valid)
         strcpy(cell, "invalid");
-    else if (value.kind == MF4_KIND_UNSIGNED)
-        snprintf(cell, CELL_ROOM, "%" PRIu64, value.number);
-    else if (value.kind == MF4_KIND_SIGNED)
-        snprintf(cell, CELL_ROOM, "%" PRId64, mf4_signed_of(value.number));
-    else if (value.kind == MF4_KIND_DOUBLE)
-        snprintf(cell, CELL_ROOM, "%g", mf4_double_of(value.number));
-    else if (value.kind == MF4_KIND_TEXT)
-        spell_text(channel, record + value.at, (size_t)value.length, cell);
-    else if (value.kind == MF4_KIND_UNKNOWN)
+    else if (value->kind == MF4_KIND_UNSIGNED)
+        snprintf(cell, CELL_ROOM, "%" PRIu64, value->number);
+    else if (value->kind == MF4_KIND_SIGNED)
+        snprintf(cell, CELL_ROOM, "%" PRId64, mf4_signed_of(value->number));
+    else if (value->kind == MF4_KIND_DOUBLE)
+        snprintf(cell, CELL_ROOM, "%g", mf4_double_of(value->number));
+    else if (value->kind == MF4_KIND_TEXT)
+        spell_text(channel->data_type, bytes, value, cell);
+    else if (value->kind == MF4_KIND_UNKNOWN)
         strcpy(cell, "?");
     else
-        snprintf(cell, CELL_ROOM, "%" PRIu64 " bytes", value.length);
+        snprintf(cell, CELL_ROOM, "%" PRIu64 " bytes", value->length);
+}
+
+static void spell_field(const mdf_record *record, const mf4_channel *channel, char cell[CELL_ROOM])
+{
+    const mdf_group *group = record->group;
+    const mf4_valid_value value = mf4_decode_valid_value(record->bytes, (size_t)group->record_size, group->record_id_size,
+                                                         group->data_bytes, *channel);
+    spell_value(channel, record->bytes, &value, cell);
+}
+
+/* A payload's value is told as a field's is, and so it is spelled by the same rules. */
+static void spell_payload(mdf_record *record, const mf4_channel *channel, char cell[CELL_ROOM])
+{
+    const mf4_payload read = mdf_read_payload(record, *channel);
+    const mf4_valid_value value = { .reply = read.reply, .kind = read.kind, .number = read.number, .at = read.at,
+                                    .length = read.length, .is_valid = read.is_valid };
+    spell_value(channel, record->payload, &value, cell);
 }
 
 void print_heading(const mdf_channel *channels, size_t count)
@@ -182,16 +220,20 @@ void print_heading(const mdf_channel *channels, size_t count)
     size_t i;
     for (i = 0; i < count; i++) {
         spell_heading(&channels[i], heading);
-        print_cell(heading, width_of(&channels[i]), is_number(&channels[i]));
+        print_column(channels, count, i, heading);
     }
 }
 
-void print_values(const mdf_group *group, const mdf_channel *channels, size_t count, const uint8_t *record)
+void print_values(mdf_record *record, const mdf_channel *channels, size_t count)
 {
     char cell[CELL_ROOM];
     size_t i;
     for (i = 0; i < count; i++) {
-        spell_value(group, &channels[i], record, cell);
-        print_cell(cell, width_of(&channels[i]), is_number(&channels[i]));
+        const mf4_channel *channel = &channels[i].block.channel;
+        if (has_payloads(channel))
+            spell_payload(record, channel, cell);
+        else
+            spell_field(record, channel, cell);
+        print_column(channels, count, i, cell);
     }
 }

@@ -1,8 +1,9 @@
 /*
- * Reads a pump log with the library: which channels it has, what each record says, and which pumps are due for service. All
- * of it is found in the file, by its links from the header block on; of pumps the loader knows the name of one channel and
- * the hours of a service. Then it shows three refusals: a record past the end, a field that a wrong description puts past
- * its record's end, and a copy of the log with a short block in the middle of its chain.
+ * Reads a pump log with the library: which channels it has, what each record says, texts of any length too, and which pumps
+ * are due for service. All of it is found in the file, by its links from the header block on; of pumps the loader knows the
+ * name of one channel and the hours of a service. Then it shows four refusals: a record past the end, a field that a wrong
+ * description puts past its record's end, a payload whose position is read from a wrong place, and a copy of the log with a
+ * short block in the middle of its chain.
  *
  *     loader FILE
  */
@@ -31,41 +32,47 @@ static const mdf_channel *find_channel(const char *name, size_t count)
 
 /* Hours of any number type are compared as doubles, which keep the order. Where they are no number, invalid or in need of a
  * conversion, nothing is known of service. */
-static const char *service_of(const mdf_group *group, const mdf_channel *hours, const uint8_t *record)
+static const char *service_of(const mdf_record *record, const mdf_channel *hours)
 {
+    const mdf_group *group = record->group;
     const size_t size = (size_t)group->record_size;
     double run;
     if (hours == NULL)
         return "";
-    run = mf4_double_of(mf4_decode_double(record, size, group->record_id_size, hours->block.channel));
+    run = mf4_double_of(mf4_decode_double(record->bytes, size, group->record_id_size, hours->block.channel));
     if (hours->block.conversion_addr == 0
-        && mf4_check_validity(record, size, group->record_id_size, group->data_bytes, hours->block.channel)) {
+        && mf4_check_validity(record->bytes, size, group->record_id_size, group->data_bytes, hours->block.channel)) {
         if (run >= SERVICE_HOURS)
-            return "  SERVICE DUE";
+            return "DUE";
         if (run < SERVICE_HOURS)
             return "";
     }
-    return "  hours unknown";
+    return "unknown";
 }
 
-/* Fetches each record once and decodes every channel from it; gives the reply to the first record that is refused. */
+static void print_record(mdf_record *record, size_t count, const mdf_channel *hours)
+{
+    printf("  %6" PRIu64 "  %-7s", record->number, service_of(record, hours));
+    print_values(record, channels, count);
+    printf("\n");
+}
+
+/* Fetches each record once and decodes every field from it; gives the reply to the first record that is refused. */
 static uint32_t print_records(const mdf_file *file, const mdf_group *group, size_t count, uint64_t *number)
 {
     const mdf_channel *hours = find_channel(HOURS_NAME, count);
-    uint8_t record[MF4_MAX_RECORD_SIZE];
+    mdf_record record = { .file = file, .group = group };
+    uint32_t reply;
     if (hours == NULL)
         printf("  no channel is named " HOURS_NAME ", so nothing is said of service\n");
-    printf("  record");
+    printf("  record  service");
     print_heading(channels, count);
     printf("\n");
-    for (*number = 0;; ++*number) {
-        mf4_fetched fetched = mdf_read_record(file, group, *number, record, sizeof record);
-        if (fetched.reply != MF4_ANSWER)
-            return fetched.reply;
-        printf("  %6" PRIu64, *number);
-        print_values(group, channels, count, record);
-        printf("%s\n", service_of(group, hours, record));
-    }
+    for (; (reply = mdf_read_record(&record).reply) == MF4_ANSWER; record.number++)
+        print_record(&record, count, hours);
+    free(record.payload);
+    *number = record.number;
+    return reply;
 }
 
 static void print_size(const mdf_group *group, uint64_t length)
@@ -108,11 +115,8 @@ static int show_group(mdf_file *file, uint64_t address, mdf_group *group)
 }
 
 /* Lets the last number of the records begin where they end, in a copy of its description. */
-static int show_field_outside(mdf_file *file, const mdf_group *group)
+static int show_field_outside(mdf_file *file, const mdf_group *group, size_t left)
 {
-    size_t left;
-    if (!mdf_read_channels(file, group, channels, &left))
-        return 0;
     while (left-- > 0) {
         mf4_channel described = channels[left].block.channel;
         mf4_value value = field_reply(group, &described);
@@ -125,6 +129,35 @@ static int show_field_outside(mdf_file *file, const mdf_group *group)
         print_refusal(group, value);
         return value.reply == MF4_FIELD_OUTSIDE || mdf_trouble(file, "the field outside its record should be refused");
     }
+    return 1;
+}
+
+/* Reads the position of record 0's last payload from the record's front, by a copy of its description. A log that has some
+ * position there shows nothing. */
+static void show_payload_outside(const mdf_file *file, const mdf_group *group, size_t left)
+{
+    mdf_record record = { .file = file, .group = group };
+    while (left-- > 0) {
+        mf4_channel described = channels[left].block.channel;
+        uint32_t reply = mdf_read_payload(&record, described).reply;
+        if (reply != MF4_ANSWER)
+            continue;
+        described.byte_offset = 0;
+        reply = mdf_read_payload(&record, described).reply;
+        if (reply != MF4_ANSWER)
+            printf("\nthe same log with a description that puts the position of %s at byte 0:\n"
+                   "  refused (%" PRIu32 "): %s\n", channels[left].name, reply, mf4_reply_text(reply));
+        break;
+    }
+    free(record.payload);
+}
+
+static int show_wrong_descriptions(mdf_file *file, const mdf_group *group)
+{
+    size_t count;
+    if (!mdf_read_channels(file, group, channels, &count) || !show_field_outside(file, group, count))
+        return 0;
+    show_payload_outside(file, group, count);
     return 1;
 }
 
@@ -164,7 +197,7 @@ static int show_file(mdf_file *file)
         if (group.is_chain && !chain.is_chain)
             chain = group;
     }
-    return show_field_outside(file, &group) && (!chain.is_chain || show_short_block(file, &chain));
+    return show_wrong_descriptions(file, &group) && (!chain.is_chain || show_short_block(file, &chain));
 }
 
 int main(int count, char **words)

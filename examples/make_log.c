@@ -8,40 +8,91 @@
  *     byte  0..5    serial, Latin-1, ends at a NUL; behind the NUL stand leftovers of older, longer serials
  *     byte  6..14   hours run, unsigned, 64 bits from bit 4 of byte 6 on, so over 9 bytes
  *     byte 15..18   oil temperature in degrees Celsius, 32-bit float
- *     byte 19       invalidation bits; bit 0 is the temperature's
+ *     byte 19..26   where the pump stands, UTF-8 of any length: the position of its payload
+ *     byte 27..34   a mechanic's remark, Latin-1 of any length: the position of its payload
+ *     byte 35       invalidation bits; bit 0 is the temperature's, bit 1 the site's
  *
  * Six records and the beginning of a seventh, whose pump lost power, stand in six data blocks, which two data lists name one
- * behind the other. Both lists declare one length, 23 bytes of data, and so MDF 4.1 wants it of every block but the very
- * last, which has the 12 bytes that are left; and the last list alone may count fewer blocks: here it has 2, and the first 4.
+ * behind the other. Both lists declare one length, 41 bytes of data, and so MDF 4.1 wants it of every block but the very
+ * last, which has the 18 bytes that are left; and the last list alone may count fewer blocks: here it has 2, and the first 4.
  * All cuts fall inside records: a reader that took blocks for records would not get far.
+ *
+ * The sites stand in three blocks of payloads, and the remarks in three others: for each record four bytes of length and so
+ * many of text, with its NUL, or none. The sites' list declares one length, 28 bytes; that of the remarks has an offset for
+ * each block. Two of the cuts fall inside a length, one inside a remark and one inside a letter.
  */
 #include <stdio.h>
+#include <stdlib.h>
 #include <string.h>
 
 #include "mdf_layout.h"
 #include "mdf_write.h"
 
 enum {
-    RECORD_SIZE = 20,
-    DATA_BYTES = 19,
+    RECORD_SIZE = 36,
+    DATA_BYTES = 35,
     SERIAL_SIZE = 6,
     HOURS_AT = 6,
     HOURS_BIT_OFFSET = 4,
     TEMPERATURE_AT = 15,
+    SITE_AT = 19,
+    REMARK_AT = 27,
+    TEMPERATURE_INVALID = 1, /* bit 0 */
+    SITE_INVALID = 2,        /* bit 1 */
 
     RECORDS = 6,
     TAIL = 7,
-    DATA = RECORDS * RECORD_SIZE + TAIL,
-    CHANNELS = 3,
-    BLOCK_DATA = 23,
-    BLOCKS = (DATA + BLOCK_DATA - 1) / BLOCK_DATA,
-    BLOCKS_OF_FIRST_LIST = 4,
-    BLOCKS_OF_LAST_LIST = BLOCKS - BLOCKS_OF_FIRST_LIST
+    CHANNELS = 5,
+    BLOCK_DATA = 41,
+    SITE_BLOCK_DATA = 28,
+    REMARK_BLOCKS = 3,
+    MOST_BLOCKS_OF_LIST = 4,
+    MOST_JOINED = 256
 };
 
 #define START_TIME UINT64_C(1772431200000000000) /* 2 March 2026, 6 o'clock UTC, in nanoseconds */
 
+/* What the blocks of a chain hold, end to end. */
+typedef struct joined_data {
+    uint8_t bytes[MOST_JOINED];
+    size_t length;
+} joined_data;
+
+typedef struct pump_data {
+    joined_data records, sites, remarks;
+} pump_data;
+
+typedef struct pump_entry {
+    char serial[SERIAL_SIZE + 1];
+    uint64_t hours;
+    float degrees;
+    uint8_t invalidation_bits;
+    const char *site, *remark;
+} pump_entry;
+
 /* ---- the records ------------------------------------------------------------------------------------------------ */
+
+static void append(joined_data *data, const void *bytes, size_t size)
+{
+    if (size > MOST_JOINED - data->length) {
+        fputs("make_log: MOST_JOINED is too small\n", stderr);
+        exit(1);
+    }
+    memcpy(data->bytes + data->length, bytes, size);
+    data->length += size;
+}
+
+/* A text's length, its NUL counted, and the text; of an empty one the length 0 alone. Gives the position. */
+static uint64_t append_payload(joined_data *payloads, const char *text)
+{
+    const uint64_t position = payloads->length;
+    const size_t size = text[0] != '\0' ? strlen(text) + 1 : 0;
+    uint8_t length[4];
+    put_little(length, size, 4);
+    append(payloads, length, 4);
+    append(payloads, text, size);
+    return position;
+}
 
 /* The counter begins in the upper half of its first byte and ends in the lower half of its ninth. */
 static void put_hours(uint8_t *record, uint64_t hours)
@@ -50,38 +101,44 @@ static void put_hours(uint8_t *record, uint64_t hours)
     record[HOURS_AT + 8] = (uint8_t)(hours >> (64 - HOURS_BIT_OFFSET));
 }
 
-static void put_temperature(uint8_t *record, float degrees, int is_valid)
+static void put_temperature(uint8_t *record, float degrees)
 {
     uint32_t bits;
     memcpy(&bits, &degrees, sizeof bits);
     put_little(record + TEMPERATURE_AT, bits, 4);
-    record[DATA_BYTES] = is_valid ? 0 : 1;
 }
 
-/* PX1 comes in two spellings: with the leftover "9" behind its NUL, and without. It is one pump. */
-static void make_records(uint8_t *data)
+static void append_record(pump_data *data, const pump_entry *entry)
 {
-    static const struct {
-        char serial[SERIAL_SIZE + 1];
-        uint64_t hours;
-        float degrees;
-        int is_valid;
-    } entries[RECORDS] = {
-        { "PX1\0" "9", 180, 71.5f, 1 },
-        { "PX2\0" "47", 499, 68.25f, 1 },
-        { "PX1\0\0", 512, 74.0f, 1 },
-        { "PX\xE9" "4\0", 500, 0.0f, 0 },
-        { "PX2\0" "47", 506, 69.0f, 1 },
-        { "PX9991", 1152921504606847000, 70.5f, 1 },  /* a bench's preset: without the ninth byte it would read 24 */
+    uint8_t record[RECORD_SIZE] = { 0 };
+    memcpy(record, entry->serial, SERIAL_SIZE);
+    put_hours(record, entry->hours);
+    put_temperature(record, entry->degrees);
+    put_little(record + SITE_AT, append_payload(&data->sites, entry->site), 8);
+    put_little(record + REMARK_AT, append_payload(&data->remarks, entry->remark), 8);
+    record[DATA_BYTES] = entry->invalidation_bits;
+    append(&data->records, record, RECORD_SIZE);
+}
+
+#define LODZ_DOCK_3 "\xC5\x81\xC3\xB3" "d\xC5\xBA, dock 3" /* UTF-8, as all sites; the remarks are Latin-1 */
+#define ORLEANS "Orl\xC3\xA9" "ans"
+
+/* PX1 comes in two spellings: with the leftover "9" behind its NUL, and without. It is one pump. The hours of PX9991 are a
+ * bench's preset: without the ninth byte they would read 24. */
+static void make_records(pump_data *data)
+{
+    static const pump_entry entries[RECORDS] = {
+        { "PX1\0" "9", 180, 71.5f, 0, LODZ_DOCK_3, "" },
+        { "PX2\0" "47", 499, 68.25f, 0, ORLEANS, "seal weeps, M\xFCller has a new one" },
+        { "PX1\0\0", 512, 74.0f, 0, LODZ_DOCK_3, "oil changed" },
+        { "PX\xE9" "4\0", 500, 0.0f, TEMPERATURE_INVALID | SITE_INVALID, "", "sensor torn off, ask Andr\xE9" },
+        { "PX2\0" "47", 506, 69.0f, 0, ORLEANS, "tight again (M\xFCller)" },
+        { "PX9991", 1152921504606847000, 70.5f, 0, "bench", "" },
     };
     int i;
-    for (i = 0; i < RECORDS; i++) {
-        uint8_t *record = data + i * RECORD_SIZE;
-        memcpy(record, entries[i].serial, SERIAL_SIZE);
-        put_hours(record, entries[i].hours);
-        put_temperature(record, entries[i].degrees, entries[i].is_valid);
-    }
-    memcpy(data + RECORDS * RECORD_SIZE, "PX2\0" "47", TAIL);
+    for (i = 0; i < RECORDS; i++)
+        append_record(data, &entries[i]);
+    append(&data->records, "PX2\0" "47", TAIL);
 }
 
 /* ---- the file --------------------------------------------------------------------------------------------------- */
@@ -109,9 +166,9 @@ static uint64_t add_history(new_file *file)
 }
 
 /* The channels stand one behind the other, and their texts behind them; gives the first one's address. */
-static uint64_t add_channels(new_file *file)
+static uint64_t add_channels(new_file *file, uint64_t sites, uint64_t remarks)
 {
-    static const struct {
+    const struct {
         const char *name, *unit;
         mf4_channel channel;
     } entries[CHANNELS] = {
@@ -120,6 +177,11 @@ static uint64_t add_channels(new_file *file)
                           .bit_count = 64 } },
         { "temperature", "\xC2\xB0" "C", { .data_type = MF4_FLOAT_LE, .byte_offset = TEMPERATURE_AT, .bit_count = 32,
                                            .flags = MF4_CHANNEL_INVALIDATION_BIT } },
+        { "site", NULL, { .data_type = MF4_UTF8, .channel_type = MF4_CHANNEL_VARIABLE_LENGTH, .byte_offset = SITE_AT,
+                          .bit_count = 64, .flags = MF4_CHANNEL_INVALIDATION_BIT, .pos_invalidation_bit = 1,
+                          .data = sites } },
+        { "remark", NULL, { .data_type = MF4_LATIN1, .channel_type = MF4_CHANNEL_VARIABLE_LENGTH, .byte_offset = REMARK_AT,
+                            .bit_count = 64, .data = remarks } },
     };
     uint64_t places[CHANNELS + 1] = { 0 };
     int i;
@@ -134,42 +196,73 @@ static uint64_t add_channels(new_file *file)
     return places[0];
 }
 
-/* A list with one length: its header, the link to the next list, its data links, flags and count, and the length. */
-static size_t size_of_list(size_t blocks)
+/* A list: its header, the link to the next list, its data links, flags and count, and the one length or the offsets. */
+static size_t size_of_list(size_t blocks, size_t rest)
 {
-    return MF4_HEADER_SIZE + 8 + 8 * blocks + 8 + 8;
+    return MF4_HEADER_SIZE + 8 + 8 * blocks + 8 + 8 * rest;
 }
 
-/* The lists stand in front of the blocks, so their room is kept first and they are written last; gives the first's place. */
-static uint64_t add_data_lists(new_file *file, const uint8_t *data)
+static size_t smaller(size_t a, size_t b)
 {
-    const size_t first_size = size_of_list(BLOCKS_OF_FIRST_LIST), last_size = size_of_list(BLOCKS_OF_LAST_LIST);
-    const uint64_t first = keep_room(file, first_size), last = keep_room(file, last_size);
-    uint64_t links[BLOCKS];
-    size_t i, done = 0;
-    for (i = 0; i < BLOCKS; i++, done += BLOCK_DATA)
-        links[i] = add_data(file, data + done, DATA - done < BLOCK_DATA ? DATA - done : BLOCK_DATA);
-    must_write(mf4_write_list_equal(last, links, BLOCKS_OF_FIRST_LIST, BLOCK_DATA, file->bytes + first, first_size));
-    must_write(mf4_write_list_equal(0, links + BLOCKS_OF_FIRST_LIST, BLOCKS_OF_LAST_LIST, BLOCK_DATA, file->bytes + last,
-                                    last_size));
+    return a < b ? a : b;
+}
+
+/* Blocks of so many bytes of data, the last one of what is left; gives how many. */
+static size_t add_blocks(new_file *file, uint32_t id, const joined_data *data, size_t size, uint64_t links[MOST_JOINED])
+{
+    size_t done, count = 0;
+    for (done = 0; done < data->length; done += size)
+        links[count++] = add_data(file, id, data->bytes + done, smaller(size, data->length - done));
+    return count;
+}
+
+/* Blocks of one length, and then their lists, end to end since each takes a multiple of 8; gives the first one's address. */
+static uint64_t add_chain(new_file *file, uint32_t id, const joined_data *data, size_t length)
+{
+    uint64_t links[MOST_JOINED], first = 0;
+    const size_t count = add_blocks(file, id, data, length, links);
+    size_t done;
+    for (done = 0; done < count; done += MOST_BLOCKS_OF_LIST) {
+        const size_t blocks = smaller(MOST_BLOCKS_OF_LIST, count - done), size = size_of_list(blocks, 1);
+        const uint64_t list = keep_room(file, size), next = done + blocks < count ? list + size : 0;
+        must_write(mf4_write_list_equal(next, links + done, blocks, length, file->bytes + list, size));
+        first = done == 0 ? list : first;
+    }
     return first;
 }
 
-/* A data group with its one channel group, the channels and the data. */
-static uint64_t add_group(new_file *file, const uint8_t *data)
+/* Blocks that end wherever the writer liked, and a list with the offset of each; gives the list's address. */
+static uint64_t add_remarks(new_file *file, const joined_data *remarks)
+{
+    const uint64_t offsets[REMARK_BLOCKS + 1] = { 0, 21, 43, remarks->length };
+    const size_t size = size_of_list(REMARK_BLOCKS, REMARK_BLOCKS);
+    uint64_t links[REMARK_BLOCKS], list;
+    int i;
+    for (i = 0; i < REMARK_BLOCKS; i++)
+        links[i] = add_data(file, MF4_ID_SD, remarks->bytes + offsets[i], (size_t)(offsets[i + 1] - offsets[i]));
+    list = keep_room(file, size);
+    must_write(mf4_write_list_variable(0, links, REMARK_BLOCKS, offsets, REMARK_BLOCKS, file->bytes + list, size));
+    return list;
+}
+
+/* A data group with its one channel group, the data, the payloads and the channels. */
+static uint64_t add_group(new_file *file, const pump_data *data)
 {
     const uint64_t data_group = add_block(file, MF4_ID_DG, DG_LINKS, DG_FIELDS);
     const uint64_t channel_group = add_block(file, MF4_ID_CG, CG_LINKS, CG_FIELDS);
+    uint64_t sites, remarks;
     set_link(file, data_group, DG_FIRST_CG, channel_group);
     set_field(file, channel_group, CG_LINKS, CG_CYCLES, RECORDS, 8);
     set_field(file, channel_group, CG_LINKS, CG_DATA_BYTES, DATA_BYTES, 4);
     set_field(file, channel_group, CG_LINKS, CG_INVALIDATION_BYTES, RECORD_SIZE - DATA_BYTES, 4);
-    set_link(file, channel_group, CG_FIRST_CN, add_channels(file));
-    set_link(file, data_group, DG_DATA, add_data_lists(file, data));
+    set_link(file, data_group, DG_DATA, add_chain(file, MF4_ID_DT, &data->records, BLOCK_DATA));
+    sites = add_chain(file, MF4_ID_SD, &data->sites, SITE_BLOCK_DATA);
+    remarks = add_remarks(file, &data->remarks);
+    set_link(file, channel_group, CG_FIRST_CN, add_channels(file, sites, remarks));
     return data_group;
 }
 
-static void make_log(new_file *file, const uint8_t *data)
+static void make_log(new_file *file, const pump_data *data)
 {
     uint64_t header;
     add_identification(file);
@@ -182,16 +275,16 @@ static void make_log(new_file *file, const uint8_t *data)
 int main(int count, char **words)
 {
     static new_file file;
-    uint8_t data[DATA] = { 0 };
+    static pump_data data;
     if (count != 2) {
         fputs("use: make_log FILE\n", stderr);
         return 2;
     }
-    make_records(data);
-    make_log(&file, data);
+    make_records(&data);
+    make_log(&file, &data);
     if (!save_file(&file, words[1]))
         return 1;
-    printf("%s: written, %u bytes: %d records of %d bytes and %d bytes of another, in %d data blocks\n", words[1],
-           (unsigned)file.length, RECORDS, RECORD_SIZE, TAIL, BLOCKS);
+    printf("%s: written, %u bytes: %d records of %d bytes and %d bytes of another, with sites and remarks beside them\n",
+           words[1], (unsigned)file.length, RECORDS, RECORD_SIZE, TAIL);
     return 0;
 }

@@ -1,5 +1,6 @@
 #include <inttypes.h>
 #include <stdio.h>
+#include <stdlib.h>
 #include <string.h>
 
 #include "mdf_layout.h"
@@ -178,17 +179,48 @@ mf4_length mdf_data_length(const mdf_file *file, const mdf_group *group)
     return length;
 }
 
-mf4_fetched mdf_read_record(const mdf_file *file, const mdf_group *group, uint64_t number, uint8_t *record, size_t room)
+mf4_fetched mdf_read_record(mdf_record *record)
 {
+    const mdf_file *file = record->file;
+    const mdf_group *group = record->group;
     mf4_fetched fetched = { MF4_ANSWER, 0 };
     if (group->is_chain)
-        return mf4_read_record(file->bytes, file->length, group->data, number, group->record_size, record, room);
-    if (group->record_size > room)
-        fetched.reply = MF4_BAD_RECORD_SIZE;
-    else if (number >= group->block_data / group->record_size)
+        return mf4_read_record(file->bytes, file->length, group->data, record->number, group->record_size, record->bytes,
+                               sizeof record->bytes);
+    if (record->number >= group->block_data / group->record_size)
         fetched.reply = MF4_NO_SUCH_RECORD;
     else
-        memcpy(record, file->bytes + group->data + MF4_HEADER_SIZE + number * group->record_size,
+        memcpy(record->bytes, file->bytes + group->data + MF4_HEADER_SIZE + record->number * group->record_size,
                (size_t)group->record_size);
     return fetched;
+}
+
+/* ---- payloads --------------------------------------------------------------------------------------------------- */
+
+static int make_room(mdf_record *record, uint64_t size)
+{
+    uint8_t *payload = realloc(record->payload, (size_t)size);
+    if (payload == NULL)
+        return 0;
+    record->payload = payload;
+    record->payload_room = (size_t)size;
+    return 1;
+}
+
+static mf4_payload ask_for_payload(mdf_record *record, mf4_channel channel)
+{
+    const mdf_file *file = record->file;
+    const mdf_group *group = record->group;
+    return mf4_record_payload(file->bytes, file->length, group->data, record->number, group->record_size,
+                              group->record_id_size, group->data_bytes, channel, record->bytes, sizeof record->bytes,
+                              record->payload, record->payload_room);
+}
+
+/* The library is lent the room of the payload before; where that is too short it tells what suffices, and is asked again. */
+mf4_payload mdf_read_payload(mdf_record *record, mf4_channel channel)
+{
+    mf4_payload read = ask_for_payload(record, channel);
+    if (read.reply == MF4_NO_ROOM && make_room(record, read.told))
+        read = ask_for_payload(record, channel);
+    return read;
 }

@@ -32,6 +32,16 @@ typedef struct mdf_channel {
     char unit[MDF_TEXT_ROOM]; /* "" where there is none */
 } mdf_channel;
 
+/* A record of a group, and one of its payloads. Set the first two fields, and leave the others 0. */
+typedef struct mdf_record {
+    const mdf_file *file;
+    const mdf_group *group;
+    uint64_t number;
+    uint8_t bytes[MF4_MAX_RECORD_SIZE];
+    uint8_t *payload; /* the one that was read last; to be freed */
+    size_t payload_room;
+} mdf_record;
+
 /* Whether the file is MDF 4.x at all, and its list of data groups ends; gives the first one's address. */
 int mdf_first_group(mdf_file *file, uint64_t *address);
 
@@ -45,6 +55,9 @@ void mdf_make_printable(char *text);
 
 /* As mf4_data_length and mf4_read_record, for a chain, for a single ##DT block and for no data. */
 mf4_length mdf_data_length(const mdf_file *file, const mdf_group *group);
-mf4_fetched mdf_read_record(const mdf_file *file, const mdf_group *group, uint64_t number, uint8_t *record, size_t room);
+mf4_fetched mdf_read_record(mdf_record *record);
+
+/* As mf4_record_payload, which wants a chain of records; it refuses with 6 only where there is no memory for the payload. */
+mf4_payload mdf_read_payload(mdf_record *record, mf4_channel channel);
 
 #endif

@@ -56,9 +56,9 @@ uint64_t add_text(new_file *file, uint32_t id, const char *text)
     return address;
 }
 
-uint64_t add_data(new_file *file, const uint8_t *data, size_t size)
+uint64_t add_data(new_file *file, uint32_t id, const uint8_t *data, size_t size)
 {
-    const uint64_t address = add_block(file, MF4_ID_DT, 0, size);
+    const uint64_t address = add_block(file, id, 0, size);
     memcpy(file->bytes + address + MF4_HEADER_SIZE, data, size);
     return address;
 }

@@ -30,8 +30,8 @@ void set_field(new_file *file, uint64_t block, int links, int field, uint64_t nu
 /* A ##TX or ##MD block: UTF-8, a NUL, and zeros up to a multiple of 8. */
 uint64_t add_text(new_file *file, uint32_t id, const char *text);
 
-/* A ##DT block. */
-uint64_t add_data(new_file *file, const uint8_t *data, size_t size);
+/* A ##DT or ##SD block. */
+uint64_t add_data(new_file *file, uint32_t id, const uint8_t *data, size_t size);
 
 int save_file(const new_file *file, const char *path);
 

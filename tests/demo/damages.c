@@ -19,6 +19,13 @@ static void put(uint64_t at, uint64_t number, int size)
         bad.bytes[at++] = (uint8_t)number;
 }
 
+static void add_header(uint64_t at, const char *id, uint64_t length, uint64_t links)
+{
+    memcpy(bad.bytes + at, id, 4);
+    put(at + 8, length, 8);
+    put(at + 16, links, 8);
+}
+
 /* The address of a block of the good log: of those with that id the one with that number, from 0. */
 static uint64_t block(const char *id, int number)
 {
@@ -121,16 +128,19 @@ static void change_links(void)
     lead_astray("##CG", 0, "cf....");
     lead_astray("##CN", 0, "f.f.c.f.");
     lead_astray("##CN", 2, "f.f.c.f.");
+    lead_astray("##CN", 4, "f.f.ccf.");
+    lead_astray("##DL", 2, "cccc");
+    lead_astray("##DL", 3, "cccc");
     changed(link_at("##HD", 0, 0), 0, 8, 1, "no data group: the link to it is 0");
     changed(link_at("##DG", 0, 0), block("##DG", 0), 8, 1, "a list of groups that loops");
     changed(link_at("##DG", 0, 1), 0, 8, 1, "no channel group: the link to it is 0");
-    changed(link_at("##DG", 0, 2), 0, 8, 0, "0 records of 20");
+    changed(link_at("##DG", 0, 2), 0, 8, 0, "0 records of 36");
     changed(link_at("##CG", 0, 0), block("##CG", 0), 8, 1, "another follows in its data group (unsorted data)");
     changed(link_at("##CN", 2, 0), block("##CN", 0), 8, 1, "a list of channels that loops");
     changed(link_at("##CN", 1, 0), block("##CN", 1), 8, 1, "a list of channels that loops");
     changed(link_at("##CN", 1, 2), block("##MD", 0), 8, 0, "(XML)");
     changed(link_at("##CN", 1, 4), 8, 8, 0, "hours [raw]");
-    must_hold(strstr(tried_out, "SERVICE DUE") == NULL && strstr(tried_out, "hours unknown") != NULL, "raw hours", 0);
+    must_hold(times_said("  DUE ") == 0 && times_said("  unknown  PX") == 6, "raw hours", 0);
 }
 
 /* ---- fields ----------------------------------------------------------------------------------------------------- */
@@ -139,8 +149,8 @@ static void change_identification(void)
 {
     changed(28, 330, 2, 1, "version 3.30");
     changed(28, 399, 2, 1, "version 3.99");
-    changed(28, 400, 2, 0, "SERVICE DUE");
-    changed(28, 499, 2, 0, "SERVICE DUE");
+    changed(28, 400, 2, 0, "  DUE ");
+    changed(28, 499, 2, 0, "  DUE ");
     changed(28, 500, 2, 1, "version 5.00");
     changed(0, 'X', 1, 1, "does not begin with \"MDF     \"");
     bad = good;
@@ -161,17 +171,17 @@ static void change_headers(void)
     changed(block("##DT", 1) + 8, 23, 8, 1, "refused (12)");
 }
 
-/* Lists of 4 and 2 blocks of 23 bytes: only the very last block may be shorter, and only the last list may count fewer. */
+/* Lists of 4 and 2 blocks of 41 bytes: only the very last block may be shorter, and only the last list may count fewer. */
 static void change_lists(void)
 {
-    changed(block("##DT", 0) + 8, 24 + 22, 8, 1, "refused (13)");
-    changed(block("##DT", 3) + 8, 24 + 22, 8, 1, "refused (13)");
-    changed(block("##DT", 4) + 8, 24 + 22, 8, 1, "refused (13)");
-    changed(block("##DT", 5) + 8, 24 + 11, 8, 0, "126 bytes, 6 records of 20 and a tail of 6 that is none\n");
-    changed(block("##DL", 1) + 56, 24, 8, 1, "refused (13)");
+    changed(block("##DT", 0) + 8, 24 + 40, 8, 1, "refused (13)");
+    changed(block("##DT", 3) + 8, 24 + 40, 8, 1, "refused (13)");
+    changed(block("##DT", 4) + 8, 24 + 40, 8, 1, "refused (13)");
+    changed(block("##DT", 5) + 8, 24 + 17, 8, 0, "222 bytes, 6 records of 36 and a tail of 6 that is none\n");
+    changed(block("##DL", 1) + 56, 42, 8, 1, "refused (13)");
     changed(link_at("##DL", 0, 0), block("##DL", 0), 8, 1, "refused (8)");
     changed(link_at("##DL", 1, 0), block("##DL", 0), 8, 1, "refused (13)");
-    changed(link_at("##DL", 0, 0), 0, 8, 0, "92 bytes, 4 records of 20 and a tail of 12 that is none; the file counts 6\n");
+    changed(link_at("##DL", 0, 0), 0, 8, 0, "164 bytes, 4 records of 36 and a tail of 20 that is none; the file counts 6\n");
     must_hold(times_said("short block") == 0, "one list has no short block in the middle", 0);
 }
 
@@ -182,23 +192,17 @@ static void change_fields(void)
     changed(block("##CG", 0) + 72 + 16, 1, 2, 1, "its records differ in length");
     changed(block("##CG", 0) + 72 + 24, 0, 8, 1, "records of 0 bytes");
     changed(block("##CG", 0) + 72 + 24, UINT64_MAX, 8, 1, "records of 8589934590 bytes");
-    changed(block("##CN", 1) + 88 + 2, 99, 1, 0, "unknown");
+    changed(block("##CN", 1) + 88 + 2, 99, 1, 0, "\n  hours        unknown ");
     changed(block("##CN", 1) + 88 + 2, 3, 1, 0, "signed BE");
-    changed(block("##CN", 1) + 88 + 12, 1, 4, 0, "invalid  hours unknown");
+    changed(block("##CN", 1) + 88 + 12, 1, 4, 0, "  unknown  PX9991               invalid  ");
     changed(block("##CN", 1) + 88 + 12, 1, 4, 0, "all invalid");
     changed(block("##TX", 1) + 24, 'H', 1, 0, "no channel is named hours");
     changed(block("##TX", 1) + 24, 0xFF, 1, 0, "<Invalid UTF8>");
     changed(block("##TX", 1) + 24, 0x1B, 1, 0, "?ours");
-    changed(block("##DT", 0) + 24 + 2, 0x9B, 1, 0, "     0  PX??");
+    changed(block("##DT", 0) + 24 + 2, 0x9B, 1, 0, "     0           PX??");
+    changed(block("##DT", 0) + 24, 0, 1, 0, "     0           -  ");
     changed(block("##TX", 2) + 24, UINT64_C(0x6868686868686868), 8, 0, "hours [hhhhhhhh] ");
-    changed(block("##DG", 0) + 56, 1, 1, 0, "6 records of 21 and a tail of 1 that is none");
-    bad = good;
-    put(block("##CN", 1) + 88, 1, 1);
-    put(link_at("##CN", 1, 5), 8, 8);
-    must_say(&bad, "values in other blocks", 0, "elsewhere");
-    put(block("##CN", 1) + 88 + 8, 0, 4);
-    must_say(&bad, "values of no bits in other blocks", 0, "elsewhere");
-    must_hold(strstr(tried_out, "\n    refused (") == NULL, "values of no bits in other blocks", 0);
+    changed(block("##DG", 0) + 56, 1, 1, 0, "6 records of 37 and a tail of 1 that is none");
 }
 
 /* A channel whose field is refused then: below the channel stands once why, and in each of the six records the number. */
@@ -221,9 +225,9 @@ static void refuse_fields(void)
     changed_field(hours + 8, 0, 4, 18, "the description gives the number no bits");
     changed_field(hours + 3, 8, 1, 19, "the description's bit offset is over 7");
     changed_field(hours + 8, 65, 4, 20, "the description gives the integer over 64 bits");
-    changed_field(hours + 4, 1000, 4, 21, OUTSIDE("1009", "20"));
-    must_hold(times_said("  hours unknown\n") == 6, "refused hours", 0);
-    changed_field(serial + 4, 15, 4, 21, OUTSIDE("21", "20"));
+    changed_field(hours + 4, 1000, 4, 21, OUTSIDE("1009", "36"));
+    must_hold(times_said("  unknown  PX") == 6, "refused hours", 0);
+    changed_field(serial + 4, 31, 4, 21, OUTSIDE("37", "36"));
     changed_field(temperature + 8, 16, 4, 22, "the description gives the float neither 32 nor 64 bits");
 }
 
@@ -231,12 +235,95 @@ static void refuse_fields(void)
 static void put_outside(void)
 {
     const uint64_t hours = block("##CN", 1) + 88, temperature = block("##CN", 2) + 88;
-    changed(temperature + 8, 16, 4, 0, "puts hours at byte 20:\n  refused (21): " OUTSIDE("29", "20") "\n");
+    changed(temperature + 8, 16, 4, 0, "puts hours at byte 36:\n  refused (21): " OUTSIDE("45", "36") "\n");
     put(hours + 8, 0, 4);
     must_say(&bad, "no number is answered", 0, "refused (18)");
-    must_hold(times_said(" puts ") == 0, "no number is answered", 0);
-    changed(block("##DG", 0) + 56, 1, 1, 0, "puts temperature at byte 21:\n  refused (21): " OUTSIDE("26", "21") "\n");
+    must_hold(times_said(" puts hours ") + times_said(" puts temperature ") == 0, "no number is answered", 0);
+    changed(block("##DG", 0) + 56, 1, 1, 0, "puts temperature at byte 37:\n  refused (21): " OUTSIDE("42", "37") "\n");
 }
+
+/* ---- payloads --------------------------------------------------------------------------------------------------- */
+
+/* The log with one number in it changed: in so many records the payload is refused so, and all else is printed. A refusal at
+ * the start of a line is that of something else. */
+static void changed_payload(uint64_t at, uint64_t value, int size, unsigned number, unsigned records)
+{
+    char cell[32], line[32];
+    snprintf(cell, sizeof cell, "  refused (%u): ", number);
+    snprintf(line, sizeof line, "\n  refused (%u): ", number);
+    changed(at, value, size, 0, cell);
+    must_hold(times_said(cell) - times_said(line) == records, cell, at);
+}
+
+/* A position is a field of 64 bits from bit 0 on, inside the record; and hours, from bit 4 on, are none. */
+static void change_positions(void)
+{
+    const uint64_t hours = block("##CN", 1) + 88, remark = block("##CN", 4) + 88, record = block("##DT", 0) + 24;
+    changed_payload(remark + 3, 1, 1, 35, 6);
+    changed_payload(remark + 8, 63, 4, 35, 6);
+    changed_payload(remark + 8, 65, 4, 35, 6);
+    changed_payload(remark + 4, 29, 4, 21, 6);
+    changed_payload(record + 27, 114, 8, 23, 1);
+    changed_payload(record + 27, UINT64_MAX, 8, 23, 1);
+    changed_payload(record + 27, UINT64_MAX - 3, 8, 23, 1);
+    changed(link_at("##CN", 4, 5), 0, 8, 0, "byte 27\n");
+    changed(hours, 1, 1, 0, "     0           PX1                      180 ");
+    put(link_at("##CN", 1, 5), block("##DL", 3), 8);
+    must_say(&bad, "hours of any length", 0, "  unknown  PX1     refused (35): the channel holds no position of a payload");
+}
+
+/* Sites in blocks 0 to 2 of one length, 28 bytes; remarks in blocks 3 to 5 with offsets. */
+static void change_chains(void)
+{
+    const uint64_t sites = link_at("##CN", 3, 5), remarks = link_at("##CN", 4, 5);
+    changed_payload(sites, block("##SD", 0), 8, 3, 6);
+    changed_payload(remarks, block("##DL", 0), 8, 12, 6);
+    changed_payload(remarks, good.length, 8, 11, 6);
+    changed_payload(block("##DL", 3) + 72, 20, 8, 13, 6);
+    changed_payload(block("##SD", 1) + 8, 24 + 27, 8, 13, 6);
+    changed_payload(block("##SD", 4) + 8, 24 + 21, 8, 13, 6);
+    changed_payload(block("##SD", 2) + 8, 24 + 23, 8, 23, 1);
+    changed_payload(block("##SD", 5) + 8, 24 + 73, 8, 23, 1);
+    changed_payload(block("##SD", 0) + 24, 77, 4, 23, 1);
+    changed(block("##SD", 0) + 24, 76, 4, 0, "dock 3  ");
+    must_hold(strcmp(tried_out, good_out) == 0, "what stands behind a text's NUL", 0);
+    changed(sites, block("##DL", 3), 8, 0, "0           PX1                      180              71.5  -  ");
+}
+
+/* What the bytes of a payload stand for: the remarks have 0, 33, 12, 27, 21 and 0. */
+static void change_contents(void)
+{
+    const uint64_t remark = block("##CN", 4) + 88, site = block("##SD", 0) + 24 + 4;
+    changed(remark + 2, 10, 1, 0, "  33 bytes\n");
+    changed(remark + 2, 0, 1, 0, "  Orl\xC3\xA9" "ans            7306376951619478899\n");
+    changed_payload(remark + 2, 0, 1, 21, 2);
+    changed(remark + 12, 1, 4, 0, "  Orl\xC3\xA9" "ans           invalid\n");
+    changed(site + 4, 0x1B, 1, 0, "  \xC5\x81\xC3\xB3?\xC5\xBA, dock 3  ");
+    changed(site, 0xFF, 1, 0, "  <Invalid UTF8>    -\n");
+}
+
+/* A remark behind the log's end that no line has room for: a block with its length, and 83 times the same 400 bytes. */
+static void lengthen_payload(void)
+{
+    const uint64_t length = (good.length + 7) / 8 * 8, text = length + 32, list = text + 424, links = 84;
+    uint64_t i;
+    bad = good;
+    bad.length = list + 40 + 16 * links;
+    add_header(length, "##SD", 28, 0);
+    put(length + 24, 83 * 400, 4);
+    add_header(text, "##SD", 424, 0);
+    memset(bad.bytes + text + 24, 'x', 400);
+    add_header(list, "##DL", 40 + 16 * links, 1 + links);
+    put(list + 36 + 8 * links, links, 4);
+    for (i = 0; i < links; i++) {
+        put(list + 32 + 8 * i, i == 0 ? length : text, 8);
+        put(list + 40 + 8 * (links + i), i == 0 ? 0 : 4 + 400 * (i - 1), 8);
+    }
+    put(link_at("##CN", 4, 5), list, 8);
+    must_say(&bad, "a long remark", 0, "  (33200 bytes)\n");
+}
+
+/* ---- more blocks ------------------------------------------------------------------------------------------------ */
 
 /* A name of 100 bytes, behind the log's end. */
 static void lengthen_name(void)
@@ -245,8 +332,7 @@ static void lengthen_name(void)
     bad = good;
     bad.length = name + 24 + 104;
     put(link_at("##CN", 1, 2), name, 8);
-    memcpy(bad.bytes + name, "##TX", 4);
-    put(name + 8, 24 + 104, 8);
+    add_header(name, "##TX", 24 + 104, 0);
     memset(bad.bytes + name + 24, 'h', 100);
     must_say(&bad, "a long name", 0, "  (100 bytes)  unsigned ");
 }
@@ -256,21 +342,18 @@ static void add_group(void)
 {
     const uint64_t group = (good.length + 7) / 8 * 8, data = group + 72;
     bad = good;
-    bad.length = data + 24 + 20;
+    bad.length = data + 24 + 36;
     put(link_at("##DG", 0, 0), group, 8);
-    memcpy(bad.bytes + group, "##DG", 4);
-    put(group + 8, 72, 8);
-    put(group + 16, 5, 8);
+    add_header(group, "##DG", 72, 5);
     put(group + 24 + 8, block("##CG", 0), 8);
     put(group + 24 + 16, data, 8);
-    memcpy(bad.bytes + data, "##DT", 4);
-    put(data + 8, 24 + 20, 8);
-    memcpy(bad.bytes + data + 24, good.bytes + block("##DT", 0) + 24, 20);
-    must_say(&bad, "two groups", 0, "20 bytes, 1 records of 20; the file counts 6\n");
-    must_hold(strstr(strstr(tried_out, "20 bytes, 1"), "  PX1                      180              71.5\n") != NULL,
-              "a record in a single block", 0);
-    put(data + 8, 24 + 21, 8);
-    must_say(&bad, "a single block past the end", 1, "its 45 bytes pass the file's end");
+    add_header(data, "##DT", 24 + 36, 0);
+    memcpy(bad.bytes + data + 24, good.bytes + block("##DT", 0) + 24, 36);
+    must_say(&bad, "two groups", 0, "36 bytes, 1 records of 36; the file counts 6\n");
+    must_hold(strstr(strstr(tried_out, "36 bytes, 1"), "                      180              71.5  refused (3): ") != NULL,
+              "a record in a single block, whose payloads want a chain", 0);
+    put(data + 8, 24 + 37, 8);
+    must_say(&bad, "a single block past the end", 1, "its 61 bytes pass the file's end");
     put(data + 8, 23, 8);
     must_say(&bad, "a single block without a header", 1, "are no ##DT block");
 }
@@ -286,16 +369,14 @@ static void add_lists_with_offsets(void)
     put(first + 24, first + 56, 8);
     for (i = 0; i < 2; i++) {
         const uint64_t list = first + 56 * (uint64_t)i;
-        memcpy(bad.bytes + list, "##DL", 4);
-        put(list + 8, 56, 8);
-        put(list + 16, 2, 8);
+        add_header(list, "##DL", 56, 2);
         put(list + 32, block("##DT", i), 8);
         put(list + 44, 1, 4);
-        put(list + 48, 23 * (uint64_t)i, 8);
+        put(list + 48, 41 * (uint64_t)i, 8);
     }
-    must_say(&bad, "lists with offsets", 0, "46 bytes, 2 records of 20 and a tail of 6 that is none; the file counts 6\n");
+    must_say(&bad, "lists with offsets", 0, "82 bytes, 2 records of 36 and a tail of 10 that is none; the file counts 6\n");
     must_hold(times_said("short block") == 0, "lists with offsets", 2);
-    put(first + 56 + 48, 22, 8);
+    put(first + 56 + 48, 40, 8);
     must_say(&bad, "an untrue offset", 1, "refused (13)");
 }
 
@@ -315,6 +396,10 @@ int main(int count, char **words)
     change_fields();
     refuse_fields();
     put_outside();
+    change_positions();
+    change_chains();
+    change_contents();
+    lengthen_payload();
     lengthen_name();
     add_group();
     add_lists_with_offsets();

@@ -23,6 +23,8 @@ KINDS = {
 # Where in its fields a kind has reserved bytes, which are 0.
 RESERVED = {"HD": slice(15, 16), "FH": slice(13, 16), "DG": slice(1, 8), "CG": slice(20, 24), "CN": slice(21, 22),
             "DL": slice(1, 4)}
+# The data types of texts that the log has, and their encodings.
+ENCODINGS = {6: "latin-1", 7: "utf-8"}
 NAMESPACE = "{http://www.asam.net/mdf/v4}"
 
 
@@ -101,39 +103,86 @@ def check_texts(log):
 
 
 def check_channels(log):
-    for _, _, _, fields in log.of_kind("CN"):
+    data_bytes, invalidation_bytes = struct.unpack_from("<II", log.of_kind("CG")[0][3], 24)
+    for _, _, links, fields in log.of_kind("CN"):
         kind, _, data_type, bit, byte, bits, flags, invalid = struct.unpack_from("<BBBBIIII", fields)
-        data_bytes, invalidation_bytes = struct.unpack_from("<II", log.of_kind("CG")[0][3], 24)
-        demand(kind == 0 and data_type <= 16 and bit < 8 and 8 * byte + bit + bits <= 8 * data_bytes, "a channel's place")
+        demand(data_type <= 16 and bit < 8 and 8 * byte + bit + bits <= 8 * data_bytes, "a channel's place")
+        demand((kind, links[5]) == (0, 0) or kind == 1 and links[5] and (bit, bits) == (0, 64), "a value or a position")
         demand(flags in (0, 2) and (flags == 0 or invalid < 8 * invalidation_bytes), "an invalidation bit")
         demand(not any(fields[22:]), "no attachments and no limits")
 
 
-def lists_of(log):
-    """The data lists in turn, from the data group on: of each its flags, count, length, and the data bytes of its blocks."""
-    address, lists = log.of_kind("DG")[0][2][2], []
+def lists_of(log, address):
+    """The data lists in turn, from an address on: of each its flags, count, one length or offsets, and its blocks."""
+    lists = []
     while address:
         kind, _, links, fields = log.blocks[address]
         demand(kind == "DL" and len(lists) < len(log.of_kind("DL")), "data lists, one behind the other")
-        demand(len(fields) == 16, "the fields of a list with one length")
-        lists.append((*struct.unpack("<B3xIQ", fields), [log.blocks[link][1] - 24 for link in links[1:]]))
+        demand(len(fields) >= 8 and len(fields) % 8 == 0, "the fields of a list")
+        flags, count, *rest = struct.unpack(f"<B3xI{len(fields) // 8 - 1}Q", fields)
+        lists.append((flags, count, rest, [log.blocks[link] for link in links[1:]]))
         address = links[0]
     demand(lists, "data lists")
     return lists
 
 
-def check_data(log):
+def check_lengths(counts, lengths, sizes):
     """One length and one count in all lists, though the last may count fewer; that length in all blocks, though the last list's
-    last may be shorter; as many whole records as are counted."""
-    flags, counts, lengths, sizes = zip(*lists_of(log))
-    demand(set(flags) == {1} and len(set(lengths)) == 1, f"flag 1 and one length in every list, not {flags}, {lengths}")
-    demand(list(counts) == [len(blocks) for blocks in sizes], f"a count of its blocks in every list, not {counts}")
+    last may be shorter."""
+    demand(all(rest == lengths[0] for rest in lengths) and len(lengths[0]) == 1, f"one length in every list, not {lengths}")
     demand(len(set(counts[:-1])) <= 1 and counts[-1] <= counts[0], f"one count, or a smaller one at the end, not {counts}")
     blocks = sum(sizes, [])
     whole = blocks[:-1] if sizes[-1] else blocks
-    demand(set(whole) <= set(lengths) and max(blocks, default=0) <= lengths[0], f"blocks as long as declared, not {sizes}")
+    demand(set(whole) <= set(lengths[0]) and max(blocks, default=0) <= lengths[0][0], f"blocks as declared, not {sizes}")
+
+
+def check_offsets(_, offsets, sizes):
+    """Of each block the length of all data before it."""
+    blocks = sum(sizes, [])
+    before = [sum(blocks[:i]) for i in range(len(blocks))]
+    demand([len(rest) for rest in offsets] == [len(rest) for rest in sizes], "an offset for each block")
+    demand(sum(offsets, []) == before, f"the offsets {before}, not {offsets}")
+
+
+def joined_data(log, address, kind):
+    """The data of a chain whose blocks are all of that kind; its lists have all one length or all offsets."""
+    flags, counts, rests, blocks = zip(*lists_of(log, address))
+    sizes = [[len(data) for _, _, _, data in of_list] for of_list in blocks]
+    demand({block[0] for of_list in blocks for block in of_list} == {kind}, f"{kind} blocks in the lists at {address}")
+    demand(list(counts) == [len(of_list) for of_list in blocks], f"a count of its blocks in every list, not {counts}")
+    demand(set(flags) in ({0}, {1}), f"one form in every list, not {flags}")
+    (check_lengths if flags[0] else check_offsets)(counts, rests, sizes)
+    return b"".join(data for of_list in blocks for _, _, _, data in of_list)
+
+
+def records_of(log):
+    """The whole records, which are as many as are counted."""
     cycles, _, data_bytes, invalidation_bytes = struct.unpack_from("<QQII", log.of_kind("CG")[0][3], 8)
-    demand(cycles == sum(blocks) // (data_bytes + invalidation_bytes), f"the count of records, not {cycles}")
+    size, data = data_bytes + invalidation_bytes, joined_data(log, log.of_kind("DG")[0][2][2], "DT")
+    demand(cycles == len(data) // size, f"the count of records, not {cycles}")
+    return [data[number * size:][:size] for number in range(cycles)]
+
+
+def check_payloads(data, positions, encoding):
+    """Each position leads to a length and a text; they stand in the order of the records, with nothing between."""
+    end = 0
+    for position in positions:
+        demand(position == end <= len(data) - 4, f"a payload at {end}, not at {position}")
+        length = int.from_bytes(data[end:end + 4], "little")
+        text, end = data[end + 4:][:length], end + 4 + length
+        demand(not text or text.find(b"\0") == length - 1, f"one NUL, at the end of {text}")
+        text.decode(encoding)
+    demand(end == len(data), f"payloads up to the end at {len(data)}, not {end}")
+
+
+def check_data(log):
+    records = records_of(log)
+    for _, _, links, fields in log.of_kind("CN"):
+        kind, _, data_type, _, byte = struct.unpack_from("<BBBBI", fields)
+        if kind == 1:
+            demand(data_type in ENCODINGS, "a text of any length")
+            positions = [int.from_bytes(record[byte:byte + 8], "little") for record in records]
+            check_payloads(joined_data(log, links[5], "SD"), positions, ENCODINGS[data_type])
 
 
 def main():

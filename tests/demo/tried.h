@@ -8,7 +8,7 @@
 #include <stddef.h>
 #include <stdint.h>
 
-enum { MOST_LOG = 4096 };
+enum { MOST_LOG = 8192 };
 
 typedef struct log_bytes {
     uint8_t bytes[MOST_LOG];
