@@ -5,6 +5,7 @@ mod channels;
 mod lists;
 mod mixes;
 mod numbers;
+mod remarks;
 mod texts;
 
 use std::cell::RefCell;
@@ -17,8 +18,8 @@ use crate::pieces::Pieces;
 use crate::row::{Pass, Plan, Row};
 
 pub fn all() -> Vec<Plan> {
-    let rows = [numbers::plans(), mixes::plans(), texts::plans(), lists::plans(), channels::plans(), chains::plans()];
-    rows.into_iter().flatten().collect()
+    let rows = [numbers::plans(), mixes::plans(), texts::plans(), lists::plans(), channels::plans()];
+    rows.into_iter().chain([chains::plans(), remarks::plans()]).flatten().collect()
 }
 
 /// A field that starts with a byte, of records that say nothing of validity.

@@ -170,6 +170,19 @@ pub struct Fetched {
     pub told: u64,
 }
 
+#[repr(C)]
+#[derive(Clone, Copy)]
+pub struct Payload {
+    pub reply: u32,
+    pub kind: u32,
+    pub told: u64,
+    pub number: u64,
+    pub at: u64,
+    pub length: u64,
+    pub payload_length: u64,
+    pub is_valid: u8,
+}
+
 extern "C" {
     pub fn mf4_read_header(bytes: *const u8, bytes_len: usize) -> Header;
     pub fn mf4_write_header(header: BlockHeader, out: *mut u8, out_len: usize) -> Written;
@@ -237,4 +250,18 @@ extern "C" {
         buffer: *mut u8,
         buffer_len: usize,
     ) -> ValidValue;
+    pub fn mf4_record_payload(
+        file: *const u8,
+        file_len: usize,
+        start: u64,
+        number: u64,
+        record_size: u64,
+        record_id_size: u64,
+        data_bytes: u32,
+        channel: Channel,
+        record: *mut u8,
+        record_len: usize,
+        payload: *mut u8,
+        payload_len: usize,
+    ) -> Payload;
 }

@@ -18,6 +18,7 @@ use crate::row::{Pass, Plan, Row};
 /// The joined data is the same however many fragments it has, and some records lie over two fragments.
 const DATA: usize = 4 << 20;
 const SIZE: usize = 24;
+const RECORDS: usize = DATA / SIZE;
 
 /// From an item's record to the next item's: a golden section of the data, so that few records too are from all over it.
 const STEP: usize = 108_011;
@@ -42,21 +43,31 @@ pub fn plans() -> Vec<Plan> {
     ]
 }
 
+/// Records from all over the data.
 fn row(lists: usize, fragments: usize, ours: Fetch, copy: Fetch) -> Row {
-    let chain = Rc::new(chain(lists, fragments));
-    let [ours, copy] = [ours, copy].map(|fetch| {
-        let chain = chain.clone();
-        let buffer = RefCell::new(vec![0; SIZE]);
-        Box::new(move |items| over_records(&chain, items, &mut buffer.borrow_mut(), fetch)) as Pass
+    let sides = [ours, copy].map(|fetch| {
+        move |chain: &Chain, item: usize, buffer: &mut [u8]| fetch(chain, (item * STEP % RECORDS) as u64, buffer)
     });
-    assert_eq!(ours(0..10), copy(0..10), "the records are not those of the joined data");
-    Row { ours, border: None, inlined: None, copy }
+    fetching(chain(lists, fragments), SIZE, sides)
 }
 
-/// Records from all over the data.
-fn over_records(chain: &Chain, items: Range<usize>, buffer: &mut [u8], fetch: Fetch) -> u64 {
-    let records = DATA / SIZE;
-    digest::sum(items.map(|item| fetch(chain, (item * STEP % records) as u64, buffer)))
+/// A row of the library and of a copy, each of which fetches a file's items into a buffer of that size.
+pub fn fetching<File, Side>(file: File, size: usize, sides: [Side; 2]) -> Row
+where
+    File: 'static,
+    Side: Fn(&File, usize, &mut [u8]) -> u64 + 'static,
+{
+    let file = Rc::new(file);
+    let [ours, copy] = sides.map(|side| {
+        let file = file.clone();
+        let buffer = RefCell::new(vec![0; size]);
+        Box::new(move |items: Range<usize>| {
+            let mut buffer = buffer.borrow_mut();
+            digest::sum(items.map(|item| side(&file, item, &mut buffer)))
+        }) as Pass
+    });
+    assert_eq!(ours(0..10), copy(0..10), "what is fetched is not that of the joined data");
+    Row { ours, border: None, inlined: None, copy }
 }
 
 fn fetched(chain: &Chain, number: u64, buffer: &mut [u8]) -> u64 {
@@ -96,26 +107,34 @@ fn data_length(chain: &Chain) -> u64 {
     unsafe { c::mf4_data_length(chain.file.as_ptr(), chain.file.len(), chain.start) }.length
 }
 
-/// Data blocks of one length, and then the lists of them, each of as many.
 fn chain(lists: usize, fragments: usize) -> Chain {
     let joined = Dice::new(1).bytes(DATA);
     let mut file = vec![0; 64];
-    let mut links = Vec::new();
-    for data in joined.chunks(DATA / fragments) {
-        links.push(file.len() as u64);
-        let block_len = (HEADER_SIZE + data.len()) as u64;
-        let header = c::BlockHeader { id: u32::from_le_bytes(*b"##DT"), reserved0: 0, block_len, links_nr: 0 };
-        file.extend(header_bytes(&header));
-        file.extend(data);
-    }
+    let start = add_chain(&mut file, b"##DT", &joined, lists, fragments);
+    Chain { file, start, joined }
+}
+
+/// Blocks of one length, and then the lists of them, each of as many; gives where the chain starts.
+pub fn add_chain(file: &mut Vec<u8>, id: &[u8; 4], joined: &[u8], lists: usize, fragments: usize) -> u64 {
+    let length = joined.len() / fragments;
+    let links: Vec<u64> = joined.chunks(length).map(|data| add_block(file, id, data)).collect();
     let start = file.len() as u64;
-    let length = (DATA / fragments) as u64;
     let size = list_size(fragments / lists, 1);
     for (number, links) in (1..).zip(links.chunks(fragments / lists)) {
         let next = if number < lists { start + (number * size) as u64 } else { 0 };
         let mut list = vec![0; size];
-        unsafe { c::mf4_write_list_equal(next, links.as_ptr(), links.len(), length, list.as_mut_ptr(), list.len()) };
+        let (to, room) = (list.as_mut_ptr(), list.len());
+        unsafe { c::mf4_write_list_equal(next, links.as_ptr(), links.len(), length as u64, to, room) };
         file.extend(list);
     }
-    Chain { file, start, joined }
+    start
+}
+
+fn add_block(file: &mut Vec<u8>, id: &[u8; 4], data: &[u8]) -> u64 {
+    let address = file.len() as u64;
+    let block_len = (HEADER_SIZE + data.len()) as u64;
+    let header = c::BlockHeader { id: u32::from_le_bytes(*id), reserved0: 0, block_len, links_nr: 0 };
+    file.extend(header_bytes(&header));
+    file.extend(data);
+    address
 }
