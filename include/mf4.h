@@ -8,8 +8,8 @@
  * something behind it is then refused.
  *
  * A pair (pointer, count) is a slice, lent for the time of the call; the pointer may be NULL where the count is 0. An
- * output buffer must not overlap an input. Nothing is allocated and nothing is kept between calls, so calls from several
- * threads do not meet.
+ * output buffer must overlap neither an input nor another output. Nothing is allocated and nothing is kept between calls, so
+ * calls from several threads do not meet.
  *
  * What is lent must not change during a call. A fetch walks along the whole chain and tests it, and only then copies the
  * record: if someone changes the file's bytes between the two, the record may be a wrong one. (No call ever reads or

@@ -173,7 +173,7 @@ pub mf4-record-value-arguments : (κs : Lfts 2) (file : Slice) (start number rec
     ≡ (returned y after ≡ returnedBy validValueC (valueFetched (file .now) start number recordSize recordIdSize dataBytes (channelGiven channel) (buffer .now)))
 mf4-record-value-arguments κs file start number recordSize recordIdSize dataBytes channel buffer y after = refl
 
-pub mf4-record-payload-arguments : (κs : Lfts 3) (file : Slice) (start number recordSize recordIdSize dataBytes : ℕ) (channel : Mf4Channel) («record» payload : Slice) (y : Mf4Payload) (recordAfter payloadAfter : List ℕ)
-    → Allows 3 mf4-record-payload-kinds.ps mf4-record-payload-kinds.r mf4-record-payload.Learnt κs (file, (start, (number, (recordSize, (recordIdSize, (dataBytes, (channel, («record», (payload, tt))))))))) y (tt, (tt, (tt, (tt, (tt, (tt, (tt, (recordAfter, (payloadAfter, tt)))))))))
-    ≡ (returnedBoth y recordAfter payloadAfter ≡ returnedBothBy payloadC (payloadFetched (file .now) start number recordSize recordIdSize dataBytes (channelGiven channel) («record» .now) (payload .now)))
-mf4-record-payload-arguments κs file start number recordSize recordIdSize dataBytes channel «record» payload y recordAfter payloadAfter = refl
+pub mf4-record-payload-arguments : (κs : Lfts 3) (file : Slice) (start number recordSize recordIdSize dataBytes : ℕ) (channel : Mf4Channel) (bytes payload : Slice) (y : Mf4Payload) (recordAfter payloadAfter : List ℕ)
+    → Allows 3 mf4-record-payload-kinds.ps mf4-record-payload-kinds.r mf4-record-payload.Learnt κs (file, (start, (number, (recordSize, (recordIdSize, (dataBytes, (channel, (bytes, (payload, tt))))))))) y (tt, (tt, (tt, (tt, (tt, (tt, (tt, (recordAfter, (payloadAfter, tt)))))))))
+    ≡ (returnedBoth y recordAfter payloadAfter ≡ returnedBothBy payloadC (payloadFetched (file .now) start number recordSize recordIdSize dataBytes (channelGiven channel) (bytes .now) (payload .now)))
+mf4-record-payload-arguments κs file start number recordSize recordIdSize dataBytes channel bytes payload y recordAfter payloadAfter = refl
