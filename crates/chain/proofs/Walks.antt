@@ -9,7 +9,7 @@ use lib.Dec.{eqb}
 use borrow.Author.Tests.{ne-eqb, lt-ltb, le-ltb}
 use Rattle.definitions.specs.Reply.{Reply, answer, refusal, andThen}
 use Rattle.definitions.specs.DataList.{DataList}
-use Rattle.definitions.specs.Chain.{Block, fileLimit, listLimit, fragmentLimit, idDT, total, listAt, declarationOf, keepsTo, chainOf, totalOf, dataLength}
+use Rattle.definitions.specs.Chain.{Block, fileLimit, listLimit, fragmentLimit, total, listAt, declarationOf, keepsTo, chainOf, totalOf, lengthBy}
 use Rattle.refusals.specs.Meaning.{refused}
 use Rattle.refusals.specs.declared.Refusal.{Refusal}
 use Rattle.chain.specs.Located.{Locates}
@@ -159,13 +159,11 @@ module _ (id f : List ℕ) (start : ℕ) where
 
 -- of a file that is not too long
 module _ (f : List ℕ) (start : ℕ) where
-  pub length-refused : fileLimit < length f → refusal 7 0 ≡ dataLength f start
-  unfolding dataLength
-  length-refused l = rw (lt-ltb _ _ l)
+  pub length-refused : (id : List ℕ) → fileLimit < length f → refusal 7 0 ≡ lengthBy id f start
+  length-refused id l = rw (lt-ltb _ _ l)
 
-  pub length-total : length f ≤ fileLimit → totalOf idDT f start ≡ dataLength f start
-  unfolding dataLength
-  length-total l = rw (le-ltb _ _ l)
+  pub length-total : (id : List ℕ) → length f ≤ fileLimit → totalOf id f start ≡ lengthBy id f start
+  length-total id l = rw (le-ltb _ _ l)
 
 -- ---- a position that was looked for
 

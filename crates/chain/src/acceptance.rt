@@ -1,6 +1,6 @@
 // The first reader of a chain: is it accepted, how much data does it join, and where does a position of that data stand?
 ghost use mathlib.Core.Path.{_≡_};
-ghost use Rattle.definitions.specs.Chain.{idDT, dataLength, totalOf};
+ghost use Rattle.definitions.specs.Chain.{totalOf, lengthBy, dataLength};
 ghost use Rattle.chain.specs.Meaning.{chainReply, locatedReply};
 ghost use Rattle.chain.specs.Located.{Locates};
 use crate::block::BlockRead;
@@ -28,7 +28,7 @@ pub enum Located {
 
 // Walks all of a chain, since a position stands in a chain that is whole, and keeps the place before the fragment that
 // holds the wanted position.
-fn walk(file: &[u8], start: FileAddress, id: &[u8; 4], wanted: DataPosition) -> Located
+pub(crate) fn locate(file: &[u8], start: FileAddress, id: &[u8; 4], wanted: DataPosition) -> Located
     ensures { λ r. ⌜ Locates (now (id .entry)) (now (file .entry)) (start .0) (wanted .0) (totalOf (now (id .entry)) (now (file .entry)) (start .0)) r ⌝ }
 {
     let mut place = Place::start(start);
@@ -63,22 +63,15 @@ fn walk(file: &[u8], start: FileAddress, id: &[u8; 4], wanted: DataPosition) -> 
     }
 }
 
-// The same, for callers elsewhere. Called from here alone the loop is inlined, and only then does the compiler keep the list in
-// registers.
-pub fn locate(file: &[u8], start: FileAddress, id: &[u8; 4], wanted: DataPosition) -> Located
-    ensures { λ r. ⌜ Locates (now (id .entry)) (now (file .entry)) (start .0) (wanted .0) (totalOf (now (id .entry)) (now (file .entry)) (start .0)) r ⌝ }
-{
-    walk(file, start, id, wanted)
-}
-
-// The same in a chain of data blocks, of a file that is not too long
-pub fn locate_data(file: &[u8], start: FileAddress, wanted: DataPosition) -> Located
-    ensures { λ r. ⌜ Locates idDT (now (file .entry)) (start .0) (wanted .0) (dataLength (now (file .entry)) (start .0)) r ⌝ }
+// The same in a file that is not too long. The one caller of that loop in the archive: so it is inlined, and the compiler knows
+// there that no block is too long.
+pub fn locate_data(file: &[u8], start: FileAddress, id: &[u8; 4], wanted: DataPosition) -> Located
+    ensures { λ r. ⌜ Locates (now (id .entry)) (now (file .entry)) (start .0) (wanted .0) (lengthBy (now (id .entry)) (now (file .entry)) (start .0)) r ⌝ }
 {
     if FILE_LIMIT < file.len() {
         return Located::Refused(Refusal::FileTooLong);
     }
-    locate(file, start, &DataBlock::ID, wanted)
+    locate(file, start, id, wanted)
 }
 
 pub fn accept(file: &[u8], start: FileAddress, id: &[u8; 4]) -> ChainRead
@@ -92,7 +85,7 @@ pub fn accept(file: &[u8], start: FileAddress, id: &[u8; 4]) -> ChainRead
 pub fn data_length(file: &[u8], start: FileAddress) -> ChainRead
     ensures { λ r. ⌜ chainReply r ≡ dataLength (now (file .entry)) (start .0) ⌝ }
 {
-    let found = locate_data(file, start, DataPosition(0));
+    let found = locate_data(file, start, &DataBlock::ID, DataPosition(0));
     found.chain()
 }
 

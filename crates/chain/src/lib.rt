@@ -11,7 +11,6 @@ pub use acceptance::ChainRead;
 pub use acceptance::Located;
 pub use acceptance::accept;
 pub use acceptance::data_length;
-pub use acceptance::locate;
 pub use acceptance::locate_data;
 pub use block::BlockRead;
 pub use block::DataBlock;

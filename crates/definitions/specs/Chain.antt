@@ -161,8 +161,12 @@ unfoldable pub totalOf : List ℕ → List ℕ → ℕ → Reply ℕ
 totalOf id f start = andThen (chainOf id f start) (λ bs. answer (total bs))
 
 -- 7 for a file that is too long, then the chain's own
+abbrev pub lengthBy : List ℕ → List ℕ → ℕ → Reply ℕ
+lengthBy id f start = if ltb fileLimit (length f) then refusal 7 0 else totalOf id f start
+
+-- of a chain of records
 unfoldable pub dataLength : List ℕ → ℕ → Reply ℕ
-dataLength f start = if ltb fileLimit (length f) then refusal 7 0 else totalOf idDT f start
+dataLength f start = lengthBy idDT f start
 
 -- ---- a record
 

@@ -10,7 +10,7 @@ use lib.Dec.{leb, ltb}
 use borrow.Author.Tests.{lt-ltb, le-ltb, leb-true, leb-false}
 use Rattle.definitions.specs.Reply.{answer, refusal}
 use Rattle.definitions.specs.Bytes.{leOf, span, u32At}
-use Rattle.definitions.specs.Chain.{Block, dataLimit, joined, chainOf, totalOf}
+use Rattle.definitions.specs.Chain.{Block, dataLimit, fileLimit, joined, chainOf, totalOf, lengthBy}
 use Rattle.definitions.specs.Payload.{idSD, payloadAt, joinedOf}
 use Rattle.chain.specs.Meaning.{locatedReply}
 use Rattle.chain.specs.Located.{Locates}
@@ -21,6 +21,7 @@ use Rattle.chain.specs.declared.acceptance.Located.{Located}
 use Rattle.chain.specs.declared.acceptance.Located.the-variants.{Whole}
 use Rattle.chain.proofs.Answers.{unfollowed}
 use Rattle.chain.proofs.Chains.{joined-length, chain-stands}
+use Rattle.chain.proofs.Walks.{length-total}
 use Rattle.words.proofs.Spans.{length-span}
 use Rattle.records.specs.Window.{laid}
 use Rattle.records.proofs.Laying.{laid-whole}
@@ -54,15 +55,15 @@ module _ (j : List ℕ) (p : ℕ) where
 
 -- ---- in that of a chain
 
-module _ (f : List ℕ) (start : ℕ) where
-  pub chain-refused : (p n t : ℕ) → totalOf idSD f start ≡ refusal n t → payloadIn f start p ≡ refusal n t
+module _ (f : List ℕ) (start : ℕ) (short : length f ≤ fileLimit) where
+  pub chain-refused : (p n t : ℕ) → lengthBy idSD f start ≡ refusal n t → payloadIn f start p ≡ refusal n t
   unfolding joinedOf totalOf
-  chain-refused p n t e = rw (unfollowed (chainOf idSD f start) _ n t e)
+  chain-refused p n t e = rw (unfollowed (chainOf idSD f start) _ n t (length-total f start idSD short ∙ e))
 
   -- a chain that is accepted: its length n, and a place that is not behind the position p
-  module _ (p : ℕ) {r : Located} {n : DataPosition} {place : Place} (found : Locates idSD f start p (totalOf idSD f start) r) (is : r ≡ Whole n place) where
+  module _ (p : ℕ) {r : Located} {n : DataPosition} {place : Place} (found : Locates idSD f start p (lengthBy idSD f start) r) (is : r ≡ Whole n place) where
     accepted : (bs : List Block) × (chainOf idSD f start ≡ answer bs) × (length (joined f bs) ≡ n .0)
-    accepted = whole idSD f start (n .0) (sym (found .replied) ∙ ap locatedReply is)
+    accepted = whole idSD f start (n .0) (length-total f start idSD short ∙ sym (found .replied) ∙ ap locatedReply is)
 
     pub on-the-way : Walked idSD f place
     on-the-way =

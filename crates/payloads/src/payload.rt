@@ -3,7 +3,7 @@ ghost use mathlib.Core.Path.{_≡_};
 ghost use Prim.Native.Nat.{_+_, _≤_};
 ghost use lib.ListN.{length};
 ghost use Rattle.definitions.specs.Bytes.{u32At};
-ghost use Rattle.definitions.specs.Chain.{joined};
+ghost use Rattle.definitions.specs.Chain.{fileLimit, joined};
 ghost use Rattle.definitions.specs.Payload.{idSD, joinedOf, payloadOf, stored};
 ghost use Rattle.chain.specs.Walk.{Walked};
 ghost use Rattle.fields.specs.Meaning.{channelMeant};
@@ -16,7 +16,7 @@ use chain::DataPosition;
 use chain::FileAddress;
 use chain::Located;
 use chain::Place;
-use chain::locate;
+use chain::locate_data;
 use decoder::Channel;
 use records::window;
 use refusals::Refusal;
@@ -44,11 +44,13 @@ fn length_at(file: &[u8], begin: Place, position: DataPosition) -> u32
     read_u32_le(&bytes, 0)
 }
 
-// The payload at a position of the joined data: its length and all its bytes lie inside.
+// The payload at a position of the joined data: its length and all its bytes lie inside. The record was found in the same file,
+// so that is not too long.
 pub(crate) fn find_payload(file: &[u8], start: FileAddress, position: DataPosition) -> PayloadFound
+    requires { ⌜ length (now file) ≤ fileLimit ⌝ }
     ensures { λ r. ⌜ Finds (now (file .entry)) (payloadIn (now (file .entry)) (start .0) (position .0)) r ⌝ }
 {
-    let found = locate(file, start, &DataBlock::SIGNAL_ID, position);
+    let found = locate_data(file, start, &DataBlock::SIGNAL_ID, position);
     let Located::Whole(total, place) = found else {
         return PayloadFound::Refused(found.refusal());
     };
@@ -71,6 +73,7 @@ pub(crate) fn store_payload(
     channel: Channel,
     buffer: &mut [u8],
 ) -> PayloadStored
+    requires { ⌜ length (now file) ≤ fileLimit ⌝ }
     ensures { λ r. ⌜ Stores (stored (payloadOf (joinedOf idSD (now (file .entry)) (channel .data)) (now («record» .entry)) «record_id_size» (channelMeant channel)) (now (buffer .entry))) r (now (buffer .exit)) ⌝ }
 {
     let read = position_in(record, record_id_size, channel);

@@ -9,7 +9,7 @@ use lib.Dec.{ltb, eqb}
 use borrow.Author.Tests.{ltb-false}
 use Rattle.definitions.specs.Reply.{Reply, Outcome, answer, refusal, if_then_else_}
 use Rattle.definitions.specs.Channel.{Channel, ValidValue, validValueOf}
-use Rattle.definitions.specs.Chain.{recordLimit, badSize, fetched, fieldOf, valueFetched}
+use Rattle.definitions.specs.Chain.{fileLimit, recordLimit, badSize, fetched, fieldOf, valueFetched}
 use Rattle.refusals.specs.Meaning.{refused}
 use Rattle.refusals.specs.declared.Refusal.{Refusal}
 use Rattle.records.specs.Meaning.{fetchedBy}
@@ -31,8 +31,29 @@ module _ (f : List ℕ) (start k size : ℕ) (out : List ℕ) where
   unfolding fetched
   room h = by-size (badSize size (length out)) _ refl h
 
+  -- in a file that is not too long
+  by-length : (b : Bool) (o : Outcome (Unit {0})) → badSize size (length out) ≡ b
+      → (if b then record { reply = refusal 15 0; buffer = out } else if ltb fileLimit (length f) then record { reply = refusal 7 0; buffer = out } else o) .reply ≡ answer tt
+      → length f ≤ fileLimit
+  by-length true o e h = let z : _≡_ {A = ℕ} 0 1 = cc in let no : ⊥ = omega arith in absurd no
+  by-length false o e h = go (ltb fileLimit (length f)) refl h
+    where
+      go : (t : Bool) → ltb fileLimit (length f) ≡ t → (if t then record { reply = refusal 7 0; buffer = out } else o) .reply ≡ answer tt → length f ≤ fileLimit
+      go true l h = let z : _≡_ {A = ℕ} 0 1 = cc in let no : ⊥ = omega arith in absurd no
+      go false l h = ltb-false fileLimit (length f) l
+
+  within : fetched f start k size out .reply ≡ answer tt → length f ≤ fileLimit
+  unfolding fetched
+  within h = by-length (badSize size (length out)) _ refl h
+
+  reply-is : {r : RecordRead} {left : List ℕ} → fetchedBy r left ≡ fetched f start k size out → r ≡ Record → fetched f start k size out .reply ≡ answer tt
+  reply-is {left = left} e is = ap (λ (o : Outcome (Unit {0})). o .reply) (sym e ∙ ap (λ (x : RecordRead). fetchedBy x left) is)
+
   pub fits : {r : RecordRead} {left : List ℕ} → fetchedBy r left ≡ fetched f start k size out → r ≡ Record → size ≤ length out
-  fits {left = left} e is = room (ap (λ (o : Outcome (Unit {0})). o .reply) (sym e ∙ ap (λ (x : RecordRead). fetchedBy x left) is))
+  fits e is = room (reply-is e is)
+
+  pub short : {r : RecordRead} {left : List ℕ} → fetchedBy r left ≡ fetched f start k size out → r ≡ Record → length f ≤ fileLimit
+  short e is = within (reply-is e is)
 
   module _ (idSize dataBytes : ℕ) (c : Channel) {r : RecordRead} {left : List ℕ} (e : fetchedBy r left ≡ fetched f start k size out) where
     -- a refusal of the record is the reply, and the buffer is as the fetch left it

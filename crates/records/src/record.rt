@@ -68,7 +68,7 @@ pub fn read_record(
         return RecordRead::Refused(Refusal::BadRecordSize);
     }
     let from = first_byte(number, record_size);
-    let found = locate_data(file, start, from);
+    let found = locate_data(file, start, &DataBlock::ID, from);
     let Located::Whole(total, place) = found else {
         return RecordRead::Refused(found.refusal());
     };

@@ -15,13 +15,13 @@ use Rattle.payloads.proofs.payload.find_payload.Tie as tie
 returns : tie.Need-returns
 returns c =
     let call = c .before .before .before in
-    chain-refused _ _ _ _ _ (sym (call .locate .ensures .replied) ∙ ap locatedReply (c .refusal .ensures))
+    chain-refused _ _ (call .before .before .before .pre) _ _ _ (sym (call .locate-data .ensures .replied) ∙ ap locatedReply (c .refusal .ensures))
 
 returns-2 : tie.Need-returns-2
 returns-2 c =
     let behind = c .before in
     let told = behind .before in
-    found-no-length _ _ _ (told .before .before .before .locate .ensures) (told .before .found .given .1) (sym (behind .is-behind .ensures) ∙ not-true _ (c .if1 .taken))
+    found-no-length _ _ (told .before .before .before .before .before .before .pre) _ (told .before .before .before .locate-data .ensures) (told .before .found .given .1) (sym (behind .is-behind .ensures) ∙ not-true _ (c .if1 .taken))
 
 -- the length ends in the data
 there : (c : tie.Else1) →
@@ -32,18 +32,20 @@ there c = sym (c .before .is-behind .ensures) ∙ not-false _ (c .if1 .left)
 length-at-requires : tie.Need-length-at-requires
 length-at-requires c κs =
     let told = c .before .before in
-    let located = told .before .before .before .locate .ensures in
-    (on-the-way _ _ _ located (told .before .found .given .1), ahead _ _ _ located (told .before .found .given .1))
+    let start = told .before .before .before .before .before .before in
+    let located = told .before .before .before .locate-data .ensures in
+    (on-the-way _ _ (start .pre) _ located (told .before .found .given .1), ahead _ _ (start .pre) _ located (told .before .found .given .1))
 
 further-requires : tie.Need-further-requires
 further-requires c κs =
     let else = c .before in
     let told = else .before .before in
-    let a = told .before .before .before .before .before .before .args in
+    let start = told .before .before .before .before .before .before in
+    let a = start .args in
     omega (
       arith,
       leb-true (a .position .0 + 4) (told .before .found .given .0 .0 .0) (there else),
-      limited (a .file .now) (a .start .0) (a .position .0) (told .before .before .before .locate .ensures) (told .before .found .given .1),
+      limited (a .file .now) (a .start .0) (start .pre) (a .position .0) (told .before .before .before .locate-data .ensures) (told .before .found .given .1),
     )
 
 returns-3 : tie.Need-returns-3
@@ -52,7 +54,7 @@ returns-3 c =
     let further = behind .before in
     let else = further .before .before in
     let told = else .before .before in
-    found-cut _ _ _ (told .before .before .before .locate .ensures) (told .before .found .given .1) (there else)
+    found-cut _ _ (told .before .before .before .before .before .before .pre) _ (told .before .before .before .locate-data .ensures) (told .before .found .given .1) (there else)
     (ap (λ (q : DataPosition). q .0) (further .further .ensures)) (further .before .length-at .ensures)
     (sym (behind .is-behind2 .ensures) ∙ not-true _ (c .if2 .taken))
 
@@ -62,7 +64,7 @@ returns-4 c =
     let further = behind .before in
     let else = further .before .before in
     let told = else .before .before in
-    found-whole _ _ _ (told .before .before .before .locate .ensures) (told .before .found .given .1) (there else)
+    found-whole _ _ (told .before .before .before .before .before .before .pre) _ (told .before .before .before .locate-data .ensures) (told .before .found .given .1) (there else)
     (ap (λ (q : DataPosition). q .0) (further .further .ensures)) (further .before .length-at .ensures)
     (sym (behind .is-behind2 .ensures) ∙ not-false _ (c .if2 .left))
 

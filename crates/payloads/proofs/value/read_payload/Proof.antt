@@ -9,7 +9,7 @@ use borrow.Author.Needs.{needs}
 use borrow.Author.Tests.{not-true, not-false}
 use Rattle.definitions.specs.Payload.{holdsPosition}
 use Rattle.fields.specs.Meaning.{channelMeant}
-use Rattle.records.proofs.Fetches.{fits}
+use Rattle.records.proofs.Fetches.{fits, short}
 use Rattle.payloads.proofs.Fetches.{no-position, no-record, no-payload, payload-then}
 use Rattle.payloads.proofs.value.read_payload.Statement.{statement}
 use Rattle.payloads.proofs.value.read_payload.Tie as tie
@@ -37,6 +37,12 @@ slice-reshare-prefix-store-payload c = omega (arith, room c)
 
 slice-aggregate-store-payload : tie.Need-slice-aggregate-store-payload
 slice-aggregate-store-payload c = simp length-take (omega (arith, room (c .before)))
+
+-- the file was not too long for the record
+store-payload-requires : tie.Need-store-payload-requires
+store-payload-requires c κs =
+    let told = c .before .before in
+    short _ _ _ _ _ (told .before .before .before .before .read-record .ensures) (told .enum-told .given .1)
 
 returns-3 : tie.Need-returns-3
 returns-3 c =
@@ -87,7 +93,7 @@ read-payload-spec =
     returns-2
     slice-reshare-prefix-store-payload
     slice-aggregate-store-payload
-    (λ c κs. search needs)
+    store-payload-requires
     (λ c. search needs)
     (λ c. search needs)
     (λ c κs. search needs)

@@ -13,8 +13,8 @@ use Rattle.chain.specs.Meaning.{blockMeant, blockReply}
 use Rattle.chain.specs.Walk.{At, fragmentAt, nextReply}
 use Rattle.chain.specs.declared.place.Place.{Place}
 use Rattle.chain.proofs.Walks.{turnsLeft, at-start, from-start, refused-here, taken-here, at-behind, refused-next, at-end, at-list, total-refused, total-whole, located-refused, located-whole}
-use Rattle.chain.proofs.acceptance.walk.Statement.{statement}
-use Rattle.chain.proofs.acceptance.walk.Tie as tie
+use Rattle.chain.proofs.acceptance.locate.Statement.{statement}
+use Rattle.chain.proofs.acceptance.locate.Tie as tie
 
 abbrev Inv-loop : tie.InvT-loop
 Inv-loop file id wanted place₀ kept₀ place kept =
@@ -130,8 +130,8 @@ loop-less-3 c = entered c .1
 loop-again-3 : tie.Need-loop-again-3 Inv-loop μ-loop
 loop-again-3 c = let l = c .before .before .before .before .before .before in (_, entered c .0, _, l .loop .inv .3, l .loop .inv .4)
 
-pub walk-spec : {M : Type 1} → statement M
-walk-spec =
+pub locate-spec : {M : Type 1} → statement M
+locate-spec =
     tie.close
     (tie.spec
     Inv-loop
