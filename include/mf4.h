@@ -451,8 +451,8 @@ typedef struct mf4_payload {
  * Refuses with 35 for a channel that is not as above, or with a bit_offset other than 0 or a bit_count other than 64; then as
  * mf4_read_record; with 21 where the record ends before the position does, told as mf4_decode_value tells it; with what the
  * chain of ##SD blocks shows, as of the other (a `data` that leads to a single ##SD block is 3); with 23, 6, and at last with
- * 21, told 8, for a number whose payload has fewer bytes. From the first 21 on the record stays in its buffer, and with the
- * last also the payload. */
+ * 21, told 8, for a number whose payload has fewer bytes; the first 21 tells more than record_size, the last does not. From
+ * the first 21 on the record stays in its buffer, and with the last also the payload. */
 mf4_payload mf4_record_payload(const uint8_t *file, size_t file_len, uint64_t start, uint64_t number, uint64_t record_size,
                                uint64_t record_id_size, uint32_t data_bytes, mf4_channel channel, uint8_t *record,
                                size_t record_len, uint8_t *payload, size_t payload_len);
