@@ -1,5 +1,5 @@
 /*
- * mf4.h: reading MDF4 channels, their descriptions and data lists, proved.
+ * mf4.h: reading MDF4 channels, their descriptions, payloads and data lists, proved.
  *
  * Every call ends with an answer or a numbered refusal, for every input. A call that can refuse returns a struct by
  * value: `reply` is 0 (MF4_ANSWER) or the refusal's number, `told` is what the refusal tells beside its number (0 where it
