@@ -1,5 +1,5 @@
 -- An answer comes back from its meaning, so no two mean the same.
-use mathlib.Core.Path.{_≡_, refl, ap}
+use mathlib.Core.Path.{_≡_, ap}
 use Prim.Native.Nat.{ℕ}
 use mathlib.Core.List.{List}
 use Rattle.definitions.specs.Reply.{Reply, answer, refusal}

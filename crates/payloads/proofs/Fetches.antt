@@ -1,13 +1,13 @@
 -- From a record and its payload, each fetched or refused, to the value.
-use mathlib.Core.Path.{_≡_, refl, sym, ap, ap₂, _∙_}
+use mathlib.Core.Path.{_≡_, sym, ap, _∙_}
 use mathlib.Core.Bool.{Bool, true, false}
 use mathlib.Core.List.{List}
-use Prim.Native.Nat.{ℕ, _≤_}
+use Prim.Native.Nat.{ℕ}
 use lib.ListN.{length, take}
-use Rattle.definitions.specs.Reply.{Reply, Outcome, answer, refusal, andThen}
+use Rattle.definitions.specs.Reply.{Reply, Outcome, answer, refusal}
 use Rattle.definitions.specs.Channel.{Channel, Value, valueOf, validOf}
 use Rattle.definitions.specs.Chain.{fetched}
-use Rattle.definitions.specs.Payload.{idSD, holdsPosition, joinedOf, payloadOf, stored, PayloadValue, Outcomes, payloadValueOf, valueBehind, payloadBehind, payloadFetched}
+use Rattle.definitions.specs.Payload.{idSD, holdsPosition, joinedOf, payloadOf, stored, PayloadValue, payloadValueOf, valueBehind, payloadBehind, payloadFetched}
 use Rattle.refusals.specs.Meaning.{refused}
 use Rattle.refusals.specs.declared.Refusal.{Refusal}
 use Rattle.records.specs.Meaning.{fetchedBy}

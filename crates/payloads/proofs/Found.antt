@@ -1,5 +1,5 @@
 -- The payload at a position of the joined data.
-use mathlib.Core.Path.{_≡_, refl, sym, ap, _∙_}
+use mathlib.Core.Path.{_≡_, sym, ap, _∙_}
 use mathlib.Core.Bool.{true, false}
 use mathlib.Core.List.{List, [], _∷_}
 use Prim.Native.Nat.{ℕ, _+_, _≤_, _<_}
@@ -26,7 +26,7 @@ use Rattle.words.proofs.Spans.{length-span}
 use Rattle.records.specs.Window.{laid}
 use Rattle.records.proofs.Laying.{laid-whole}
 use Rattle.records.proofs.Records.{whole}
-use Rattle.payloads.specs.Found.{payloadIn, Lies}
+use Rattle.payloads.specs.Found.{payloadFrom, Lies}
 
 -- ---- the length
 
@@ -56,7 +56,7 @@ module _ (j : List ℕ) (p : ℕ) where
 -- ---- in that of a chain
 
 module _ (f : List ℕ) (start : ℕ) (short : length f ≤ fileLimit) where
-  pub chain-refused : (p n t : ℕ) → lengthBy idSD f start ≡ refusal n t → payloadIn f start p ≡ refusal n t
+  pub chain-refused : (p n t : ℕ) → lengthBy idSD f start ≡ refusal n t → payloadFrom f start p ≡ refusal n t
   unfolding joinedOf totalOf
   chain-refused p n t e = rw (unfollowed (chainOf idSD f start) _ n t (length-total f start idSD short ∙ e))
 
@@ -82,11 +82,11 @@ module _ (f : List ℕ) (start : ℕ) (short : length f ≤ fileLimit) where
         let s = chain-stands idSD f start (accepted .0) (accepted .1) in
         omega (arith, accepted .2, joined-length f (accepted .0) (s .inside), s .bounded)
 
-    in-chain : payloadIn f start p ≡ payloadAt (joined f (on-the-way .blocks)) p
+    in-chain : payloadFrom f start p ≡ payloadAt (joined f (on-the-way .blocks)) p
     unfolding joinedOf on-the-way
     in-chain = rw (accepted .1)
 
-    pub found-no-length : leb (p + 4) (n .0) ≡ false → payloadIn f start p ≡ refusal 23 0
+    pub found-no-length : leb (p + 4) (n .0) ≡ false → payloadFrom f start p ≡ refusal 23 0
     found-no-length h = in-chain ∙ length-past _ p (omega (arith, as-long, leb-false (p + 4) (n .0) h))
 
     module _ (h : leb (p + 4) (n .0) ≡ true) {first : DataPosition} {size : ℕ} (ef : first .0 ≡ p + 4)
@@ -94,10 +94,10 @@ module _ (f : List ℕ) (start : ℕ) (short : length f ≤ fileLimit) where
       room : p + 4 ≤ length (joined f (on-the-way .blocks))
       room = omega (arith, as-long, leb-true (p + 4) (n .0) h)
 
-      pub found-cut : leb (first .0 + size) (n .0) ≡ false → payloadIn f start p ≡ refusal 23 0
+      pub found-cut : leb (first .0 + size) (n .0) ≡ false → payloadFrom f start p ≡ refusal 23 0
       found-cut l = in-chain ∙ payload-past _ p room (omega (arith, as-long, ef, es on-the-way room, leb-false (first .0 + size) (n .0) l))
 
-      pub found-whole : leb (first .0 + size) (n .0) ≡ true → Lies f (payloadIn f start p) place (first .0) size
+      pub found-whole : leb (first .0 + size) (n .0) ≡ true → Lies f (payloadFrom f start p) place (first .0) size
       found-whole l =
           let inside : first .0 + size ≤ length (joined f (on-the-way .blocks)) = omega (arith, as-long, leb-true (first .0 + size) (n .0) l) in
           let size-is = es on-the-way room in

@@ -1,12 +1,12 @@
 -- A payload into its buffer.
-use mathlib.Core.Path.{_≡_, refl, sym, ap, _∙_}
+use mathlib.Core.Path.{_≡_, sym, ap, _∙_}
 use mathlib.Core.List.{List, _++_}
 use Prim.Native.Nat.{ℕ, _+_, _≤_, _<_}
 use native.Mathlib.Omega.{arith}
 use lib.ListN.{length, take, drop, length-append}
 use lib.Seq.{length-take-le, take-append-seam}
 use borrow.Author.Tests.{le-ltb}
-use Rattle.definitions.specs.Reply.{Reply, Outcome, answer, refusal}
+use Rattle.definitions.specs.Reply.{Reply, answer, refusal}
 use Rattle.definitions.specs.Bytes.{span}
 use Rattle.definitions.specs.Channel.{Channel}
 use Rattle.definitions.specs.Chain.{joined}
@@ -20,7 +20,7 @@ use Rattle.words.proofs.Spans.{length-span}
 use Rattle.records.specs.Window.{laid}
 use Rattle.records.proofs.Laying.{laid-whole}
 use Rattle.payloads.specs.Meaning.{Stores}
-use Rattle.payloads.specs.Found.{payloadIn, Lies}
+use Rattle.payloads.specs.Found.{payloadFrom, Lies}
 use Rattle.payloads.specs.declared.payload.PayloadStored.{PayloadStored}
 use Rattle.payloads.specs.declared.payload.PayloadStored.the-variants.{Bytes, Refused as NotStored}
 
@@ -31,7 +31,7 @@ module _ (f : List ℕ) (link : ℕ) (s : List ℕ) (idSize : ℕ) (c : Channel)
   unfolding payloadOf
   payload-refused n t e = rw e
 
-  pub payload-at : (p : ℕ) → positionOf s idSize c ≡ answer p → payloadOf (joinedOf idSD f link) s idSize c ≡ payloadIn f link p
+  pub payload-at : (p : ℕ) → positionOf s idSize c ≡ answer p → payloadOf (joinedOf idSD f link) s idSize c ≡ payloadFrom f link p
   unfolding payloadOf
   payload-at p e = rw e
 

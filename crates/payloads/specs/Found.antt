@@ -14,8 +14,8 @@ use Rattle.payloads.specs.declared.payload.PayloadFound.{PayloadFound}
 use Rattle.payloads.specs.declared.payload.PayloadFound.the-variants.{Payload, Refused}
 
 -- the payload at a position of the joined data of the chain of `##SD` blocks from `start` on
-abbrev pub payloadIn : List ℕ → ℕ → ℕ → Reply (List ℕ)
-payloadIn f start position = andThen (joinedOf idSD f start) (λ j. payloadAt j position)
+abbrev pub payloadFrom : List ℕ → ℕ → ℕ → Reply (List ℕ)
+payloadFrom f start position = andThen (joinedOf idSD f start) (λ j. payloadAt j position)
 
 -- it is the n bytes from `first` on of what a walk joins that stands at p, not behind them
 pub record Lies (f : List ℕ) (payload : Reply (List ℕ)) (p : Place) (first n : ℕ) : Type 0 where

@@ -8,7 +8,7 @@ use Rattle.definitions.specs.Payload.{PayloadValue, Outcomes}
 use Rattle.refusals.specs.Meaning.{refused}
 use Rattle.fields.specs.Meaning.{valueMeant}
 use Rattle.payloads.specs.declared.position.PositionRead.{PositionRead}
-use Rattle.payloads.specs.declared.position.PositionRead.the-variants.{Position, Refused as NoPosition}
+use Rattle.payloads.specs.declared.position.PositionRead.the-variants.{Position, Refused as NotRead}
 use Rattle.payloads.specs.declared.payload.PayloadStored.{PayloadStored}
 use Rattle.payloads.specs.declared.payload.PayloadStored.the-variants.{Bytes, Refused as NotStored}
 use Rattle.payloads.specs.declared.value.DecodedPayload.{DecodedPayload}
@@ -17,7 +17,7 @@ use Rattle.payloads.specs.declared.value.PayloadRead.the-variants.{Value
 
 abbrev pub positionReply : PositionRead → Reply ℕ
 positionReply (Position q) = answer (q .0)
-positionReply (NoPosition r) = refused r
+positionReply (NotRead r) = refused r
 
 -- the payload is what stands in the front of the buffer
 abbrev pub storedReply : PayloadStored → List ℕ → Reply (List ℕ)

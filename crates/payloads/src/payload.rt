@@ -8,7 +8,7 @@ ghost use Rattle.definitions.specs.Payload.{idSD, joinedOf, payloadOf, stored};
 ghost use Rattle.chain.specs.Walk.{Walked};
 ghost use Rattle.fields.specs.Meaning.{channelMeant};
 ghost use Rattle.payloads.specs.Meaning.{Stores};
-ghost use Rattle.payloads.specs.Found.{payloadIn, Finds};
+ghost use Rattle.payloads.specs.Found.{payloadFrom, Finds};
 use crate::position::PositionRead;
 use crate::position::position_in;
 use chain::DataBlock;
@@ -48,7 +48,7 @@ fn length_at(file: &[u8], begin: Place, position: DataPosition) -> u32
 // so that is not too long.
 pub(crate) fn find_payload(file: &[u8], start: FileAddress, position: DataPosition) -> PayloadFound
     requires { ⌜ length (now file) ≤ fileLimit ⌝ }
-    ensures { λ r. ⌜ Finds (now (file .entry)) (payloadIn (now (file .entry)) (start .0) (position .0)) r ⌝ }
+    ensures { λ r. ⌜ Finds (now (file .entry)) (payloadFrom (now (file .entry)) (start .0) (position .0)) r ⌝ }
 {
     let found = locate_data(file, start, &DataBlock::SIGNAL_ID, position);
     let Located::Whole(total, place) = found else {

@@ -2,22 +2,21 @@
 use mathlib.Core.Path.{_≡_, refl, sym, ap, _∙_}
 use mathlib.Core.Bool.{Bool, true, false, _&&_}
 use mathlib.Core.List.{List}
-use Prim.Native.Nat.{ℕ, _+_, _*_, _≤_, _<_}
+use Prim.Native.Nat.{ℕ, _+_, _*_, _≤_}
 use native.Mathlib.Omega.{arith}
 use lib.ListN.{length}
 use lib.Dec.{ltb}
-use borrow.Author.Tests.{le-ltb, ltb-true, ltb-false}
-use Rattle.definitions.specs.Reply.{Reply, answer, refusal, if_then_else_, andThen}
+use borrow.Author.Tests.{le-ltb, ltb-false}
+use Rattle.definitions.specs.Reply.{answer, refusal, if_then_else_}
 use Rattle.definitions.specs.Bytes.{span, u32At, u64At}
 use Rattle.definitions.specs.DataType.{kindOf}
 use Rattle.definitions.specs.Channel.{Channel, Value, isNumber, spanIn, decoded, valueOf, validOf}
 use Rattle.definitions.specs.Chain.{Block, joined, chainOf}
-use Rattle.definitions.specs.Accepted.{Accepted}
 use Rattle.definitions.specs.Payload.{idSD, positionOf, payloadAt, joinedOf, payloadOf, PayloadValue, Outcomes, payloadValueOf, payloadFetched}
 use Rattle.definitions.proofs.Replies.{not-answered}
 use Rattle.words.proofs.Spans.{length-span}
 use Rattle.chain.proofs.Answers.{answered, followed, passed}
-use Rattle.theorems.specs.Exactly.{Exactly, Fetchable, Positioned, recordOf, PayloadFetchable}
+use Rattle.theorems.specs.Exactly.{Exactly, Fetchable, recordBytes, PayloadFetchable}
 use Rattle.theorems.proofs.AcceptedChains.{accepted, accepts}
 use Rattle.theorems.proofs.PayloadEnds.{payload-replied, by-record, Answered, payload-answered}
 
@@ -78,10 +77,10 @@ module _ (f : List ℕ) (start k size idSize dataBytes : ℕ) (c : Channel) (out
   -- from an answer
   module _ (a : PayloadValue) (r : Answered f start k size idSize dataBytes c out room a) where
     abbrev at : ℕ
-    at = u64At (recordOf f start k size out (r .fetchable)) (idSize + c .byteOffset)
+    at = u64At (recordBytes f start k size out (r .fetchable)) (idSize + c .byteOffset)
 
-    lies : Found f (recordOf f start k size out (r .fetchable)) idSize c (r .payload)
-    lies = found-told f (recordOf f start k size out (r .fetchable)) idSize c (r .payload) (r .told)
+    lies : Found f (recordBytes f start k size out (r .fetchable)) idSize c (r .payload)
+    lies = found-told f (recordBytes f start k size out (r .fetchable)) idSize c (r .payload) (r .told)
 
     as-long : length (r .payload) ≡ u32At (joined f (lies .blocks)) at
     as-long = ap length (lies .is) ∙ length-span (joined f (lies .blocks)) (at + 4) _ (lies .inside)
@@ -111,7 +110,7 @@ module _ (f : List ℕ) (start k size idSize dataBytes : ℕ) (c : Channel) (out
     abbrev payload : List ℕ
     payload = span (joined f (q .blocks)) (q .position + 4) (q .n)
 
-    found : Found f (recordOf f start k size out (q .fetchable)) idSize c payload
+    found : Found f (recordBytes f start k size out (q .fetchable)) idSize c payload
     found = record {
       within = omega (arith, q .within, length-span (joined f (q .fetchable .blocks)) (k * size) size (q .fetchable .inside));
       blocks = q .blocks;
@@ -137,12 +136,12 @@ module _ (f : List ℕ) (start k size idSize dataBytes : ℕ) (c : Channel) (out
 
     -- what is answered
     abbrev judged : PayloadValue
-    judged = record { value = value; valid = validOf (recordOf f start k size out (q .fetchable)) idSize dataBytes c; size = length payload }
+    judged = record { value = value; valid = validOf (recordBytes f start k size out (q .fetchable)) idSize dataBytes c; size = length payload }
 
     replied : payloadFetched f start k size idSize dataBytes c out room .reply ≡ answer judged
     unfolding payloadValueOf
     replied =
-        let told = told-found f (recordOf f start k size out (q .fetchable)) idSize c payload found in
+        let told = told-found f (recordBytes f start k size out (q .fetchable)) idSize c payload found in
         let fits : length payload ≤ length room = omega (arith, long, q .fits) in
         ap (λ (o : Outcomes PayloadValue). o .reply) (by-record f start k size idSize dataBytes c out room (q .positioned) (q .fetchable))
         ∙ rw (told, le-ltb _ _ fits, value-is)

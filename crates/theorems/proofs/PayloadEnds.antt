@@ -1,23 +1,23 @@
 -- A call that fetches a payload ends in one of the ways of the table, whatever it is given.
 use mathlib.Core.Path.{_≡_, refl, sym, ap, subst, _∙_}
 use mathlib.Core.Bool.{Bool, true, false, not, _&&_, true≢false}
-use mathlib.Core.List.{List, _++_}
+use mathlib.Core.List.{List}
 use Prim.Native.Nat.{ℕ, _+_, _*_, _≤_, _<_}
 use native.Mathlib.Omega.{arith}
-use lib.ListN.{length, take, drop}
+use lib.ListN.{length, drop}
 use lib.Dec.{ltb, eqb}
-use borrow.Author.Tests.{eq-eqb, ne-eqb, le-ltb, lt-ltb, eqb-true, eqb-false, ltb-true, ltb-false, not-true}
+use borrow.Author.Tests.{eq-eqb, ne-eqb, le-ltb, eqb-true, eqb-false, ltb-true, ltb-false, not-true}
 use Rattle.definitions.specs.Reply.{Reply, Outcome, answer, refusal, if_then_else_, andThen, told}
 use Rattle.definitions.specs.DataType.{Kind, integer, floating, whole, undecoded, kindOf}
-use Rattle.definitions.specs.Channel.{Channel, Value, variableLength, spanOf, spanIn, decoded, isNumber, valueBy, valueOf}
+use Rattle.definitions.specs.Channel.{Channel, Value, variableLength, spanIn, decoded, isNumber, valueBy, valueOf}
 use Rattle.definitions.specs.Chain.{joined, fetched}
-use Rattle.definitions.specs.Payload.{idSD, holdsPosition, joinedOf, payloadOf, stored, PayloadValue, Outcomes, payloadValueOf, payloadBehind, payloadFetched}
+use Rattle.definitions.specs.Payload.{idSD, holdsPosition, joinedOf, stored, PayloadValue, Outcomes, payloadValueOf, payloadBehind, payloadFetched}
 use Rattle.definitions.proofs.Replies.{not-answered, both}
 use Rattle.words.proofs.Spans.{length-span}
 use Rattle.chain.proofs.Answers.{answered}
-use Rattle.theorems.specs.Exactly.{Fetchable, Positioned, recordOf}
+use Rattle.theorems.specs.Exactly.{Fetchable, Positioned, recordBytes}
 use Rattle.theorems.specs.Causes.{Not}
-use Rattle.theorems.specs.PayloadEnds.{recordLeft, payloadLeft, payloadTold, PayloadEnds, no-position, no-record, no-payload, no-room, no-value, a-value}
+use Rattle.theorems.specs.PayloadEnds.{recordLeft, payloadTold, PayloadEnds, no-position, no-record, no-payload, no-room, no-value, a-value}
 use Rattle.theorems.proofs.Rewritten.{front-of}
 use Rattle.theorems.proofs.ListAnswers.{above-zero}
 use Rattle.theorems.proofs.RefusalNumbers.{Numbered, OfPayloads, of-answer, of-refusal, of-blocks-too, fetched-numbered, payload-numbered}
@@ -102,15 +102,15 @@ module _ (f : List ℕ) (start k size idSize dataBytes : ℕ) (c : Channel) (out
   module _ (p : Positioned c) (h : Fetchable f start k size out) where
     abbrev found : Reply (List ℕ) → Outcomes PayloadValue
     found payload = record {
-      reply = andThen (stored payload room .reply) (payloadValueOf (recordOf f start k size out h) idSize dataBytes c);
+      reply = andThen (stored payload room .reply) (payloadValueOf (recordBytes f start k size out h) idSize dataBytes c);
       recordBuffer = recordLeft f start k size out h;
       payloadBuffer = stored payload room .buffer;
     }
 
     pub by-record : payloadFetched f start k size idSize dataBytes c out room ≡ found (payloadTold f start k size out h idSize c)
     by-record =
-        let l : length (recordOf f start k size out h) ≡ size = length-span (joined f (h .blocks)) (k * size) size (h .inside) in
-        by-fetch (held c p) ∙ ap behind (fetched-record f start k size out h) ∙ rw (front-of (recordOf f start k size out h) (drop size out) size l)
+        let l : length (recordBytes f start k size out h) ≡ size = length-span (joined f (h .blocks)) (k * size) size (h .inside) in
+        by-fetch (held c p) ∙ ap behind (fetched-record f start k size out h) ∙ rw (front-of (recordBytes f start k size out h) (drop size out) size l)
 
     by-value : (payload : List ℕ) → payloadTold f start k size out h idSize c ≡ answer payload → ltb (length room) (length payload) ≡ false
         → (r : Reply Value) → valueOf payload idSize c ≡ r → Ends

@@ -9,7 +9,7 @@ use Rattle.definitions.specs.Reply.{Reply, answer, refusal}
 use Rattle.definitions.specs.Channel.{Channel}
 use Rattle.definitions.specs.Payload.{PayloadValue, Outcomes, payloadFetched}
 use Rattle.mf4.specs.Clauses.{Slice}
-use Rattle.replies.specs.Values.{channelGiven, payloadC, ReturnedBoth}
+use Rattle.replies.specs.Values.{channelGiven, ReturnedBoth}
 use Rattle.replies.specs.declared.channel.Mf4Channel.{Mf4Channel}
 use Rattle.replies.specs.declared.payload.Mf4Payload.{Mf4Payload}
 use Rattle.replies.proofs.ToldToC.{Tellable, Reversible, payloadAgain, payload-told}

@@ -2,7 +2,7 @@
 -- bytes s: the calls that fetch a payload, the library's and C's, reply the same for both and, lent buffers that hold the same
 -- bytes, leave the same in both; and it is what the definitions give on j and s. Each theorem is about the call's own clause.
 use mathlib.Core.Path.{_≡_, refl, sym, ap, ap₂, _∙_}
-use mathlib.Core.Bool.{Bool, true, false, not, _&&_}
+use mathlib.Core.Bool.{Bool, not, _&&_}
 use mathlib.Core.List.{List}
 use Prim.Native.Nat.{ℕ, _<_}
 use native.Mathlib.Omega.{arith}
@@ -12,7 +12,7 @@ use lib.Dec.{eqb}
 use borrow.Author.Tests.{ne-eqb}
 use Rattle.definitions.specs.Reply.{Reply, Outcome, answer, refusal, if_then_else_, andThen}
 use Rattle.definitions.specs.Channel.{Channel, variableLength, valueOf, validOf}
-use Rattle.definitions.specs.Payload.{idSD, holdsPosition, positionOf, joinedOf, payloadOf, stored, PayloadValue, Outcomes, payloadValueOf, valueBehind, payloadBehind, payloadFetched}
+use Rattle.definitions.specs.Payload.{idSD, holdsPosition, positionOf, joinedOf, payloadOf, stored, PayloadValue, Outcomes, payloadValueOf, payloadBehind, payloadFetched}
 use Rattle.decoder.proofs.WordFields.{value-alike}
 use Rattle.fields.specs.Meaning.{channelMeant}
 use Rattle.fields.specs.declared.channel.Channel as code
@@ -21,7 +21,7 @@ use Rattle.payloads.specs.Meaning.{payloadFetchedBy}
 use Rattle.payloads.specs.declared.value.PayloadRead.{PayloadRead}
 use Rattle.payloads.proofs.Back.{payload-fetched-one}
 use Rattle.mf4.specs.Clauses.{Slice}
-use Rattle.replies.specs.Values.{channelGiven, payloadC, ReturnedBoth, returnedBoth, returnedBothBy}
+use Rattle.replies.specs.Values.{channelGiven, payloadC, returnedBoth, returnedBothBy}
 use Rattle.replies.specs.declared.channel.Mf4Channel.{Mf4Channel}
 use Rattle.replies.specs.declared.payload.Mf4Payload.{Mf4Payload}
 use Rattle.theorems.specs.Clauses.{ReadsPayload}

@@ -94,8 +94,8 @@ pub record Positioned (c : Channel) : Type 0 where
   pub eight : c .bitCount ≡ 64
 
 -- the record that can be fetched
-abbrev pub recordOf : (f : List ℕ) (start k size : ℕ) (out : List ℕ) → Fetchable f start k size out → List ℕ
-recordOf f start k size out h = span (joined f (h .blocks)) (k * size) size
+abbrev pub recordBytes : (f : List ℕ) (start k size : ℕ) (out : List ℕ) → Fetchable f start k size out → List ℕ
+recordBytes f start k size out h = span (joined f (h .blocks)) (k * size) size
 
 pub record PayloadFetchable (f : List ℕ) (start k size idSize : ℕ) (c : Channel) (out room : List ℕ) : Type 0 where
   pub positioned : Positioned c
@@ -106,7 +106,7 @@ pub record PayloadFetchable (f : List ℕ) (start k size idSize : ℕ) (c : Chan
   pub accepted : Accepted idSD f (c .dataLink) blocks
   -- there the length n lies in the joined data, and the payload behind it
   pub position : ℕ
-  pub told : u64At (recordOf f start k size out fetchable) (idSize + c .byteOffset) ≡ position
+  pub told : u64At (recordBytes f start k size out fetchable) (idSize + c .byteOffset) ≡ position
   pub n : ℕ
   pub length-is : u32At (joined f blocks) position ≡ n
   pub inside : position + 4 + n ≤ length (joined f blocks)

@@ -9,16 +9,16 @@ use Rattle.definitions.specs.DataType.{kindOf}
 use Rattle.definitions.specs.Channel.{Channel, Value, isNumber, valueOf, validOf}
 use Rattle.definitions.specs.Chain.{fetched}
 use Rattle.definitions.specs.Payload.{idSD, joinedOf, payloadOf, PayloadValue, Outcomes}
-use Rattle.theorems.specs.Exactly.{Fetchable, Positioned, recordOf}
+use Rattle.theorems.specs.Exactly.{Fetchable, Positioned, recordBytes}
 use Rattle.theorems.specs.Causes.{Not}
 
 -- a row of the table: the reply, the record's buffer, the payload's
-abbrev pub Row : Outcomes PayloadValue → Reply PayloadValue → List ℕ → List ℕ → Type 0
-Row o reply left later = o ≡ record { reply = reply; recordBuffer = left; payloadBuffer = later }
+abbrev pub EndsSo : Outcomes PayloadValue → Reply PayloadValue → List ℕ → List ℕ → Type 0
+EndsSo o reply left later = o ≡ record { reply = reply; recordBuffer = left; payloadBuffer = later }
 
 -- a record that was fetched, in the front of its buffer
 abbrev pub recordLeft : (f : List ℕ) (start k size : ℕ) (out : List ℕ) → Fetchable f start k size out → List ℕ
-recordLeft f start k size out h = recordOf f start k size out h ++ drop size out
+recordLeft f start k size out h = recordBytes f start k size out h ++ drop size out
 
 -- and a payload
 abbrev pub payloadLeft : List ℕ → List ℕ → List ℕ
@@ -26,27 +26,27 @@ payloadLeft payload room = payload ++ drop (length payload) room
 
 -- the payload that a fetched record tells, or what refuses it: 21 for the position, the chain's own, 23
 abbrev pub payloadTold : (f : List ℕ) (start k size : ℕ) (out : List ℕ) → Fetchable f start k size out → ℕ → Channel → Reply (List ℕ)
-payloadTold f start k size out h idSize c = payloadOf (joinedOf idSD f (c .dataLink)) (recordOf f start k size out h) idSize c
+payloadTold f start k size out h idSize c = payloadOf (joinedOf idSD f (c .dataLink)) (recordBytes f start k size out h) idSize c
 
 pub data PayloadEnds (f : List ℕ) (start k size idSize dataBytes : ℕ) (c : Channel) (out room : List ℕ) (o : Outcomes PayloadValue) : Type 0 where
   -- 35: both buffers are as they were
-  no-position : Not (Positioned c) → Row o (refusal 35 0) out room → PayloadEnds f start k size idSize dataBytes c out room o
+  no-position : Not (Positioned c) → EndsSo o (refusal 35 0) out room → PayloadEnds f start k size idSize dataBytes c out room o
   -- the record's own, 15, 7, its chain's, 16: both buffers are as they were
   no-record : (n t : ℕ) → Positioned c → fetched f start k size out .reply ≡ refusal n t
-      → Row o (refusal n t) out room → PayloadEnds f start k size idSize dataBytes c out room o
+      → EndsSo o (refusal n t) out room → PayloadEnds f start k size idSize dataBytes c out room o
   -- 21, the chain's own, 23: the record stays
   no-payload : (h : Fetchable f start k size out) (n t : ℕ) → Positioned c → payloadTold f start k size out h idSize c ≡ refusal n t
-      → Row o (refusal n t) (recordLeft f start k size out h) room → PayloadEnds f start k size idSize dataBytes c out room o
+      → EndsSo o (refusal n t) (recordLeft f start k size out h) room → PayloadEnds f start k size idSize dataBytes c out room o
   -- 6: the record stays
   no-room : (h : Fetchable f start k size out) (payload : List ℕ) → Positioned c → payloadTold f start k size out h idSize c ≡ answer payload
       → length room < length payload
-      → Row o (refusal 6 (told (length payload))) (recordLeft f start k size out h) room → PayloadEnds f start k size idSize dataBytes c out room o
+      → EndsSo o (refusal 6 (told (length payload))) (recordLeft f start k size out h) room → PayloadEnds f start k size idSize dataBytes c out room o
   -- 21: a number whose payload has fewer than 8 bytes; the record stays, and the payload
   no-value : (h : Fetchable f start k size out) (payload : List ℕ) → Positioned c → payloadTold f start k size out h idSize c ≡ answer payload
       → length payload ≤ length room → isNumber (kindOf (c .dataType)) ≡ true → length payload < 8
-      → Row o (refusal 21 8) (recordLeft f start k size out h) (payloadLeft payload room) → PayloadEnds f start k size idSize dataBytes c out room o
+      → EndsSo o (refusal 21 8) (recordLeft f start k size out h) (payloadLeft payload room) → PayloadEnds f start k size idSize dataBytes c out room o
   -- an answer: the value of the payload alone, and the validity of the record
   a-value : (h : Fetchable f start k size out) (payload : List ℕ) (v : Value) → Positioned c → payloadTold f start k size out h idSize c ≡ answer payload
       → length payload ≤ length room → valueOf payload idSize c ≡ answer v
-      → Row o (answer (record { value = v; valid = validOf (recordOf f start k size out h) idSize dataBytes c; size = length payload }))
+      → EndsSo o (answer (record { value = v; valid = validOf (recordBytes f start k size out h) idSize dataBytes c; size = length payload }))
       (recordLeft f start k size out h) (payloadLeft payload room) → PayloadEnds f start k size idSize dataBytes c out room o

@@ -1,16 +1,16 @@
 -- A refusal is handed on; a payload that fits is the window on it.
 use mathlib.Core.Path.{_≡_, sym, ap, subst, _∙_}
 use mathlib.Core.List.{List}
-use Prim.Native.Nat.{ℕ, _≤_}
+use Prim.Native.Nat.{ℕ}
 use native.Mathlib.Omega.{arith}
 use lib.ListN.{length}
 use lib.Seq.{length-take-le}
 use borrow.Author.Needs.{needs}
 use Rattle.definitions.specs.Reply.{Reply}
-use Rattle.definitions.specs.Payload.{idSD, positionOf, joinedOf, payloadOf}
+use Rattle.definitions.specs.Payload.{idSD, joinedOf, payloadOf}
 use Rattle.fields.specs.Meaning.{channelMeant}
 use Rattle.payloads.specs.Meaning.{positionReply}
-use Rattle.payloads.specs.Found.{Finds, Lies, payloadIn}
+use Rattle.payloads.specs.Found.{Finds, Lies, payloadFrom}
 use Rattle.payloads.proofs.Stored.{payload-refused, payload-at, not-stored, short-of-room, stored-in-front}
 use Rattle.payloads.proofs.payload.store_payload.Statement.{statement}
 use Rattle.payloads.proofs.payload.store_payload.Tie as tie
@@ -25,7 +25,7 @@ returns c =
 at-position : (c : tie.After-known-told) →
     let a = c .before .before .before .before .before .before .before .args in
     payloadOf (joinedOf idSD (a .file .now) (a .channel .data)) (a .«record» .now) (a .record-id-size) (channelMeant (a .channel))
-    ≡ payloadIn (a .file .now) (a .channel .data) (c .before .read .given .0 .0 .0)
+    ≡ payloadFrom (a .file .now) (a .channel .data) (c .before .read .given .0 .0 .0)
 at-position c = payload-at _ _ _ _ _ _ (sym (c .before .before .before .position-in .ensures) ∙ ap positionReply (c .before .read .given .1))
 
 returns-2 : tie.Need-returns-2
