@@ -40,16 +40,16 @@ length-laid j p h eb er =
 -- ---- in the joined data
 
 module _ (j : List ℕ) (p : ℕ) where
-  pub length-past : length j < p + 4 → payloadAt j p ≡ refusal 23 0
+  length-past : length j < p + 4 → payloadAt j p ≡ refusal 23 0
   unfolding payloadAt
   length-past h = rw (lt-ltb _ _ h)
 
   module _ (h : p + 4 ≤ length j) where
-    pub payload-past : length j < p + 4 + u32At j p → payloadAt j p ≡ refusal 23 0
+    payload-past : length j < p + 4 + u32At j p → payloadAt j p ≡ refusal 23 0
     unfolding payloadAt
     payload-past l = rw (le-ltb _ _ h, lt-ltb _ _ l)
 
-    pub payload-inside : p + 4 + u32At j p ≤ length j → payloadAt j p ≡ answer (span j (p + 4) (u32At j p))
+    payload-inside : p + 4 + u32At j p ≤ length j → payloadAt j p ≡ answer (span j (p + 4) (u32At j p))
     unfolding payloadAt
     payload-inside l = rw (le-ltb _ _ h, le-ltb _ _ l)
 
@@ -73,7 +73,7 @@ module _ (f : List ℕ) (start : ℕ) (short : length f ≤ fileLimit) where
     pub ahead : place .position .0 ≤ p
     ahead = found .place n place is .2
 
-    pub as-long : length (joined f (on-the-way .blocks)) ≡ n .0
+    as-long : length (joined f (on-the-way .blocks)) ≡ n .0
     unfolding on-the-way
     as-long = accepted .2
 

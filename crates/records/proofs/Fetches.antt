@@ -10,6 +10,7 @@ use borrow.Author.Tests.{ltb-false}
 use Rattle.definitions.specs.Reply.{Reply, Outcome, answer, refusal, if_then_else_}
 use Rattle.definitions.specs.Channel.{Channel, ValidValue, validValueOf}
 use Rattle.definitions.specs.Chain.{fileLimit, recordLimit, badSize, fetched, fieldOf, valueFetched}
+use Rattle.definitions.proofs.Replies.{not-answered}
 use Rattle.refusals.specs.Meaning.{refused}
 use Rattle.refusals.specs.declared.Refusal.{Refusal}
 use Rattle.records.specs.Meaning.{fetchedBy}
@@ -20,40 +21,28 @@ last-of : (p q : Bool) → p || q ≡ false → q ≡ false
 last-of true q h = let z : _≡_ {A = ℕ} 0 1 = cc in let no : ⊥ = omega arith in absurd no
 last-of false q h = h
 
--- a record that was fetched fits into the buffer
+-- a record that was fetched fits into the buffer, and its file is not too long
 module _ (f : List ℕ) (start k size : ℕ) (out : List ℕ) where
-  by-size : (b : Bool) (o : Outcome (Unit {0})) → badSize size (length out) ≡ b
-      → (if b then record { reply = refusal 15 0; buffer = out } else o) .reply ≡ answer tt → size ≤ length out
-  by-size true o e h = let z : _≡_ {A = ℕ} 0 1 = cc in let no : ⊥ = omega arith in absurd no
-  by-size false o e h = ltb-false (length out) size (last-of (eqb size 0 || ltb recordLimit size) (ltb (length out) size) e)
+  by-tests : (bad long : Bool) (o : Outcome (Unit {0})) → badSize size (length out) ≡ bad → ltb fileLimit (length f) ≡ long
+      → (if bad then record { reply = refusal 15 0; buffer = out } else if long then record { reply = refusal 7 0; buffer = out } else o) .reply ≡ answer tt
+      → (size ≤ length out) × (length f ≤ fileLimit)
+  by-tests true long o e l h = not-answered tt 15 0 h
+  by-tests false true o e l h = not-answered tt 7 0 h
+  by-tests false false o e l h =
+      (ltb-false (length out) size (last-of (eqb size 0 || ltb recordLimit size) (ltb (length out) size) e), ltb-false fileLimit (length f) l)
 
-  room : fetched f start k size out .reply ≡ answer tt → size ≤ length out
+  tested : fetched f start k size out .reply ≡ answer tt → (size ≤ length out) × (length f ≤ fileLimit)
   unfolding fetched
-  room h = by-size (badSize size (length out)) _ refl h
-
-  -- in a file that is not too long
-  by-length : (b : Bool) (o : Outcome (Unit {0})) → badSize size (length out) ≡ b
-      → (if b then record { reply = refusal 15 0; buffer = out } else if ltb fileLimit (length f) then record { reply = refusal 7 0; buffer = out } else o) .reply ≡ answer tt
-      → length f ≤ fileLimit
-  by-length true o e h = let z : _≡_ {A = ℕ} 0 1 = cc in let no : ⊥ = omega arith in absurd no
-  by-length false o e h = go (ltb fileLimit (length f)) refl h
-    where
-      go : (t : Bool) → ltb fileLimit (length f) ≡ t → (if t then record { reply = refusal 7 0; buffer = out } else o) .reply ≡ answer tt → length f ≤ fileLimit
-      go true l h = let z : _≡_ {A = ℕ} 0 1 = cc in let no : ⊥ = omega arith in absurd no
-      go false l h = ltb-false fileLimit (length f) l
-
-  within : fetched f start k size out .reply ≡ answer tt → length f ≤ fileLimit
-  unfolding fetched
-  within h = by-length (badSize size (length out)) _ refl h
+  tested h = by-tests (badSize size (length out)) (ltb fileLimit (length f)) _ refl refl h
 
   reply-is : {r : RecordRead} {left : List ℕ} → fetchedBy r left ≡ fetched f start k size out → r ≡ Record → fetched f start k size out .reply ≡ answer tt
   reply-is {left = left} e is = ap (λ (o : Outcome (Unit {0})). o .reply) (sym e ∙ ap (λ (x : RecordRead). fetchedBy x left) is)
 
   pub fits : {r : RecordRead} {left : List ℕ} → fetchedBy r left ≡ fetched f start k size out → r ≡ Record → size ≤ length out
-  fits e is = room (reply-is e is)
+  fits e is = tested (reply-is e is) .0
 
   pub short : {r : RecordRead} {left : List ℕ} → fetchedBy r left ≡ fetched f start k size out → r ≡ Record → length f ≤ fileLimit
-  short e is = within (reply-is e is)
+  short e is = tested (reply-is e is) .1
 
   module _ (idSize dataBytes : ℕ) (c : Channel) {r : RecordRead} {left : List ℕ} (e : fetchedBy r left ≡ fetched f start k size out) where
     -- a refusal of the record is the reply, and the buffer is as the fetch left it

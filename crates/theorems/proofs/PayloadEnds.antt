@@ -39,10 +39,13 @@ module _ (c : Channel) where
         eight = eqb-true _ _ (p .1);
       }
 
-  pub held : Positioned c → holdsPosition c ≡ true
-  held p =
+  variable-length : Positioned c → variableLength c ≡ true
+  variable-length p =
       let z : c .dataLink ≡ 0 → ⊥ = λ e. omega (arith, p .linked) in
-      rw (eq-eqb _ _ (p .variable), ne-eqb _ _ z, eq-eqb _ _ (p .from-first), eq-eqb _ _ (p .eight))
+      rw (eq-eqb _ _ (p .variable), ne-eqb _ _ z)
+
+  pub held : Positioned c → holdsPosition c ≡ true
+  held p = rw (variable-length p, eq-eqb _ _ (p .from-first), eq-eqb _ _ (p .eight))
 
   not-positioned : holdsPosition c ≡ false → Not (Positioned c)
   not-positioned h p = true≢false (sym (held p) ∙ h)
@@ -60,16 +63,11 @@ module _ (s : List ℕ) (idSize : ℕ) (c : Channel) (p : Positioned c) where
   by-kind whole = rw (le-ltb (length s) (0 + length s) (omega arith))
   by-kind undecoded = rw (le-ltb (length s) (0 + length s) (omega arith))
 
-  variable-length : variableLength c ≡ true
-  variable-length =
-      let z : c .dataLink ≡ 0 → ⊥ = λ e. omega (arith, p .linked) in
-      rw (eq-eqb _ _ (p .variable), ne-eqb _ _ z)
-
   pub payload-replied : Replied (kindOf (c .dataType)) (valueOf s idSize c)
   unfolding valueOf
   payload-replied =
       let k : Kind = kindOf (c .dataType) in
-      ap (λ (b : Bool). valueBy k (if b then 0 else (idSize + c .byteOffset)) (spanIn b k (length s) c) s c) variable-length ∙ by-kind k
+      ap (λ (b : Bool). valueBy k (if b then 0 else (idSize + c .byteOffset)) (spanIn b k (length s) c) s c) (variable-length c p) ∙ by-kind k
 
   pub only-too-short : (n t : ℕ) → valueOf s idSize c ≡ refusal n t
       → (isNumber (kindOf (c .dataType)) ≡ true) × (length s < 8) × (n ≡ 21) × (t ≡ 8)
@@ -79,8 +77,8 @@ module _ (s : List ℕ) (idSize : ℕ) (c : Channel) (p : Positioned c) where
           → (if a && b then refusal 21 8 else answer (decoded (c .dataType) s 0 (spanIn true (kindOf (c .dataType)) (length s) c) c)) ≡ refusal n t
           → (isNumber (kindOf (c .dataType)) ≡ true) × (length s < 8) × (n ≡ 21) × (t ≡ 8)
       go true true ea eb q = (ea, ltb-true _ _ eb, cc, cc)
-      go true false ea eb q = let z : _≡_ {A = ℕ} 0 1 = cc in let no : ⊥ = omega arith in absurd no
-      go false b ea eb q = let z : _≡_ {A = ℕ} 0 1 = cc in let no : ⊥ = omega arith in absurd no
+      go true false ea eb q = not-answered _ n t (sym q)
+      go false b ea eb q = not-answered _ n t (sym q)
 
 -- ---- the call
 
