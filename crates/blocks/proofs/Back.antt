@@ -63,7 +63,7 @@ typeBack types.canOpenDate = CanOpenDate
 typeBack types.canOpenTime = CanOpenTime
 typeBack (types.complex little) = ComplexLE
 typeBack (types.complex big) = ComplexBE
-typeBack types.unknown = Unknown
+typeBack (types.unknown code) = Unknown code
 
 pub type-back : (t : DataType) → typeBack (typeMeant t) ≡ t
 type-back UnsignedIntegerLE = refl
@@ -83,7 +83,7 @@ type-back CanOpenDate = refl
 type-back CanOpenTime = refl
 type-back ComplexLE = refl
 type-back ComplexBE = refl
-type-back Unknown = refl
+type-back (Unknown code) = refl
 
 pub type-one : (a b : DataType) → typeMeant a ≡ typeMeant b → a ≡ b
 type-one = one-by typeMeant typeBack type-back

@@ -58,7 +58,7 @@ typeMeant CanOpenDate = types.canOpenDate
 typeMeant CanOpenTime = types.canOpenTime
 typeMeant ComplexLE = types.complex little
 typeMeant ComplexBE = types.complex big
-typeMeant Unknown = types.unknown
+typeMeant (Unknown code) = types.unknown code
 
 -- ---- data list
 

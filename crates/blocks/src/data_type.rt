@@ -21,7 +21,8 @@ pub enum DataType {
     CanOpenTime,
     ComplexLE,
     ComplexBE,
-    Unknown,
+    // any other, by its code
+    Unknown(u8),
 }
 
 impl DataType {
@@ -46,7 +47,7 @@ impl DataType {
             14 => DataType::CanOpenTime,
             15 => DataType::ComplexLE,
             16 => DataType::ComplexBE,
-            _ => DataType::Unknown,
+            _ => DataType::Unknown(value),
         }
     }
 
@@ -71,7 +72,7 @@ impl DataType {
             DataType::CanOpenTime => 14,
             DataType::ComplexLE => 15,
             DataType::ComplexBE => 16,
-            DataType::Unknown => 0,
+            DataType::Unknown(code) => code,
         }
     }
 
@@ -96,7 +97,7 @@ impl DataType {
             DataType::CanOpenTime => 64,
             DataType::ComplexLE => 64,
             DataType::ComplexBE => 64,
-            DataType::Unknown => 8,
+            DataType::Unknown(_) => 8,
         }
     }
 }

@@ -219,7 +219,7 @@ decoded-alike mimeStream s at n c t d = refl
 decoded-alike canOpenDate s at n c t d = refl
 decoded-alike canOpenTime s at n c t d = refl
 decoded-alike (complex o) s at n c t d = refl
-decoded-alike unknown s at n c t d = refl
+decoded-alike (unknown code) s at n c t d = refl
 
 span-alike : (payload : Bool) (k : Kind) (n : ℕ) (c : Channel) (t d : ℕ) → spanIn payload k n (alike c t d) ≡ spanIn payload k n c
 span-alike payload integer n c t d = refl

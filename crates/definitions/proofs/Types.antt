@@ -1,41 +1,34 @@
 -- A type and its code.
-use mathlib.Core.Path.{_≡_, refl, sym}
-use mathlib.Core.Bool.{true, false, true≢false}
+use mathlib.Core.Path.{_≡_, refl}
+use mathlib.Core.Bool.{true}
+use Prim.Native.Nat.{ℕ, _<_}
+use lib.ListN.{List·getD-eq-default}
+use borrow.Author.Tests.{ltb-true}
 use Rattle.definitions.specs.Bytes.{little, big}
 use Rattle.definitions.specs.Unicode.{latin1, utf8, utf16}
-use Rattle.definitions.specs.DataType.{DataType, unsignedInteger, signedInteger, float, complex, string, byteArray, mimeSample, mimeStream, canOpenDate, canOpenTime, unknown, typeOf, isKnown, codeOf}
+use Rattle.definitions.specs.DataType.{DataType, unsignedInteger, signedInteger, float, complex, string, byteArray, mimeSample, mimeStream, canOpenDate, canOpenTime, unknown, coded, typeOf, codeOf, ownsCode}
 
--- a type that is known comes back from its code
-pub known-back : (t : DataType) → isKnown t ≡ true → typeOf (codeOf t) ≡ t
-known-back (unsignedInteger little) h = refl
-known-back (unsignedInteger big) h = refl
-known-back (signedInteger little) h = refl
-known-back (signedInteger big) h = refl
-known-back (float little) h = refl
-known-back (float big) h = refl
-known-back (complex little) h = refl
-known-back (complex big) h = refl
-known-back (string latin1) h = refl
-known-back (string utf8) h = refl
-known-back (string (utf16 little)) h = refl
-known-back (string (utf16 big)) h = refl
-known-back byteArray h = refl
-known-back mimeSample h = refl
-known-back mimeStream h = refl
-known-back canOpenDate h = refl
-known-back canOpenTime h = refl
-known-back unknown h = absurd (true≢false (sym h))
+-- a code behind the table
+pub type-unknown : (code : ℕ) → 16 < code → typeOf code ≡ unknown code
+type-unknown code h = List·getD-eq-default coded (unknown code) h
 
--- and any other is the unknown one
-pub not-known : (t : DataType) → isKnown t ≡ false → unknown ≡ t
-not-known (unsignedInteger o) h = absurd (true≢false h)
-not-known (signedInteger o) h = absurd (true≢false h)
-not-known (float o) h = absurd (true≢false h)
-not-known (complex o) h = absurd (true≢false h)
-not-known (string e) h = absurd (true≢false h)
-not-known byteArray h = absurd (true≢false h)
-not-known mimeSample h = absurd (true≢false h)
-not-known mimeStream h = absurd (true≢false h)
-not-known canOpenDate h = absurd (true≢false h)
-not-known canOpenTime h = absurd (true≢false h)
-not-known unknown h = refl
+-- a type comes back from its code, where the code is its own
+pub type-back : (t : DataType) → ownsCode t ≡ true → typeOf (codeOf t) ≡ t
+type-back (unsignedInteger little) h = refl
+type-back (unsignedInteger big) h = refl
+type-back (signedInteger little) h = refl
+type-back (signedInteger big) h = refl
+type-back (float little) h = refl
+type-back (float big) h = refl
+type-back (complex little) h = refl
+type-back (complex big) h = refl
+type-back (string latin1) h = refl
+type-back (string utf8) h = refl
+type-back (string (utf16 little)) h = refl
+type-back (string (utf16 big)) h = refl
+type-back byteArray h = refl
+type-back mimeSample h = refl
+type-back mimeStream h = refl
+type-back canOpenDate h = refl
+type-back canOpenTime h = refl
+type-back (unknown code) h = type-unknown code (ltb-true _ _ h)

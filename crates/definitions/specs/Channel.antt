@@ -81,7 +81,7 @@ decoded mimeStream s at n c = stream at n
 decoded canOpenDate s at n c = unknownValue
 decoded canOpenTime s at n c = unknownValue
 decoded (complex o) s at n c = unknownValue
-decoded unknown s at n c = unknownValue
+decoded (unknown code) s at n c = unknownValue
 
 abbrev pub isInteger : Kind → Bool
 isInteger integer = true

@@ -3,13 +3,16 @@ use Prim.Native.Nat.{ℕ}
 use mathlib.Core.List.{List, [], _∷_}
 use mathlib.Core.Bool.{Bool, true, false}
 use lib.ListN.{getD}
+use lib.Dec.{ltb}
 use Rattle.definitions.specs.Bytes.{Order, little, big}
 use Rattle.definitions.specs.Unicode.{Encoding, latin1, utf8, utf16}
 
 pub data DataType : Type 0 where
   unsignedInteger signedInteger float complex : Order → DataType
   string : Encoding → DataType
-  byteArray mimeSample mimeStream canOpenDate canOpenTime unknown : DataType
+  byteArray mimeSample mimeStream canOpenDate canOpenTime : DataType
+  -- by its code
+  unknown : ℕ → DataType
 
 -- by their codes, from 0 on. The public document has those up to 14, the crate two more for complex numbers
 abbrev pub coded : List DataType
@@ -18,25 +21,11 @@ coded =
     ∷ string latin1 ∷ string utf8 ∷ string (utf16 little) ∷ string (utf16 big)
     ∷ byteArray ∷ mimeSample ∷ mimeStream ∷ canOpenDate ∷ canOpenTime ∷ complex little ∷ complex big ∷ []
 
--- any other code is unknown
+-- any other code is an unknown type, which keeps it
 abbrev pub typeOf : ℕ → DataType
-typeOf code = getD coded code unknown
+typeOf code = getD coded code (unknown code)
 
--- whether it is one of these, and not the unknown one
-abbrev pub isKnown : DataType → Bool
-isKnown (unsignedInteger o) = true
-isKnown (signedInteger o) = true
-isKnown (float o) = true
-isKnown (complex o) = true
-isKnown (string e) = true
-isKnown byteArray = true
-isKnown mimeSample = true
-isKnown mimeStream = true
-isKnown canOpenDate = true
-isKnown canOpenTime = true
-isKnown unknown = false
-
--- back to the code; unknown gives 0
+-- back to the code
 abbrev pub codeOf : DataType → ℕ
 codeOf (unsignedInteger little) = 0
 codeOf (unsignedInteger big) = 1
@@ -55,7 +44,21 @@ codeOf canOpenDate = 13
 codeOf canOpenTime = 14
 codeOf (complex little) = 15
 codeOf (complex big) = 16
-codeOf unknown = 0
+codeOf (unknown code) = code
+
+-- whether its code stands for it: any type, but an unknown one that was made with the code of another, 0 to 16
+abbrev pub ownsCode : DataType → Bool
+ownsCode (unsignedInteger o) = true
+ownsCode (signedInteger o) = true
+ownsCode (float o) = true
+ownsCode (string e) = true
+ownsCode byteArray = true
+ownsCode mimeSample = true
+ownsCode mimeStream = true
+ownsCode canOpenDate = true
+ownsCode canOpenTime = true
+ownsCode (complex o) = true
+ownsCode (unknown code) = ltb 16 code
 
 -- the bits that a channel has where nobody says how many
 abbrev pub defaultBits : DataType → ℕ
@@ -69,7 +72,7 @@ defaultBits mimeStream = 8
 defaultBits canOpenDate = 64
 defaultBits canOpenTime = 64
 defaultBits (complex o) = 64
-defaultBits unknown = 8
+defaultBits (unknown code) = 8
 
 -- how a type's field lies in a record: an integer or a float of some bits, whole bytes, or bits that nothing here decodes
 pub data Kind : Type 0 where
@@ -86,4 +89,4 @@ kindOf mimeStream = whole
 kindOf canOpenDate = undecoded
 kindOf canOpenTime = undecoded
 kindOf (complex o) = undecoded
-kindOf unknown = undecoded
+kindOf (unknown code) = undecoded

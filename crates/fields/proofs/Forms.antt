@@ -29,7 +29,7 @@ kind-form mimeStream = refl
 kind-form canOpenDate = refl
 kind-form canOpenTime = refl
 kind-form (complex o) = refl
-kind-form unknown = refl
+kind-form (unknown code) = refl
 
 pub value-form : (t : DataType) (s : List ℕ) (at n : ℕ) (c : Channel) → formValue (formOf t) s at n c ≡ decoded t s at n c
 unfolding decoded
@@ -49,7 +49,7 @@ value-form mimeStream s at n c = refl
 value-form canOpenDate s at n c = refl
 value-form canOpenTime s at n c = refl
 value-form (complex o) s at n c = refl
-value-form unknown s at n c = refl
+value-form (unknown code) s at n c = refl
 
 -- what holds of the kinds of numbers, and of the other kinds
 pub number-kinds : (P : Kind → Type 0) → P integer → P floating → (number : Number) → P (numberKind number)

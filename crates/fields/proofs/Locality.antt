@@ -34,7 +34,7 @@ orderOf mimeSample = little
 orderOf mimeStream = little
 orderOf canOpenDate = little
 orderOf canOpenTime = little
-orderOf unknown = little
+orderOf (unknown code) = little
 
 -- a number is its field
 by-field : (type : DataType) (s t : List ℕ) (at n : ℕ) (c : Channel) → isNumber (kindOf type) ≡ true
@@ -101,7 +101,7 @@ by-span mimeStream s t at n c h e = refl
 by-span canOpenDate s t at n c h e = refl
 by-span canOpenTime s t at n c h e = refl
 by-span (complex o) s t at n c h e = refl
-by-span unknown s t at n c h e = refl
+by-span (unknown code) s t at n c h e = refl
 
 -- outside a payload the slice's length does not matter
 fixed-span : (k : Kind) (m n : ℕ) (c : Channel) → spanIn false k m c ≡ spanIn false k n c

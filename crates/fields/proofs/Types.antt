@@ -17,7 +17,7 @@ number-types P u s f mimeStream h = absurd (true≢false (sym h))
 number-types P u s f canOpenDate h = absurd (true≢false (sym h))
 number-types P u s f canOpenTime h = absurd (true≢false (sym h))
 number-types P u s f (complex o) h = absurd (true≢false (sym h))
-number-types P u s f unknown h = absurd (true≢false (sym h))
+number-types P u s f (unknown code) h = absurd (true≢false (sym h))
 
 integer-number : (type : DataType) → isInteger (kindOf type) ≡ true → isNumber (kindOf type) ≡ true
 integer-number type h = rw h

@@ -35,7 +35,7 @@ formOf mimeStream = Other MimeStream
 formOf canOpenDate = Other Undecoded
 formOf canOpenTime = Other Undecoded
 formOf (complex o) = Other Undecoded
-formOf unknown = Other Undecoded
+formOf (unknown code) = Other Undecoded
 
 abbrev pub numberKind : numbers.Number → Kind
 numberKind Unsigned = integer

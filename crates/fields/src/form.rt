@@ -50,6 +50,6 @@ pub fn form_of(data_type: DataType) -> Form
         DataType::CanOpenTime => Form::Other(Content::Undecoded),
         DataType::ComplexLE => Form::Other(Content::Undecoded),
         DataType::ComplexBE => Form::Other(Content::Undecoded),
-        DataType::Unknown => Form::Other(Content::Undecoded),
+        DataType::Unknown(_) => Form::Other(Content::Undecoded),
     }
 }

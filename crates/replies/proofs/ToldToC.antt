@@ -14,13 +14,13 @@ use Rattle.definitions.specs.Bytes.{twosComplement}
 use Rattle.definitions.specs.Unicode.{TextWritten}
 use Rattle.definitions.specs.Header.{Header}
 use Rattle.definitions.specs.DataList.{DataList}
-use Rattle.definitions.specs.DataType.{DataType, typeOf, isKnown, codeOf}
+use Rattle.definitions.specs.DataType.{ownsCode}
 use Rattle.definitions.specs.ChannelBlock.{ChannelBlock}
 use Rattle.definitions.specs.Payload.{PayloadValue}
 use Rattle.definitions.specs.Channel.{Channel, Value, ValidValue, unsigned, signed, double, text, bytes, sample, stream, unknownValue, doubleValue}
-use Rattle.definitions.proofs.Types.{known-back, not-known}
+use Rattle.definitions.proofs.Types.{type-back}
 use Rattle.replies.specs.Replies.{flagC, writtenC, headerC, headerGiven, listC, textC}
-use Rattle.replies.specs.Channels.{typeC, descriptionC, blockC, blockGiven, channelC}
+use Rattle.replies.specs.Channels.{descriptionC, blockC, blockGiven, channelC}
 use Rattle.replies.specs.Values.{channelGiven, wordOf, decodedC, valueC, validValueC, lengthC, fetchedC, payloadC}
 use Rattle.replies.specs.declared.written.Mf4Written.{Mf4Written}
 use Rattle.replies.specs.declared.header.Mf4Header.{Mf4Header}
@@ -103,18 +103,10 @@ listAgain s =
 pub list-told : (r : Reply DataList) → Tellable Any r → listAgain (listC r) ≡ r
 list-told = told-by Any listC listAgain (λ a h. refl) (again-refused _)
 
--- a type comes back from the code that tells it, the unknown one too
-type-back : (t : DataType) → typeOf (typeC t) ≡ t
-type-back t = go (isKnown t) refl
-  where
-    go : (b : Bool) → isKnown t ≡ b → typeOf (if b then codeOf t else 255) ≡ t
-    go true e = known-back t e
-    go false e = not-known t e
-
--- and so does a description, when C gives it to another call
-pub description-back : (c : Channel) → channelGiven (descriptionC c) ≡ c
-description-back c = λ i. record {
-  dataType = type-back (c .dataType) i;
+-- a description comes back when C gives it to another call, where its type's code is its own
+pub description-back : (c : Channel) → ownsCode (c .dataType) ≡ true → channelGiven (descriptionC c) ≡ c
+description-back c own = λ i. record {
+  dataType = type-back (c .dataType) own i;
   channelType = c .channelType;
   bitOffset = c .bitOffset;
   byteOffset = c .byteOffset;
@@ -124,9 +116,12 @@ description-back c = λ i. record {
   dataLink = c .dataLink;
 }
 
--- and the block
-pub block-back : (b : ChannelBlock) → blockGiven (blockC b) ≡ b
-block-back b = λ i. record {
+-- and so does the block
+abbrev pub OwnType : ChannelBlock → Type 0
+OwnType b = ownsCode (b .dataType) ≡ true
+
+pub block-back : (b : ChannelBlock) → OwnType b → blockGiven (blockC b) ≡ b
+block-back b own = λ i. record {
   header = b .header;
   nextChannel = b .nextChannel;
   component = b .component;
@@ -140,7 +135,7 @@ block-back b = λ i. record {
   more = b .more;
   channelType = b .channelType;
   syncType = b .syncType;
-  dataType = type-back (b .dataType) i;
+  dataType = type-back (b .dataType) own i;
   bitOffset = b .bitOffset;
   byteOffset = b .byteOffset;
   bitCount = b .bitCount;
@@ -160,8 +155,8 @@ block-back b = λ i. record {
 abbrev pub channelAgain : Mf4ChannelReply → Reply ChannelBlock
 channelAgain s = again (s .reply) (s .told) (blockGiven (s .block))
 
-pub channel-told : (r : Reply ChannelBlock) → Tellable Any r → channelAgain (channelC r) ≡ r
-channel-told = told-by Any channelC channelAgain (λ a h. ap answer (block-back a)) (again-refused _)
+pub channel-told : (r : Reply ChannelBlock) → Tellable OwnType r → channelAgain (channelC r) ≡ r
+channel-told = told-by OwnType channelC channelAgain (λ b h. ap answer (block-back b h)) (again-refused _)
 
 -- ---- flags and texts
 

@@ -1,7 +1,7 @@
 -- Channel blocks as C sees them.
 use Prim.Native.Nat.{ℕ}
-use Rattle.definitions.specs.Reply.{Reply, answer, refusal, if_then_else_}
-use Rattle.definitions.specs.DataType.{DataType, isKnown, codeOf}
+use Rattle.definitions.specs.Reply.{Reply, answer, refusal}
+use Rattle.definitions.specs.DataType.{codeOf}
 use Rattle.definitions.specs.Channel.{Channel}
 use Rattle.definitions.specs.ChannelBlock.{ChannelBlock, described}
 use Rattle.replies.specs.Replies.{headerFields, noHeader, headerGiven}
@@ -10,14 +10,10 @@ use Rattle.replies.specs.declared.channel.Mf4Channel.{Mf4Channel}
 use Rattle.replies.specs.declared.channel_block.Mf4ChannelBlock.{Mf4ChannelBlock}
 use Rattle.replies.specs.declared.channel_block.Mf4ChannelReply.{Mf4ChannelReply}
 
--- a type by its code; the unknown one by 255, which no type has
-abbrev pub typeC : DataType → ℕ
-typeC t = if isKnown t then codeOf t else 255
-
--- a description, as the calls that decode take it
+-- a description, as the calls that decode take it, with its type by the code
 abbrev pub descriptionC : Channel → Mf4Channel
 descriptionC c = record {
-  «data_type» = typeC (c .dataType);
+  «data_type» = codeOf (c .dataType);
   «channel_type» = c .channelType;
   «bit_offset» = c .bitOffset;
   «byte_offset» = c .byteOffset;

@@ -1,16 +1,14 @@
 // Channel blocks.
 ghost use mathlib.Core.Path.{_≡_};
-ghost use Rattle.blocks.specs.Meaning.{typeMeant};
 ghost use Rattle.channels.specs.Meaning.{channelBlockMeant, channelBlockReply};
 ghost use Rattle.fields.specs.Meaning.{channelMeant};
-ghost use Rattle.replies.specs.Channels.{typeC, descriptionC, noDescription, blockC, noBlock, blockGiven, channelC};
+ghost use Rattle.replies.specs.Channels.{descriptionC, noDescription, blockC, noBlock, blockGiven, channelC};
 use crate::channel::Mf4Channel;
 use crate::channel::channel_of;
 use crate::header::Mf4BlockHeader;
 use crate::header::header_of;
 use crate::header::header_told;
 use crate::header::no_header;
-use blocks::DataType;
 use channels::ChannelBlock;
 use channels::ChannelRead;
 use decoder::Channel;
@@ -48,22 +46,12 @@ pub struct Mf4ChannelReply {
     pub block: Mf4ChannelBlock,
 }
 
-// The code of a type, and for an unknown one a code that no type has: 0 would be read as an unsigned integer
-fn code_told(data_type: DataType) -> u8
-    ensures { λ r. ⌜ r ≡ typeC (typeMeant «data_type») ⌝ }
-{
-    match data_type {
-        DataType::Unknown => 255,
-        _ => data_type.to_u8(),
-    }
-}
-
 fn description_told(channel: Channel) -> Mf4Channel
     ensures { λ r. ⌜ r ≡ descriptionC (channelMeant channel) ⌝ }
 {
     let data_type = channel.data_type;
     Mf4Channel {
-        data_type: code_told(data_type),
+        data_type: data_type.to_u8(),
         channel_type: channel.channel_type,
         bit_offset: channel.bit_offset,
         byte_offset: channel.byte_offset,

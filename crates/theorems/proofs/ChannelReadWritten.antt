@@ -1,51 +1,31 @@
--- A channel block that is read and then written gives its 160 bytes again exactly where it is `PlainBlock`: it has what the writer
--- fixes, and a type that is known.
+-- A channel block that is read and then written gives its 160 bytes again, with whatever type it has, exactly where it is
+-- `PlainBlock`: it has what the writer fixes.
 use mathlib.Core.Path.{_≡_, refl, sym, ap, ap₂, _∙_, subst}
-use mathlib.Core.Bool.{Bool, true, false, true≢false}
+use mathlib.Core.Bool.{true}
 use mathlib.Core.List.{List, [], _∷_, _++_}
 use Prim.Native.Nat.{ℕ, _+_, _-_, _≤_, _<_}
 use native.Mathlib.Omega.{arith}
 use lib.ListN.{length, getD, take, drop, length-drop, take-append-drop}
 use lib.Seq.{getD-drop, drop-drop}
-use lib.Dec.{ltb}
-use borrow.Author.Tests.{ltb-true, ltb-false}
-use Rattle.definitions.specs.Reply.{answer, if_then_else_}
+use Rattle.definitions.specs.Reply.{answer}
 use Rattle.definitions.specs.Bytes.{little, le, les, span, u16At, u32At, u64At, u64sAt, idAt}
 use Rattle.definitions.specs.Header.{Header, headerIn}
-use Rattle.definitions.specs.DataType.{DataType, unsignedInteger, typeOf, isKnown, codeOf}
 use Rattle.definitions.specs.ChannelBlock.{ChannelBlock, idCN, fieldsAt, blockIn, channelBlockOf, channelHeader, sixLimits, formatBytes, channelBytes}
 use Rattle.words.proofs.Numbers.{Bytes}
 use Rattle.words.proofs.Spans.{span-one, span-split, span-below}
 use Rattle.chain.proofs.Answers.{answered}
 use Rattle.theorems.proofs.Rewritten.{glue, number-written, numbers-written}
 use Rattle.theorems.proofs.HeaderRoundTrip.{named-header}
-use Rattle.theorems.proofs.TypeCodes.{code-back, code-unknown}
+use Rattle.theorems.proofs.TypeCodes.{code-back}
 use Rattle.theorems.proofs.ChannelAnswers.{channel-stands}
-use Rattle.theorems.proofs.ChannelWrittenRead.{BlockFits, typeWritten, blockWritten, channel-written-read}
+use Rattle.theorems.proofs.ChannelWrittenRead.{BlockFits, blockWritten, channel-written-read}
 
 pub record PlainBlock (b : ChannelBlock) : Type 0 where
   pub header-reserved : b .header .reserved ≡ 0
   pub blockLength : b .header .blockLength ≡ 160
   pub eight : b .header .linkCount ≡ 8
-  pub known : isKnown (b .dataType) ≡ true
   pub reserved : b .reserved ≡ 0
   pub attachments : b .attachments ≡ 0
-
--- the code of a type that is known
-code-known : (n : ℕ) → isKnown (typeOf n) ≡ true → codeOf (typeOf n) ≡ n
-code-known n known = by-size (ltb 16 n) refl
-  where
-    by-size : (b : Bool) → ltb 16 n ≡ b → codeOf (typeOf n) ≡ n
-    by-size true e = absurd (true≢false (sym known ∙ ap isKnown (code-unknown n (ltb-true _ _ e))))
-    by-size false e = code-back n (ltb-false _ _ e)
-
--- a type that is what was written for it
-known-written : (t : DataType) → t ≡ typeWritten t → isKnown t ≡ true
-known-written t w = go (isKnown t) refl w
-  where
-    go : (b : Bool) → isKnown t ≡ b → t ≡ (if b then t else unsignedInteger little) → isKnown t ≡ true
-    go true e w = e
-    go false e w = ap isKnown w
 
 -- two pieces of l, from p on
 two : (l : List ℕ) (p n m : ℕ) {x y : List ℕ} → x ≡ span l p n → y ≡ span l (p + n) m → x ++ y ≡ span l p (n + m)
@@ -92,7 +72,7 @@ module _ (s : List ℕ) (bytes : Bytes s) (long : 160 ≤ length s) where
   room = omega (arith, length-drop 88 s)
 
   module _ (h : Header) (named : idAt s 0 idCN ≡ true) (reserved : u32At s 4 ≡ 0) (sized : u64At s 8 ≡ 160) (eight : u64At s 16 ≡ 8)
-      (known : isKnown (typeOf (getD f 2 0)) ≡ true) (zero-byte : getD f 21 0 ≡ 0) (none : u16At f 22 ≡ 0) where
+      (zero-byte : getD f 21 0 ≡ 0) (none : u16At f 22 ≡ 0) where
     format-piece : formatBytes (blockIn s h f) ≡ span f 0 24
     unfolding le
     format-piece =
@@ -105,7 +85,7 @@ module _ (s : List ℕ) (bytes : Bytes s) (long : 160 ≤ length s) where
         (glue f 4 4 4 refl
         (two f 0 1 3 (one f 0 (omega arith) refl)
         (two f 1 1 2 (one f 1 (omega arith) refl)
-        (two f 2 1 1 (one f 2 (omega arith) (code-known (getD f 2 0) known)) (one f 3 (omega arith) refl))))
+        (two f 2 1 1 (one f 2 (omega arith) (code-back (getD f 2 0))) (one f 3 (omega arith) refl))))
         (number-written f 4 4 below (omega arith)))
         (number-written f 8 4 below (omega arith)))
         (number-written f 12 4 below (omega arith)))
@@ -142,7 +122,7 @@ module _ (s : List ℕ) (b : ChannelBlock) (bytes : Bytes s) (read : channelBloc
       let whole : fieldsAt (u64At s 16) + 72 ≤ length s = stands .whole in
       let links : u64At s 16 ≡ 8 = plain .eight in
       ap channelBytes is
-      ∙ pieces s bytes (omega arith) (headerIn s) (stands .named) (plain .header-reserved) (plain .blockLength) links (plain .known) (plain .reserved) (plain .attachments)
+      ∙ pieces s bytes (omega arith) (headerIn s) (stands .named) (plain .header-reserved) (plain .blockLength) links (plain .reserved) (plain .attachments)
 
   read-fits : BlockFits b
   read-fits =
@@ -161,7 +141,6 @@ module _ (s : List ℕ) (b : ChannelBlock) (bytes : Bytes s) (read : channelBloc
         header-reserved = ap (λ (x : ChannelBlock). x .header .reserved) same;
         blockLength = ap (λ (x : ChannelBlock). x .header .blockLength) same;
         eight = ap (λ (x : ChannelBlock). x .header .linkCount) same;
-        known = known-written (b .dataType) (ap (λ (x : ChannelBlock). x .dataType) same);
         reserved = ap (λ (x : ChannelBlock). x .reserved) same;
         attachments = ap (λ (x : ChannelBlock). x .attachments) same;
       }

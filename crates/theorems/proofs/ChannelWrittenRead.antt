@@ -1,20 +1,20 @@
--- Reading gives what a channel block was written from, whatever bytes come after it: every field, but for a type that is unknown.
+-- Reading gives what a channel block was written from, whatever bytes come after it: every field, an unknown type too, but one that
+-- was made with the code of another.
 use mathlib.Core.Path.{_≡_, refl, sym, ap, _∙_}
-use mathlib.Core.Bool.{Bool, true, false}
+use mathlib.Core.Bool.{true}
 use mathlib.Core.List.{List, _++_}
 use Prim.Native.Nat.{ℕ, _+_, _*_, _^_, _<_}
 use native.Mathlib.Nat.{mod-eq-of-lt}
 use native.Mathlib.Omega.{arith}
 use lib.ListN.{length, drop, length-append}
-use Rattle.definitions.specs.Reply.{answer, if_then_else_}
+use Rattle.definitions.specs.Reply.{answer}
 use Rattle.definitions.specs.Bytes.{little, leOf, le, les, u64At, idAt}
 use Rattle.definitions.specs.Header.{Header, headerIn, headerBytes}
-use Rattle.definitions.specs.DataType.{DataType, unsignedInteger, typeOf, isKnown, codeOf}
 use Rattle.definitions.specs.ChannelBlock.{ChannelBlock, idCN, blockIn, channelBlockOf, channelHeader, channelBytes}
-use Rattle.definitions.proofs.Types.{known-back, not-known}
 use Rattle.words.proofs.Numbers.{le-back}
 use Rattle.channels.proofs.Channels.{length-channel}
 use Rattle.theorems.specs.Exactly.{ChannelStands}
+use Rattle.theorems.proofs.TypeCodes.{typeWritten, type-written}
 use Rattle.theorems.proofs.ChannelAnswers.{standing, channel-answered}
 
 -- the numbers of a block have their widths
@@ -37,17 +37,6 @@ pub record BlockFits (b : ChannelBlock) : Type 0 where
   pub upperLimit : b .upperLimit < 2 ^ 64
   pub lowerExtended : b .lowerExtended < 2 ^ 64
   pub upperExtended : b .upperExtended < 2 ^ 64
-
--- the exception: the unknown type is written as code 0, and so read as an unsigned integer
-abbrev pub typeWritten : DataType → DataType
-typeWritten t = if isKnown t then t else unsignedInteger little
-
-type-written : (t : DataType) → typeOf (codeOf t) ≡ typeWritten t
-type-written t = go (isKnown t) refl
-  where
-    go : (b : Bool) → isKnown t ≡ b → typeOf (codeOf t) ≡ (if b then t else unsignedInteger little)
-    go true e = known-back t e
-    go false e = ap (λ (u : DataType). typeOf (codeOf u)) (sym (not-known t e))
 
 -- the block that reading such bytes gives: what the writer fixes, and else what it was given
 abbrev pub blockWritten : ChannelBlock → ChannelBlock

@@ -1,23 +1,30 @@
 -- What a call wrote, the other call reads, and what one read, the other writes again: about the calls' own clauses.
 use mathlib.Core.Path.{_≡_, sym, ap, _∙_}
 use mathlib.Core.List.{List}
+use mathlib.Core.Bool.{true}
 use Prim.Native.Nat.{ℕ, _^_, _<_}
 use contract.Lifetimes.{Lfts}
 use lib.ListN.{take}
 use Rattle.definitions.specs.Reply.{Outcome, answer}
+use Rattle.definitions.specs.DataType.{typeOf, codeOf, ownsCode}
 use Rattle.definitions.specs.ChannelBlock as channels
 use Rattle.definitions.specs.DataList.{DataList, Lengths, equal, variable, flagsFor, restFor, listWritten}
+use Rattle.definitions.proofs.Types.{type-back}
 use Rattle.words.proofs.Numbers.{Bytes}
-use Rattle.blocks.specs.Meaning.{headerReply, headerMeant, writtenReply, listReply}
+use Rattle.blocks.specs.Meaning.{headerReply, headerMeant, typeMeant, writtenReply, listReply}
 use Rattle.channels.specs.Meaning.{channelBlockMeant, channelBlockReply}
 use Rattle.blocks.specs.declared.header.BlockHeader.{BlockHeader}
 use Rattle.blocks.specs.declared.header.HeaderRead.{HeaderRead}
+use Rattle.blocks.specs.declared.data_type.DataType.{DataType}
+use Rattle.blocks.specs.declared.data_type.DataType.the-variants.{Unknown}
 use Rattle.blocks.specs.declared.data_list.ListRead.{ListRead}
 use Rattle.channels.specs.declared.channel_block.ChannelBlock.{ChannelBlock}
 use Rattle.channels.specs.declared.channel_block.ChannelRead.{ChannelRead}
 use Rattle.blocks.specs.declared.written.Written.{Written}
+use Rattle.blocks.proofs.Back.{type-one}
 use Rattle.mf4.specs.Clauses.{Slice}
-use Rattle.theorems.specs.Clauses.{ReadsHeader, WritesHeader, ReadsChannel, WritesChannel, ReadsList, WritesEqual, WritesVariable}
+use Rattle.theorems.specs.Clauses.{ReadsHeader, WritesHeader, ReadsType, GivesCode, ReadsChannel, WritesChannel, ReadsList, WritesEqual, WritesVariable}
+use Rattle.theorems.proofs.TypeCodes.{code-back, only-owned}
 use Rattle.theorems.proofs.Rewritten.{Words}
 use Rattle.theorems.proofs.HeaderRoundTrip.{Fits}
 use Rattle.theorems.proofs.ChannelWrittenRead.{BlockFits, blockWritten}
@@ -27,6 +34,26 @@ use Rattle.theorems.proofs.RoundTripsInBuffers.{WrittenInto, header-bac
 
 into : (y : Written) (after : List ℕ) (o : Outcome ℕ) → record { reply = writtenReply y; buffer = after } ≡ o → (n : ℕ) → writtenReply y ≡ answer n → WrittenInto after o
 into y after o p n e = record { count = n; answers = sym (ap (λ (x : Outcome ℕ). x .reply) p) ∙ e; left = ap (λ (x : Outcome ℕ). x .buffer) p }
+
+-- ---- a type
+
+-- every code
+pub code-given-back : (rs ws : Lfts 0) (code : ℕ) (t : DataType) (y : ℕ) → ReadsType rs code t → GivesCode ws t y → y ≡ code
+code-given-back rs ws code t y read gave = gave ∙ ap codeOf read ∙ code-back code
+
+module _ (ws rs : Lfts 0) (t : DataType) (code : ℕ) (z : DataType) (gave : GivesCode ws t code) (read : ReadsType rs code z) where
+  -- a type whose code is its own, and no other
+  pub type-read-back : ownsCode (typeMeant t) ≡ true → z ≡ t
+  type-read-back own = type-one z t (read ∙ ap typeOf gave ∙ type-back (typeMeant t) own)
+
+  pub type-read-owned : z ≡ t → ownsCode (typeMeant t) ≡ true
+  type-read-owned same = only-owned (typeMeant t) (sym (read ∙ ap typeOf gave) ∙ ap typeMeant same)
+
+  -- an unknown type made with any code goes back to it, and is read as its type: by `TypeCodes.unknown-read` no unknown one up to 16
+  pub unknown-read-back : (n : ℕ) → t ≡ Unknown n → (code ≡ n) × (typeMeant z ≡ typeOf n)
+  unknown-read-back n made =
+      let back : code ≡ n = gave ∙ ap (λ (x : DataType). codeOf (typeMeant x)) made in
+      (back, read ∙ ap typeOf back)
 
 -- ---- a header
 

@@ -70,7 +70,7 @@ module _ (out : List ℕ) (b : ChannelBlock) (after : List ℕ) (w : WrittenInto
   first-bytes : take 160 after ≡ channelBytes b
   first-bytes = ap (take 160) channel-front ∙ front-of (channelBytes b) (drop (length (channelBytes b)) out) 160 (length-channel b)
 
-  -- every field, which has its width, but for what the writer fixes and a type that is unknown
+  -- every field, which has its width, but for what the writer fixes and an unknown type made with the code of another
   pub channel-back : BlockFits b → (s : List ℕ) → s ≡ after → channelBlockOf s ≡ answer (blockWritten b)
   channel-back fits s e = ap channelBlockOf (e ∙ channel-front) ∙ channel-written-read b (drop (length (channelBytes b)) out) fits
 

@@ -7,6 +7,7 @@ use lib.ListN.{take}
 use borrow.Author.Tests.{eq-eqb}
 use Rattle.definitions.specs.Reply.{Outcome, answer}
 use Rattle.definitions.specs.Header.{headerWritten}
+use Rattle.definitions.specs.DataType.{typeOf, codeOf}
 use Rattle.definitions.specs.ChannelBlock.{channelWritten}
 use Rattle.definitions.specs.DataList.{DataList, Lengths, equal, variable, flagsFor, restFor, listWritten}
 use Rattle.words.proofs.Numbers.{Bytes}
@@ -19,9 +20,10 @@ use Rattle.replies.specs.declared.header.Mf4Header.{Mf4Header}
 use Rattle.replies.specs.declared.list.Mf4List.{Mf4List}
 use Rattle.replies.specs.declared.written.Mf4Written.{Mf4Written}
 use Rattle.mf4.specs.Clauses.{Slice}
-use Rattle.theorems.specs.ClausesToC.{ReadsHeaderC, WritesHeaderC, ReadsChannelC, WritesChannelC, ReadsListC, WritesEqualC, WritesVariableC}
+use Rattle.theorems.specs.ClausesToC.{ReadsHeaderC, WritesHeaderC, GivesCodeC, ReadsChannelC, WritesChannelC, ReadsListC, WritesEqualC, WritesVariableC}
 use Rattle.replies.proofs.ToldToC.{writtenAgain, headerAgain, listAgain, channelAgain}
 use Rattle.theorems.proofs.ToldToC.{mf4-read-header-told, mf4-write-header-told, mf4-read-channel-told, mf4-write-channel-told, mf4-read-list-told, mf4-write-list-equal-told, mf4-write-list-variable-told}
+use Rattle.theorems.proofs.TypeCodes.{code-back, type-written}
 use Rattle.theorems.proofs.Rewritten.{Words}
 use Rattle.theorems.proofs.HeaderRoundTrip.{Fits}
 use Rattle.theorems.proofs.ChannelWrittenRead.{BlockFits, blockWritten}
@@ -36,6 +38,12 @@ into y after o p told zero = record {
   answers = sym told ∙ rw (eq-eqb _ _ zero);
   left = ap (λ (x : Returned Mf4Written). x .buffer) p;
 }
+
+-- ---- a type
+
+-- every code
+pub code-given-back : (κs : Lfts 0) (code y : ℕ) → GivesCodeC κs code y → y ≡ code
+code-given-back κs code y gave = gave ∙ code-back code
 
 -- ---- a header
 
@@ -60,6 +68,13 @@ module _ (ws rs : Lfts 1) (block : Mf4ChannelBlock) (out : Slice) (y : Mf4Writte
 
   pub channel-read-back : BlockFits (blockGiven block) → bytes .now ≡ after → z ≡ channelC (answer (blockWritten (blockGiven block)))
   channel-read-back fits same = read ∙ ap channelC (channel-back (out .now) (blockGiven block) after channel-in fits (bytes .now) same)
+
+  -- the type's code too, whatever it is: none that C gives is that of another type
+  pub channel-code-back : BlockFits (blockGiven block) → bytes .now ≡ after → z .block .channel .«data_type» ≡ block .channel .«data_type»
+  channel-code-back fits same =
+      let code : ℕ = block .channel .«data_type» in
+      ap (λ (x : Mf4ChannelReply). x .block .channel .«data_type») (channel-read-back fits same)
+      ∙ ap codeOf (sym (type-written (typeOf code))) ∙ code-back (codeOf (typeOf code)) ∙ code-back code
 
   module _ (below : Bytes (bytes .now)) (found : channelAgain z ≡ answer (blockGiven block)) where
     pub channel-written-again : PlainBlock (blockGiven block) → take 160 after ≡ take 160 (bytes .now)

@@ -7,17 +7,17 @@ use native.Mathlib.Nat.{mod-lt}
 use native.Mathlib.Omega.{arith}
 use contract.Lifetimes.{Lfts}
 use lib.IntN.{pos, negsuc}
-use lib.ListN.{length, take}
+use lib.ListN.{length, getD, take, drop}
 use lib.Dec.{ltb, eqb}
 use lib.Pow.{pow-pos, pow-mono, pow-add}
 use borrow.Author.Tests.{ltb-true, ltb-false, eqb-false}
 use Rattle.definitions.specs.Reply.{Reply, Outcome, answer, refusal, if_then_else_, andThen, told}
-use Rattle.definitions.specs.Bytes.{twosComplement}
+use Rattle.definitions.specs.Bytes.{twosComplement, u64At}
 use Rattle.definitions.specs.Unicode.{Encoding, textWritten}
 use Rattle.definitions.specs.Header.{headerOf, headerWritten}
-use Rattle.definitions.specs.DataType.{DataType, unsignedInteger, signedInteger, float, complex, string, byteArray, mimeSample, mimeStream, canOpenDate, canOpenTime, unknown, kindOf}
+use Rattle.definitions.specs.DataType.{DataType, unsignedInteger, signedInteger, float, complex, string, byteArray, mimeSample, mimeStream, canOpenDate, canOpenTime, unknown, ownsCode, kindOf}
 use Rattle.definitions.specs.Channel.{Channel, Value, ValidValue, signed, decoded, startOf, spanOf, numberIn, isNumber, isInteger, isFloating, valueBy, valueOf, validOf, validValueOf}
-use Rattle.definitions.specs.ChannelBlock.{ChannelBlock, described, channelBlockOf, channelWritten}
+use Rattle.definitions.specs.ChannelBlock.{ChannelBlock, fieldsAt, described, channelBlockOf, channelWritten}
 use Rattle.definitions.specs.DataList.{listOf, listWritten, equal, variable}
 use Rattle.definitions.specs.Chain.{dataLength, fetched, valueFetched}
 use Rattle.mf4.specs.Clauses.{Slice}
@@ -36,8 +36,10 @@ use Rattle.replies.specs.declared.values.Mf4Value.{Mf4Value}
 use Rattle.replies.specs.declared.valid_values.Mf4ValidValue.{Mf4ValidValue}
 use Rattle.replies.specs.declared.fetches.Mf4Length.{Mf4Length}
 use Rattle.replies.specs.declared.fetches.Mf4Fetched.{Mf4Fetched}
-use Rattle.replies.proofs.ToldToC.{Tellable, Any, Reversible, headerAgain, header-told, writtenAgain, written-told, listAgain, list-told, channelAgain, description-back, channel-told, textAgain, text-told, valueReplyAgain, value-told, validValueAgain, valid-value-told, lengthAgain, length-told, fetchedAgain, fetched-told}
+use Rattle.replies.proofs.ToldToC.{Tellable, Any, OwnType, Reversible, headerAgain, header-told, writtenAgain, written-told, listAgain, list-told, channelAgain, description-back, channel-told, textAgain, text-told, valueReplyAgain, value-told, validValueAgain, valid-value-told, lengthAgain, length-told, fetchedAgain, fetched-told}
 use Rattle.theorems.specs.ClausesToC.{ReadsHeaderC, WritesHeaderC, ReadsListC, WritesEqualC, WritesVariableC, ReadsChannelC, WritesChannelC, WritesTextC, ReadsValueC, ReadsValidValueC, ReadsLengthC, ReadsRecordC, ReadsRecordValueC}
+use Rattle.theorems.proofs.TypeCodes.{code-owned}
+use Rattle.theorems.proofs.ChannelAnswers.{channel-stands}
 use Rattle.theorems.proofs.TextClausesToC.{text-clause}
 use Rattle.theorems.proofs.RefusalNumbers.{Numbered, OfBlocks, between, header-numbered, list-numbered, channel-numbered, header-written-numbered, channel-written-numbered, list-written-numbered, text-written-numbered, length-numbered, fetched-numbered}
 
@@ -73,7 +75,7 @@ module _ (s : List ℕ) (at n : ℕ) (c : Channel) where
   reversible canOpenDate some few = tt
   reversible canOpenTime some few = tt
   reversible (complex o) some few = tt
-  reversible unknown some few = tt
+  reversible (unknown code) some few = tt
 
   past : {A : Type 0} (P : A → Type 0) (b : Bool) (number t : ℕ) (r : Reply A) → 0 < number → (b ≡ false → Tellable P r) → Tellable P (if b then refusal number t else r)
   past P true number t r some h = some
@@ -126,14 +128,25 @@ mf4-write-header-told κs header out y after p = by-result writtenC writtenAgain
 pub mf4-read-list-told : (κs : Lfts 1) (bytes : Slice) (y : Mf4List) → ReadsListC κs bytes y → listAgain y ≡ listOf (bytes .now)
 mf4-read-list-told κs bytes y p = ap listAgain p ∙ list-told _ (of-blocks _ (list-numbered (bytes .now)))
 
+-- the type of a block is the one that a code stands for
+own-type : (s : List ℕ) (b : ChannelBlock) → channelBlockOf s ≡ answer b → OwnType b
+own-type s b read = ap (λ (x : ChannelBlock). ownsCode (x .dataType)) (channel-stands s b read .1) ∙ code-owned (getD (drop (fieldsAt (u64At s 16)) s) 2 0)
+
+channel-tellable : (s : List ℕ) → Tellable OwnType (channelBlockOf s)
+channel-tellable s = go (channelBlockOf s) refl (channel-numbered s)
+  where
+    go : (r : Reply ChannelBlock) → channelBlockOf s ≡ r → Numbered OfBlocks r → Tellable OwnType r
+    go (answer b) e h = own-type s b e
+    go (refusal n t) e h = of-blocks (refusal n t) h
+
 pub mf4-read-channel-told : (κs : Lfts 1) (bytes : Slice) (y : Mf4ChannelReply) → ReadsChannelC κs bytes y → channelAgain y ≡ channelBlockOf (bytes .now)
-mf4-read-channel-told κs bytes y p = ap channelAgain p ∙ channel-told _ (of-blocks _ (channel-numbered (bytes .now)))
+mf4-read-channel-told κs bytes y p = ap channelAgain p ∙ channel-told _ (channel-tellable (bytes .now))
 
 -- the description that C is told is the block's, when C gives it to another call
 pub mf4-read-channel-described : (κs : Lfts 1) (bytes : Slice) (y : Mf4ChannelReply) (b : ChannelBlock) → ReadsChannelC κs bytes y
     → channelBlockOf (bytes .now) ≡ answer b → channelGiven (y .block .channel) ≡ described b
 mf4-read-channel-described κs bytes y b p e =
-    ap (λ (x : Mf4ChannelReply). channelGiven (x .block .channel)) (p ∙ ap channelC e) ∙ description-back (described b)
+    ap (λ (x : Mf4ChannelReply). channelGiven (x .block .channel)) (p ∙ ap channelC e) ∙ description-back (described b) (own-type (bytes .now) b e)
 
 pub mf4-write-channel-told : (κs : Lfts 1) (block : Mf4ChannelBlock) (out : Slice) (y : Mf4Written) (after : List ℕ)
     → WritesChannelC κs block out y after → writtenAgain y ≡ channelWritten (out .now) (blockGiven block) .reply

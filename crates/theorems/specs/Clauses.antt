@@ -7,6 +7,7 @@ use contract.Lifetimes.{Lfts}
 use Rattle.mf4.specs.Clauses.{Slice, Allows}
 use Rattle.blocks.specs.declared.header.BlockHeader.{BlockHeader}
 use Rattle.blocks.specs.declared.header.HeaderRead.{HeaderRead}
+use Rattle.blocks.specs.declared.data_type.DataType.{DataType}
 use Rattle.blocks.specs.declared.data_list.ListRead.{ListRead}
 use Rattle.channels.specs.declared.channel_block.ChannelBlock.{ChannelBlock}
 use Rattle.channels.specs.declared.channel_block.ChannelRead.{ChannelRead}
@@ -24,6 +25,10 @@ use Rattle.blocks.proofs.header.BlockHeader.from_bytes.Kinds as header-read-kin
 use Rattle.blocks.proofs.header.BlockHeader.from_bytes.Reads as header-read
 use Rattle.blocks.proofs.header.BlockHeader.to_bytes.Kinds as header-write-kinds
 use Rattle.blocks.proofs.header.BlockHeader.to_bytes.Reads as header-write
+use Rattle.blocks.proofs.data_type.DataType.from_u8.Kinds as type-read-kinds
+use Rattle.blocks.proofs.data_type.DataType.from_u8.Reads as type-read
+use Rattle.blocks.proofs.data_type.DataType.to_u8.Kinds as type-code-kinds
+use Rattle.blocks.proofs.data_type.DataType.to_u8.Reads as type-code
 use Rattle.blocks.proofs.data_list.DataListBlock.from_bytes.Kinds as list-read-kinds
 use Rattle.blocks.proofs.data_list.DataListBlock.from_bytes.Reads as list-read
 use Rattle.blocks.proofs.data_list.DataListBlock.write_equal.Kinds as list-equal-kinds
@@ -84,6 +89,14 @@ WritesChannel κs block out y after = Allows 1 channel-write-kinds.ps channel-wr
 
 abbrev pub DescribesChannel : Lfts 0 → ChannelBlock → Channel → Type 0
 DescribesChannel κs block y = Allows 0 channel-describe-kinds.ps channel-describe-kinds.r channel-describe.Learnt κs (block, tt) y (tt, tt)
+
+-- ---- a type
+
+abbrev pub ReadsType : Lfts 0 → ℕ → DataType → Type 0
+ReadsType κs code y = Allows 0 type-read-kinds.ps type-read-kinds.r type-read.Learnt κs (code, tt) y (tt, tt)
+
+abbrev pub GivesCode : Lfts 0 → DataType → ℕ → Type 0
+GivesCode κs type y = Allows 0 type-code-kinds.ps type-code-kinds.r type-code.Learnt κs (type, tt) y (tt, tt)
 
 -- ---- a text
 

@@ -23,6 +23,8 @@ use Rattle.mf4.proofs.mf4_read_header.Kinds as read-header-kinds
 use Rattle.mf4.proofs.mf4_read_header.Reads as read-header
 use Rattle.mf4.proofs.mf4_write_header.Kinds as write-header-kinds
 use Rattle.mf4.proofs.mf4_write_header.Reads as write-header
+use Rattle.mf4.proofs.mf4_type_code.Kinds as type-code-kinds
+use Rattle.mf4.proofs.mf4_type_code.Reads as type-code
 use Rattle.mf4.proofs.mf4_read_list.Kinds as read-list-kinds
 use Rattle.mf4.proofs.mf4_read_list.Reads as read-list
 use Rattle.mf4.proofs.mf4_write_list_equal.Kinds as write-equal-kinds
@@ -65,6 +67,9 @@ ReadsHeaderC κs bytes y = Allows 1 read-header-kinds.ps read-header-kinds.r rea
 
 abbrev pub WritesHeaderC : Lfts 1 → Mf4BlockHeader → Slice → Mf4Written → List ℕ → Type 0
 WritesHeaderC κs header out y after = Allows 1 write-header-kinds.ps write-header-kinds.r write-header.Learnt κs (header, (out, tt)) y (tt, (after, tt))
+
+abbrev pub GivesCodeC : Lfts 0 → ℕ → ℕ → Type 0
+GivesCodeC κs code y = Allows 0 type-code-kinds.ps type-code-kinds.r type-code.Learnt κs (code, tt) y (tt, tt)
 
 abbrev pub ReadsListC : Lfts 1 → Slice → Mf4List → Type 0
 ReadsListC κs bytes y = Allows 1 read-list-kinds.ps read-list-kinds.r read-list.Learnt κs (bytes, tt) y (tt, tt)

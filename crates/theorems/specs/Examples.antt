@@ -9,7 +9,7 @@ use lib.Ieee.{binary64, ofBits, toUnsigned, fin}
 use Rattle.definitions.specs.Reply.{Reply, Outcome, answer, refusal}
 use Rattle.definitions.specs.Bytes.{little, big, le, les}
 use Rattle.definitions.specs.Unicode.{latin1}
-use Rattle.definitions.specs.DataType.{DataType, unsignedInteger, signedInteger, float, string, byteArray, canOpenDate}
+use Rattle.definitions.specs.DataType.{DataType, unsignedInteger, signedInteger, float, complex, string, byteArray, canOpenDate, unknown, typeOf, codeOf}
 use Rattle.definitions.specs.Channel.{Channel, Value, unsigned, signed, double, text, bytes, unknownValue, valueOf, recordDouble, validOf}
 use Rattle.definitions.specs.DataList.{DataList, idDL, listOf, listBytes}
 use Rattle.definitions.specs.ChannelBlock.{ChannelBlock, idCN, channelBlockOf, described}
@@ -166,6 +166,9 @@ pub data Row : Type 0 where
   list : List ℕ → Reply DataList → Row
   block : List ℕ → Reply ChannelBlock → Row
   description : ChannelBlock → Channel → Row
+  -- the type that a code stands for, and a type's code
+  type : ℕ → DataType → Row
+  code : DataType → ℕ → Row
   -- record k of size 2 from the chain at 8, into a buffer of 2 bytes FF
   fetch : List ℕ → ℕ → Outcome (Unit {0}) → Row
   -- the payload of record 0 of size 9 from the chain at 8, with id size 0 and 8 data bytes, into buffers of 10 bytes FF and of
@@ -180,6 +183,7 @@ pub data Said : Type 0 where
   aList : Reply DataList → Said
   aBlock : Reply ChannelBlock → Said
   aChannel : Channel → Said
+  aType : DataType → Said
   aRecord : Outcome (Unit {0}) → Said
   aPayload : Outcomes PayloadValue → Said
 
@@ -192,6 +196,8 @@ given (validity s c r) = aTest (validOf s 0 2 c)
 given (list s r) = aList (listOf s)
 given (block s r) = aBlock (channelBlockOf s)
 given (description b r) = aChannel (described b)
+given (type n r) = aType (typeOf n)
+given (code t r) = aNumber (codeOf t)
 given (fetch f k r) = aRecord (fetched f 8 k 2 (255 ∷ 255 ∷ []))
 given (follow f c n r a b) = aPayload (payloadFetched f 8 0 9 0 8 c untouched (copies n 255))
 
@@ -203,6 +209,8 @@ stated (validity s c r) = aTest r
 stated (list s r) = aList r
 stated (block s r) = aBlock r
 stated (description b r) = aChannel r
+stated (type n r) = aType r
+stated (code t r) = aNumber r
 stated (fetch f k r) = aRecord r
 stated (follow f c n r a b) = aPayload (record { reply = r; recordBuffer = a; payloadBuffer = b })
 
@@ -232,12 +240,18 @@ table =
     ∷ value (0x34 ∷ 0x12 ∷ []) (payload (unsignedInteger little) 0 24) (refusal 21 3)
     ∷ value (0x34 ∷ 0x12 ∷ []) (channel canOpenDate 9 0) (answer unknownValue)
     ∷ value (0x34 ∷ []) (channel canOpenDate 9 0) (refusal 21 2)
+    ∷ value (0x34 ∷ 0x12 ∷ []) (channel (unknown 17) 9 0) (answer unknownValue)
     ∷ behindId 18446744073709551615 [] (fixed 4294967295 0 0 byteArray 0 8) (refusal 21 18446744073709551615)
     -- the order: where two hold, the lower number; what is no number has none but 21
     ∷ value [] (channel (float big) 8 0) (refusal 18 0)
     ∷ value [] (channel (signedInteger big) 8 65) (refusal 19 0)
     ∷ value [] (channel (unsignedInteger big) 7 65) (refusal 20 0)
     ∷ value [] (channel (string latin1) 9 0) (answer (text 0 0))
+    -- the last type that is known, and the first code that is not; an unknown type made with the code of another keeps it too
+    ∷ type 16 (complex big)
+    ∷ type 17 (unknown 17)
+    ∷ code (unknown 17) 17
+    ∷ code (unknown 2) 2
     ∷ validity (0x34 ∷ 0x12 ∷ 0x00 ∷ 0x02 ∷ []) (flagged 2 9) false
     ∷ validity (0x34 ∷ 0x12 ∷ 0x00 ∷ 0x02 ∷ []) (flagged 2 16) true
     ∷ validity (0x34 ∷ 0x12 ∷ 0x00 ∷ 0x02 ∷ []) (flagged 3 16) false

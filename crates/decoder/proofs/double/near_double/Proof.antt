@@ -95,7 +95,7 @@ other-form CanOpenDate h = (Undecoded, refl)
 other-form CanOpenTime h = (Undecoded, refl)
 other-form ComplexLE h = (Undecoded, refl)
 other-form ComplexBE h = (Undecoded, refl)
-other-form Unknown h = (Undecoded, refl)
+other-form (Unknown code) h = (Undecoded, refl)
 
 returns-7 : tie.Need-returns-7
 returns-7 c =

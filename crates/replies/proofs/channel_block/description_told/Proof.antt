@@ -7,7 +7,7 @@ returns c =
     let d = c .before .args .channel in
     λ i.
     record {
-      «data_type» = c .code-told .ensures i;
+      «data_type» = c .to-u8 .ensures i;
       «channel_type» = d .«channel_type»;
       «bit_offset» = d .«bit_offset»;
       «byte_offset» = d .«byte_offset»;

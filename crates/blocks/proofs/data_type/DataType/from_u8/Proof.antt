@@ -3,8 +3,7 @@ use mathlib.Core.Path.{_≡_, sym}
 use Prim.Native.Nat.{ℕ, zero, suc, _≤_}
 use native.Mathlib.Omega.{arith}
 use borrow.Author.Needs.{needs}
-use lib.ListN.{List·getD-eq-default}
-use Rattle.definitions.specs.DataType.{coded, unknown}
+use Rattle.definitions.proofs.Types.{type-unknown}
 use Rattle.blocks.proofs.data_type.DataType.from_u8.Statement.{statement}
 use Rattle.blocks.proofs.data_type.DataType.from_u8.Tie as tie
 
@@ -21,7 +20,7 @@ past zero v m = omega arith
 past (suc n) v m = above n v (past n v (m .0)) (m .1)
 
 other : tie.Need-returns-18
-other c = sym (List·getD-eq-default coded unknown (past 17 (c .before .args .value) (c .match .rest)))
+other c = sym (type-unknown _ (past 17 (c .before .args .value) (c .match .rest)))
 
 pub from-u8-spec : {M : Type 1} → statement M
 from-u8-spec =

@@ -49,4 +49,4 @@ to-u8-spec =
     (λ c. case (c .enum-told15 .given .1))
     (λ c. case (c .enum-told16 .given .1))
     (λ c. case (c .enum-told17 .given .1))
-    (λ c. case (c .enum-told18 .given .1)))
+    (λ c. case (c .before .self .given .1)))
