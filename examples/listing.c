@@ -7,6 +7,7 @@
 enum {
     MOST_TEXT_WIDTH = 24,
     PAYLOAD_WIDTH = 16,
+    TYPE_ROOM = 16,
     HEADING_ROOM = 2 * MDF_TEXT_ROOM + 4,
     CELL_ROOM = 2 * MF4_MAX_RECORD_SIZE + 1 /* mf4_text_room of a whole record, and a NUL */
 };
@@ -33,13 +34,17 @@ static void print_cell(const char *text, int width, int is_right)
 
 /* ---- channels --------------------------------------------------------------------------------------------------- */
 
-static const char *type_name(uint8_t data_type)
+/* In the room lent where the type is unknown: its code then says more than a name would. */
+static const char *type_name(uint8_t data_type, char room[TYPE_ROOM])
 {
     static const char *const names[] = {
         "unsigned", "unsigned BE", "signed", "signed BE", "float", "float BE", "Latin-1", "UTF-8", "UTF-16 LE", "UTF-16 BE",
         "bytes", "MIME sample", "MIME stream", "CANopen date", "CANopen time", "complex", "complex BE"
     };
-    return data_type < sizeof names / sizeof names[0] ? names[data_type] : "unknown";
+    if (data_type < sizeof names / sizeof names[0])
+        return names[data_type];
+    snprintf(room, TYPE_ROOM, "unknown %u", data_type);
+    return room;
 }
 
 /* The values of such a channel are payloads in other blocks, and its field in the record is a position there. */
@@ -85,8 +90,9 @@ void print_refusal(const mdf_group *group, mf4_value refused)
 static void print_channel(const mdf_group *group, const mdf_channel *channel, int name, int type, int unit)
 {
     const mf4_value reply = field_reply(group, &channel->block.channel);
+    char room[TYPE_ROOM];
     print_cell(channel->name, name, 0);
-    print_cell(type_name(channel->block.channel.data_type), type, 0);
+    print_cell(type_name(channel->block.channel.data_type, room), type, 0);
     printf("  %4" PRIu32, channel->block.channel.bit_count);
     print_cell(channel->unit, unit, 0);
     print_place(&channel->block);
@@ -99,10 +105,11 @@ static void print_channel(const mdf_group *group, const mdf_channel *channel, in
 void print_channels(const mdf_group *group, const mdf_channel *channels, size_t count)
 {
     int name = columns_of("name"), type = columns_of("type"), unit = columns_of("unit");
+    char room[TYPE_ROOM];
     size_t i;
     for (i = 0; i < count; i++) {
         name = larger(name, columns_of(channels[i].name));
-        type = larger(type, columns_of(type_name(channels[i].block.channel.data_type)));
+        type = larger(type, columns_of(type_name(channels[i].block.channel.data_type, room)));
         unit = larger(unit, columns_of(channels[i].unit));
     }
     print_cell("name", name, 0);

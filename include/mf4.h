@@ -26,9 +26,9 @@
 #include <string.h>
 
 #define MF4_VERSION_MAJOR 0
-#define MF4_VERSION_MINOR 2
-#define MF4_VERSION_PATCH 2
-#define MF4_VERSION "0.2.2"
+#define MF4_VERSION_MINOR 3
+#define MF4_VERSION_PATCH 0
+#define MF4_VERSION "0.3.0"
 
 #ifdef __cplusplus
 extern "C" {
@@ -157,11 +157,10 @@ enum mf4_data_type {
     MF4_UNSIGNED_LE = 0, MF4_UNSIGNED_BE = 1, MF4_SIGNED_LE = 2, MF4_SIGNED_BE = 3, MF4_FLOAT_LE = 4, MF4_FLOAT_BE = 5,
     MF4_LATIN1 = 6, MF4_UTF8 = 7, MF4_UTF16_LE = 8, MF4_UTF16_BE = 9,
     MF4_BYTE_ARRAY = 10, MF4_MIME_SAMPLE = 11, MF4_MIME_STREAM = 12, MF4_CANOPEN_DATE = 13, MF4_CANOPEN_TIME = 14,
-    MF4_COMPLEX_LE = 15, MF4_COMPLEX_BE = 16,
-    MF4_UNKNOWN_TYPE = 255 /* every code above 16 is an unknown type; mf4_read_channel gives this one for it */
+    MF4_COMPLEX_LE = 15, MF4_COMPLEX_BE = 16 /* every code above it is an unknown type, and is kept as it is */
 };
 
-/* The code of the type that a code stands for: itself up to 16; every other code is an unknown type, which gives 0. */
+/* The code of the type that a code stands for, which is that code, for all 256. */
 uint8_t mf4_type_code(uint8_t code);
 
 /* The bits of a channel of that type where nobody says how many. */
@@ -268,8 +267,8 @@ typedef struct mf4_channel_reply {
 mf4_channel_reply mf4_read_channel(const uint8_t *bytes, size_t bytes_len);
 
 /* Writes 160 bytes: the eight links and the fields, with a header of its own (links_nr 8, block_len 160) and with 0 for
- * reserved1 and attachment_nr. The block's header and its links behind the eighth are not looked at, and so are lost. An
- * unknown type is written as 0, and will be read as MF4_UNSIGNED_LE. Refuses with 6. */
+ * reserved1 and attachment_nr. The block's header and its links behind the eighth are not looked at, and so are lost. The type's
+ * code is written as it is given, known or not. Refuses with 6. */
 mf4_written mf4_write_channel(mf4_channel_block block, uint8_t *out, size_t out_len);
 
 /* ---- values ----------------------------------------------------------------------------------------------------- */

@@ -99,33 +99,33 @@ static void check_written_types(void)
     mf4_channel_block block = sample_block(), read = written_block();
     unsigned code;
     for (code = 0; code <= 255; code++) {
-        uint8_t kept = code <= 16 ? (uint8_t)code : 0, bytes[256];
+        uint8_t bytes[256];
         lent out = lend_marked(OUTPUT, 160);
         name_number("write a channel: type", code);
-        block.channel.data_type = (uint8_t)code;
-        read.channel.data_type = kept;
+        block.channel.data_type = read.channel.data_type = (uint8_t)code;
         from_hex(WRITTEN_BLOCK, bytes);
-        bytes[90] = kept;
+        bytes[90] = (uint8_t)code;
         CHECK(written_is(write_block(block, out), 160) && holds_only(out, bytes, 160));
         CHECK(channel_is(read_back(out), read));
     }
 }
 
-/* An unknown code is read as 255, and that is written as 0. */
-static void check_unknown_rewritten(void)
+/* A tool that copies a block keeps its type, whether it knows the type or not. */
+static void check_types_copied(void)
 {
     uint8_t bytes[256];
-    mf4_channel_reply read;
-    lent input, out;
-    name_case("write a channel: an unknown type that was read");
+    unsigned code;
     from_hex(WRITTEN_BLOCK, bytes);
-    bytes[90] = 17;
-    input = lend_copy(INPUT, bytes, 160);
-    read = mf4_read_channel(input.bytes, input.length);
-    CHECK(read.reply == 0 && read.block.channel.data_type == MF4_UNKNOWN_TYPE);
-    bytes[90] = 0;
-    out = lend_marked(OUTPUT, 160);
-    CHECK(written_is(write_block(read.block, out), 160) && holds_only(out, bytes, 160));
+    for (code = 0; code <= 255; code++) {
+        mf4_channel_reply read;
+        lent input, out = lend_marked(OUTPUT, 160);
+        name_number("write a channel: copied type", code);
+        bytes[90] = (uint8_t)code;
+        input = lend_copy(INPUT, bytes, 160);
+        read = mf4_read_channel(input.bytes, input.length);
+        CHECK(read.reply == 0 && read.block.channel.data_type == code);
+        CHECK(written_is(write_block(read.block, out), 160) && holds_only(out, bytes, 160));
+    }
 }
 
 static uint64_t *limit_of(mf4_channel_block *block, int which)
@@ -215,7 +215,7 @@ void check_channel_writing(void)
     check_not_looked_at();
     check_refused_unseen();
     check_written_types();
-    check_unknown_rewritten();
+    check_types_copied();
     check_limit_patterns();
     check_each_byte();
     check_all_ones();

@@ -255,7 +255,7 @@ static void check_type_codes(void)
     for (code = 0; code <= 255; code++) {
         name_number("read a channel: type", code);
         bytes[90] = (uint8_t)code;
-        block.channel.data_type = code <= 16 ? (uint8_t)code : MF4_UNKNOWN_TYPE;
+        block.channel.data_type = (uint8_t)code;
         CHECK(channel_is(read_bytes(bytes, 160), block));
     }
 }

@@ -61,7 +61,7 @@ static void check_types(void)
     unsigned code;
     name_case("data types");
     for (code = 0; code <= 255; code++) {
-        CHECK(mf4_type_code((uint8_t)code) == (code <= 16 ? code : 0));
+        CHECK(mf4_type_code((uint8_t)code) == code);
         CHECK(mf4_default_bits((uint8_t)code) == (code <= 16 ? bits[code] : 8));
     }
 }

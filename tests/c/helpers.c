@@ -59,7 +59,7 @@ static void check_channel_names(void)
 {
     name_case("names of a channel block");
     CHECK(MF4_TOO_FEW_LINKS == 17 && strcmp(mf4_reply_text(17), "the channel block has fewer than 8 links") == 0);
-    CHECK(MF4_UNKNOWN_TYPE == 255 && MF4_CHANNEL_BLOCK_SIZE == 160);
+    CHECK(MF4_COMPLEX_BE == 16 && MF4_CHANNEL_BLOCK_SIZE == 160);
 }
 
 static void check_names_of_refused_fields(void)

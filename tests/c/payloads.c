@@ -123,7 +123,7 @@ static const struct { uint8_t data_type; const char *payload; expected value; } 
     /* no decoding, of however many bytes */
     { MF4_CANOPEN_DATE, "01 02 03 04 05 06 07", UNKNOWN_IS }, { MF4_CANOPEN_TIME, "01", UNKNOWN_IS },
     { MF4_COMPLEX_LE, "", UNKNOWN_IS }, { MF4_COMPLEX_BE, NUMBER_BYTES, UNKNOWN_IS }, { 17, "", UNKNOWN_IS },
-    { MF4_UNKNOWN_TYPE, NUMBER_BYTES, UNKNOWN_IS },
+    { 255, NUMBER_BYTES, UNKNOWN_IS },
 };
 
 /* The payload stands between other bytes of the stream. */

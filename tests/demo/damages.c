@@ -192,7 +192,7 @@ static void change_fields(void)
     changed(block("##CG", 0) + 72 + 16, 1, 2, 1, "its records differ in length");
     changed(block("##CG", 0) + 72 + 24, 0, 8, 1, "records of 0 bytes");
     changed(block("##CG", 0) + 72 + 24, UINT64_MAX, 8, 1, "records of 8589934590 bytes");
-    changed(block("##CN", 1) + 88 + 2, 99, 1, 0, "\n  hours        unknown ");
+    changed(block("##CN", 1) + 88 + 2, 99, 1, 0, "\n  hours        unknown 99 ");
     changed(block("##CN", 1) + 88 + 2, 3, 1, 0, "signed BE");
     changed(block("##CN", 1) + 88 + 12, 1, 4, 0, "  unknown  PX9991               invalid  ");
     changed(block("##CN", 1) + 88 + 12, 1, 4, 0, "all invalid");
