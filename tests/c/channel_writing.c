@@ -187,7 +187,7 @@ static void check_each_byte(void)
         name_number("read and write a channel: byte", place);
         from_hex(WRITTEN_BLOCK, bytes);
         memset(bytes + 24, 0, 136);
-        bytes[place] = place == 90 ? 16 : 0xFF;
+        bytes[place] = 0xFF;
         CHECK(written_is(rewritten(bytes, out), 160));
         if (place >= 109 && place < 112)
             bytes[place] = 0;
@@ -203,7 +203,6 @@ static void check_all_ones(void)
     from_hex(WRITTEN_BLOCK, bytes);
     memset(bytes + 24, 0xFF, 136);
     CHECK(written_is(rewritten(bytes, out), 160));
-    bytes[90] = 0;
     memset(bytes + 109, 0, 3);
     CHECK(holds_only(out, bytes, 160));
 }
