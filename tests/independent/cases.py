@@ -221,6 +221,15 @@ def field_boundaries(rng):
         yield from value_cases(rng, payload, edge_number(rng, U64), as_payload(rng, channel), calls)
 
 
+def type_field_boundaries(rng):
+    """Every code, those of all unknown types among them: in a record, past its end, and as a payload."""
+    for code in range(256):
+        channel = Channel(code, rng.choice([0, 2, 255]), 0, 1, 32)
+        for length in (5, 4):
+            yield from value_cases(rng, some_bytes(rng, length), 0, channel)
+        yield from value_cases(rng, some_bytes(rng, 4), edge_number(rng, U64), as_payload(rng, channel))
+
+
 def place_boundaries(rng):
     """Fields at, one before and one past the record's end, with every id size and sums that pass 2^64."""
     for data_type, id_size in itertools.product(TYPE_CODES, ID_SIZES + HUGE_ID_SIZES):
@@ -505,10 +514,12 @@ def channel_id_and_link_boundaries(rng):
 
 
 def channel_type_boundaries(rng):
+    """Every code, those of all unknown types among them: read in blocks of 8 links and of 9, and written."""
     for code in range(256):
-        fields = channel_fields(rng, rng.choice([8, 8, 9]))
-        fields["rest"][TYPE_PLACE] = code
-        yield "read_channel", (channel_block(fields),)
+        for links_count in (8, 9):
+            fields = channel_fields(rng, links_count)
+            fields["rest"][TYPE_PLACE] = code
+            yield "read_channel", (channel_block(fields),)
         block = random_channel_block(rng)
         yield "write_channel", (block._replace(channel=block.channel._replace(data_type=code)), out_buffer(rng, 160))
 
@@ -1554,8 +1565,9 @@ def random_payload_case(rng):
 
 BOUNDARIES = (header_boundaries, type_boundaries, list_read_boundaries, list_id_and_link_boundaries, list_write_boundaries,
               channel_read_boundaries, channel_id_and_link_boundaries, channel_type_boundaries, channel_limit_boundaries,
-              channel_write_boundaries, field_boundaries, place_boundaries, refusal_boundaries, payload_boundaries,
-              text_field_boundaries, validity_boundaries, number_boundaries, text_boundaries, text_helper_boundaries)
+              channel_write_boundaries, field_boundaries, type_field_boundaries, place_boundaries, refusal_boundaries,
+              payload_boundaries, text_field_boundaries, validity_boundaries, number_boundaries, text_boundaries,
+              text_helper_boundaries)
 
 CHAIN_BOUNDARIES = (cut_boundaries, query_boundaries, long_file_boundaries, loop_boundaries, order_boundaries,
                     limit_boundaries, form_boundaries, breach_boundaries, large_record_boundaries, record_value_boundaries,

@@ -246,7 +246,6 @@ LATIN1, UTF8, UTF16_LE, UTF16_BE = range(6, 10)
 BYTE_ARRAY, MIME_SAMPLE, MIME_STREAM = range(10, 13)
 CANOPEN_DATE, CANOPEN_TIME = range(13, 15)
 COMPLEX_LE, COMPLEX_BE = range(15, 17)
-UNKNOWN_TYPE = 255
 
 INTEGERS = (UNSIGNED_LE, UNSIGNED_BE, SIGNED_LE, SIGNED_BE)
 FLOATS = (FLOAT_LE, FLOAT_BE)
@@ -257,7 +256,7 @@ PLAIN_BYTES = (BYTE_ARRAY, MIME_SAMPLE, MIME_STREAM)
 
 
 def type_code(code):
-    return code if code <= COMPLEX_BE else 0
+    return code  # a code above COMPLEX_BE is an unknown type, which keeps it
 
 
 def default_bits(code):
@@ -365,8 +364,6 @@ def channel_block_of(block):
     size = fields_at + size_of(CHANNEL_FIELDS)
     refuse_if(len(block) < size, TOO_FEW_BYTES, size)
     numbers = row_at(block, HEADER_SIZE, CHANNEL_LINKS) | row_at(block, fields_at, CHANNEL_FIELDS)
-    if numbers["data_type"] > COMPLEX_BE:
-        numbers["data_type"] = UNKNOWN_TYPE
     channel = Channel(**{name: numbers.pop(name) for name in Channel._fields})
     return ChannelBlock(
         header=header,
@@ -385,7 +382,7 @@ def read_channel(block):
 
 def channel_block_bytes(block):
     numbers = block._asdict() | block.channel._asdict()
-    numbers.update(data_type=type_code(block.channel.data_type), reserved1=0, attachment_nr=0)
+    numbers.update(reserved1=0, attachment_nr=0)
     behind_header = row_bytes(numbers, CHANNEL_LINKS) + row_bytes(numbers, CHANNEL_FIELDS)
     size = HEADER_SIZE + len(behind_header)
     return header_bytes(Header(int.from_bytes(CHANNEL_ID, "little"), 0, size, len(CHANNEL_LINKS))) + behind_header

@@ -255,8 +255,30 @@ def example_payloads():
 
 
 def rules_of_types():
-    check("codes", [r.type_code(code) for code in range(256)], list(range(17)) + [0] * 239)
-    check("default bits", [r.default_bits(code) for code in range(18)], [32] * 6 + [8] * 7 + [64] * 4 + [8])
+    check("codes", [r.type_code(code) for code in range(256)], list(range(256)))
+    check("default bits", [r.default_bits(code) for code in range(256)], [32] * 6 + [8] * 7 + [64] * 4 + [8] * 239)
+
+
+def code_given(call, arguments):
+    """The code of the type in a case."""
+    if call == "read_channel":
+        return arguments[0][-70]  # of the 72 bytes behind all links the third
+    if call == "write_channel":
+        return arguments[0].channel.data_type
+    return arguments[-1].data_type if isinstance(arguments[-1], Channel) else arguments[0]
+
+
+def cases_of_types():
+    """The cases reach each code in each of these calls, with an answer."""
+    reached = collections.defaultdict(set)
+    for boundaries in (cases.type_boundaries, cases.type_field_boundaries, cases.channel_type_boundaries):
+        for call, arguments in boundaries(random.Random(18)):
+            first = protocol.result_line(call, arguments).split()[0]
+            if first == "reply=0" or first.startswith("answer="):
+                reached[call].add(code_given(call, arguments))
+    calls = ("type_code", "default_bits", "decode_value", "decode_valid_value", "decode_double", "read_channel",
+             "write_channel")
+    check("codes reached", {call: len(codes) for call, codes in reached.items()}, dict.fromkeys(calls, 256))
 
 
 def rules_of_headers():
@@ -297,14 +319,14 @@ def rules_of_channels():
     other = "23 23 43 47 99000000 0100000000000000"
     check("another id before too few links", r.read_channel(channel_in_hex(0, start=other)), r.ChannelReply(3))
     check("too few bytes before another id", r.read_channel(channel_in_hex(0, start=other)[:23]), r.ChannelReply(2, 24))
+    plain = r.write_channel(CHANNEL_IN_NUMBERS, bytes(160))[1]
     for code in range(256):
-        coded = block[:90] + bytes([code]) + block[91:]
-        read = r.read_channel(coded).block
-        check(f"type {code} read", read.channel.data_type, code if code <= 16 else 255)
+        read = r.read_channel(block[:90] + bytes([code]) + block[91:]).block
         described = CHANNEL_IN_NUMBERS.channel._replace(data_type=code)
-        written = r.write_channel(CHANNEL_IN_NUMBERS._replace(channel=described), bytes(160))[1]
-        check(f"type {code} written", written[90], code if code <= 16 else 0)
-        check(f"type {code} decoded", *(r.decode_value(bytes(6), 0, channel) for channel in (read.channel, described)))
+        check(f"type {code} read", read, CHANNEL_IN_NUMBERS._replace(channel=described))
+        check(f"type {code} written", r.write_channel(read, bytes(160))[1], plain[:90] + bytes([code]) + plain[91:])
+        is_unknown = r.decode_value(bytes(8), 0, read.channel).kind == r.UNKNOWN_KIND
+        check(f"type {code} without decoding", is_unknown, code > r.MIME_STREAM)
 
 
 def rules_of_values():
@@ -722,12 +744,10 @@ def python_structs():
         check("more links", (read.more_links_at, read.more_links), (88, links_count - 8))
         row = [c.channel_type, read.sync_type, c.data_type, c.bit_offset, c.byte_offset, c.bit_count, c.flags,
                c.pos_invalidation_bit, read.precision, read.reserved1, read.attachment_nr, *read[-6:]]
-        code = fields["rest"][2]
-        check("fields", row, fields["rest"][:2] + [code if code <= 16 else 255] + fields["rest"][3:])
-        again = struct.pack("<4sIQQ8Q4B4I2BH6Q", b"##CN", 0, 160, 8, *links, *row[:2], code if code <= 16 else 0, *row[3:9],
-                            0, 0, *row[11:])
+        check("fields", row, fields["rest"])
+        again = struct.pack("<4sIQQ8Q4B4I2BH6Q", b"##CN", 0, 160, 8, *links, *row[:9], 0, 0, *row[11:])
         check("written again", r.write_channel(read, bytes(161)), (r.Written(count=160), again + bytes(1)))
-        check("read again", r.read_channel(again).block.channel, c._replace(data_type=code if code <= 16 else 0))
+        check("read again", r.read_channel(again).block.channel, c)
 
 
 def python_text(text, call):
@@ -818,6 +838,7 @@ def main():
     section("example: chain", example_chain)
     section("example: payloads", example_payloads)
     section("rules of types", rules_of_types)
+    section("cases of types", cases_of_types)
     section("rules of headers", rules_of_headers)
     section("rules of writing lists", rules_of_writing)
     section("rules of channels", rules_of_channels)
