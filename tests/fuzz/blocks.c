@@ -55,7 +55,7 @@ void exercise_header(lent input)
 
 void exercise_types(uint8_t code)
 {
-    MUST(mf4_type_code(code) == (code <= 16 ? code : 0));
+    MUST(mf4_type_code(code) == code);
     MUST(mf4_default_bits(code) == (code <= 5 ? 32u : code >= 13 && code <= 16 ? 64u : 8u));
 }
 

@@ -17,7 +17,7 @@ static mf4_channel description_due(const uint8_t *block, const uint8_t *fields)
 {
     mf4_channel channel;
     channel.channel_type = fields[0];
-    channel.data_type = fields[2] <= 16 ? fields[2] : 255;
+    channel.data_type = fields[2];
     channel.bit_offset = fields[3];
     channel.byte_offset = (uint32_t)little(fields + 4, 4);
     channel.bit_count = (uint32_t)little(fields + 8, 4);
@@ -102,8 +102,6 @@ static mf4_channel_reply written_due(mf4_channel_block block)
     due.block.more_links = 0;
     due.block.reserved1 = 0;
     due.block.attachment_nr = 0;
-    if (block.channel.data_type > 16)
-        due.block.channel.data_type = 0;
     return due;
 }
 
@@ -126,15 +124,27 @@ static void exercise_write(mf4_channel_block block)
     MUST(is_unchanged_from(whole, (size_t)answer.count));
 }
 
+/* What was read is written with the same links and the same fields, but for the reserved byte and the attachments. */
+static void exercise_rewriting(lent input, mf4_channel_block block)
+{
+    const uint8_t *fields = input.bytes + 24 + 8 * block.header.links_nr;
+    uint8_t out[MF4_CHANNEL_BLOCK_SIZE];
+    MUST(mf4_write_channel(block, out, sizeof out).reply == MF4_ANSWER);
+    MUST(same_bytes(out + 24, input.bytes + 24, 64));
+    MUST(same_bytes(out + 88, fields, 21));
+    MUST(same_bytes(out + 112, fields + 24, 48));
+}
+
 /* What was read is decoded and written as it stands. */
 static void exercise_read(lent input, mf4_channel_block block, reading how)
 {
     how.channel = block.channel;
     exercise_value(input, how);
-    if (block.channel.data_type == MF4_UNKNOWN_TYPE) {
+    if (block.channel.data_type > MF4_COMPLEX_BE) {
         mf4_value value = mf4_decode_value(input.bytes, input.length, how.id_size, how.channel);
         MUST(value.reply == MF4_ANSWER ? value.kind == MF4_KIND_UNKNOWN : value.reply == MF4_FIELD_OUTSIDE);
     }
+    exercise_rewriting(input, block);
     exercise_write(block);
 }
 
@@ -146,8 +156,9 @@ void exercise_channel(lent input, reading how)
     MUST(same_channel(answer, mf4_read_channel(input.bytes, input.length)));
     MUST(is_unchanged(input));
     if (answer.reply == MF4_ANSWER) {
+        uint8_t code = answer.block.channel.data_type;
         note(READ_CHANNEL, 32 + (unsigned)answer.block.more_links % 8);
-        note(READ_CHANNEL, 40 + answer.block.channel.data_type % 18u);
+        note(READ_CHANNEL, 40u + (code <= MF4_COMPLEX_BE ? code : 17));
         exercise_read(input, answer.block, how);
     }
 }
