@@ -40,9 +40,6 @@ pub const FIELD_REFUSALS: RangeInclusive<u32> = 18..=22;
 /// The one NaN for whatever is no number.
 pub const NAN_BITS: u64 = 0x7FF8_0000_0000_0000;
 
-/// The one code for every unknown type that is read.
-pub const UNKNOWN_TYPE: u8 = 255;
-
 #[derive(Debug, Clone, Copy, PartialEq, Eq)]
 pub struct Header {
     pub id: [u8; 4],

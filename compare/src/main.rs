@@ -38,11 +38,12 @@
 //! TYPE is the type code of the text's encoding. REPLY is 0 or the number of the refusal; what stands in brackets is
 //! there only where it is 0. VALID and DAMAGED are 0 or 1.
 //!
-//! The answers in a sample are the crate's, so inputs outside the domain are left out, and so are channel blocks, whose
-//! measure is the standard alone. Where the crate has no such notion they are put into the library's terms: its errors
-//! as numbers, 6 where ROOM is too small for the bytes that it gives, places instead of copies, the one NaN for every
-//! NaN but those of 64-bit fields, and the one code for every unknown type that is read. Where it has no value, the
-//! whole answer of `value` and `both` is the word `-`, which stands for any refusal from 18 to 22.
+//! The answers in a sample are the crate's, so inputs outside the domain are left out, codes of unknown types among
+//! them, and so are channel blocks, whose measure is the standard alone. Where the crate has no such notion they are
+//! put into the library's terms: its errors as numbers, 6 where ROOM is too small for the bytes that it gives, places
+//! instead of copies, the one NaN for every NaN but those of 64-bit fields, and for an unknown type in a channel block
+//! 0, the code that the crate itself gives for it. Where it has no value, the whole answer of `value` and `both` is the
+//! word `-`, which stands for any refusal from 18 to 22.
 
 mod answers;
 mod c;

@@ -15,7 +15,7 @@ use mf4_rs::parsing::decoder::{
 
 use crate::answers::{
     self, into_room, too_few_bytes, Answer, Header, List, Place, Refusal, Reply, Said, Text, Value, NAN_BITS, NO_LINKS,
-    OTHER_ID, UNKNOWN_TYPE,
+    OTHER_ID,
 };
 use crate::cases::{Case, Channel, Encoding, Field};
 
@@ -57,8 +57,11 @@ fn said<T>(decoded: Option<T>, form: fn(Reply<T>) -> Answer) -> Said {
 // ---- headers and types
 
 fn type_of(code: u8) -> Answer {
-    let data_type = DataType::from_u8(code);
-    Answer::Type { code: data_type.to_u8(), default_bits: data_type.default_bits() }
+    Answer::Type { code: DataType::from_u8(code).to_u8(), default_bits: default_bits(code) }
+}
+
+pub fn default_bits(code: u8) -> u32 {
+    DataType::from_u8(code).default_bits()
 }
 
 fn read_header(bytes: &[u8]) -> Reply<Header> {
@@ -172,12 +175,10 @@ fn block_in(block: &ChannelBlock) -> answers::ChannelBlock {
     }
 }
 
+/// The crate's variant for an unknown type has no code; 0 is the one that the crate gives for it.
 fn channel_in(block: &ChannelBlock) -> Channel {
     Channel {
-        data_type: match &block.data_type {
-            DataType::Unknown(_) => UNKNOWN_TYPE,
-            known => known.to_u8(),
-        },
+        data_type: block.data_type.to_u8(),
         channel_type: block.channel_type,
         bit_offset: block.bit_offset,
         byte_offset: block.byte_offset,

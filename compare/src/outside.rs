@@ -1,6 +1,8 @@
 //! What lies outside the domain where the crate and the library must agree, and the answer that is due there. Each
 //! difference has a row in docs/DIFFERENCES.md.
 
+use std::cmp::Ordering;
+
 use crate::answers::{
     field_outside, into_room, too_few_bytes, Answer, ChannelBlock, Header, Refusal, Reply, Value, BAD_BIT_OFFSET,
     BAD_FLOAT_WIDTH, INTEGER_TOO_WIDE, NAN_BITS, NO_BITS, TOO_FEW_LINKS, UNWRITABLE_LIST,
@@ -19,6 +21,7 @@ pub enum Difference {
     ManyLinks,
     OtherHeader,
     ReservedOrAttached,
+    UnknownType,
 }
 
 impl Difference {
@@ -33,6 +36,7 @@ impl Difference {
             Difference::ManyLinks => "channel block with more than 8 links",
             Difference::OtherHeader => "channel block written with another header",
             Difference::ReservedOrAttached => "channel block written with a reserved byte or attachments",
+            Difference::UnknownType => "code of an unknown type",
         }
     }
 }
@@ -42,12 +46,13 @@ type Due<T> = Option<(Difference, T)>;
 /// The difference that an input falls under and the answer due to it; nothing inside the domain.
 pub fn due(case: &Case) -> Due<Answer> {
     match case {
-        Case::Type { .. } | Case::ListRead { .. } | Case::Text { .. } => None,
+        Case::ListRead { .. } | Case::Text { .. } => None,
+        Case::Type { code } => kept_code(*code),
         Case::HeaderRead { bytes } => raw_header(bytes),
         Case::HeaderWrite { header, room } => raw_header_bytes(header, *room),
         Case::ListWriteEqual { links, .. } => unwritable(links.len(), links.len()),
         Case::ListWriteVariable { links, offsets, .. } => unwritable(links.len(), offsets.len()),
-        Case::ChannelRead { bytes } => answering(channel_by_links(bytes), Answer::Channel),
+        Case::ChannelRead { bytes } => answering(read_channel(bytes), Answer::Channel),
         Case::ChannelWrite { block, room } => plain_channel(block, *room),
         Case::Value(field) => answering(value(field), Answer::Value),
         Case::Validity(field) => answering(validity(field), Answer::Validity),
@@ -58,6 +63,16 @@ pub fn due(case: &Case) -> Due<Answer> {
 
 fn answering<T>(due: Due<T>, form: fn(T) -> Answer) -> Due<Answer> {
     due.map(|(difference, answer)| (difference, form(answer)))
+}
+
+// ---- types
+
+/// Each code above it is an unknown type, for which the crate gives 0 and the library the code.
+const LAST_TYPE: u8 = 16;
+
+fn kept_code(code: u8) -> Due<Answer> {
+    let answer = Answer::Type { code, default_bits: original::default_bits(code) };
+    (code > LAST_TYPE).then_some((Difference::UnknownType, answer))
 }
 
 // ---- blocks
@@ -97,16 +112,29 @@ fn unwritable(links: usize, offsets: usize) -> Due<Answer> {
 // ---- channel blocks
 
 const LINKS: u64 = 8;
+/// Where the type stands in a block of 8 links.
+const TYPE_AT: usize = 90;
 
-fn channel_by_links(bytes: &[u8]) -> Due<Reply<ChannelBlock>> {
+fn read_channel(bytes: &[u8]) -> Due<Reply<ChannelBlock>> {
     let links = u64::from_le_bytes(bytes.get(16..24)?.try_into().ok()?);
-    if !bytes.starts_with(b"##CN") || links == LINKS {
+    if !bytes.starts_with(b"##CN") {
         return None;
     }
-    if links < LINKS {
-        return Some((Difference::FewLinks, Err(TOO_FEW_LINKS)));
+    match links.cmp(&LINKS) {
+        Ordering::Less => Some((Difference::FewLinks, Err(TOO_FEW_LINKS))),
+        Ordering::Greater => Some((Difference::ManyLinks, behind_all_links(bytes, links)?)),
+        Ordering::Equal if *bytes.get(TYPE_AT)? > LAST_TYPE => Some((Difference::UnknownType, with_code(bytes)?)),
+        Ordering::Equal => None,
     }
-    Some((Difference::ManyLinks, behind_all_links(bytes, links)?))
+}
+
+/// What the crate reads of a block of 8 links, and for an unknown type the code that stands in the block.
+fn with_code(bytes: &[u8]) -> Option<Reply<ChannelBlock>> {
+    let read = original::read_channel(bytes).ok()?;
+    Some(read.map(|block| match bytes[TYPE_AT] {
+        code if code > LAST_TYPE => ChannelBlock { channel: Channel { data_type: code, ..block.channel }, ..block },
+        _ => block,
+    }))
 }
 
 /// The fields behind all the links are those that the crate reads where the links behind the eighth are taken out.
@@ -117,24 +145,34 @@ fn behind_all_links(bytes: &[u8], links: u64) -> Option<Reply<ChannelBlock>> {
     }
     let fields_at = 24 + 8 * links as usize;
     let eight_links = [&bytes[..16], &LINKS.to_le_bytes(), &bytes[24..88], &bytes[fields_at..]].concat();
-    let read = original::read_channel(&eight_links).ok()?;
-    Some(read.map(|block| ChannelBlock {
+    Some(with_code(&eight_links)?.map(|block| ChannelBlock {
         header: Header { links_nr: links, ..block.header },
         more_links: links - LINKS,
         ..block
     }))
 }
 
-/// What is written is what the crate writes with the one header, no reserved byte and no attachments.
+/// What is written is what the crate writes with the one header, no reserved byte and no attachments, and for an
+/// unknown type the code that is given.
 fn plain_channel(block: &ChannelBlock, room: usize) -> Due<Answer> {
     let header = Header { id: *b"##CN", reserved0: 0, block_len: 160, links_nr: LINKS };
     let plain = ChannelBlock { header, reserved1: 0, attachment_nr: 0, ..*block };
-    if *block == plain {
+    let code = block.channel.data_type;
+    let difference = if block.header != header {
+        Difference::OtherHeader
+    } else if *block != plain {
+        Difference::ReservedOrAttached
+    } else if code > LAST_TYPE {
+        Difference::UnknownType
+    } else {
         return None;
+    };
+    let mut written = original::write_channel(&plain, room).ok()?;
+    match &mut written {
+        Answer::Written(Ok(bytes)) if code > LAST_TYPE => bytes[TYPE_AT] = code,
+        _ => {}
     }
-    let has_header = block.header == header;
-    let difference = if has_header { Difference::ReservedOrAttached } else { Difference::OtherHeader };
-    Some((difference, original::write_channel(&plain, room).ok()?))
+    Some((difference, written))
 }
 
 // ---- values
