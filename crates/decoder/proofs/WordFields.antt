@@ -10,9 +10,9 @@ use borrow.Author.Tests.{le-ltb, lt-ltb, eq-eqb, ne-eqb}
 use Rattle.definitions.specs.Reply.{Reply, answer, refusal, if_then_else_}
 use Rattle.definitions.specs.Bytes.{Order, leOf, le, span, bits, bytesFor, numberOf, fieldAt}
 use Rattle.definitions.specs.Ieee754.{nanPattern}
-use Rattle.definitions.specs.DataType.{DataType, unsignedInteger, signedInteger, float, complex, string, byteArray, mimeSample, mimeStream, canOpenDate, canOpenTime, unknown, Kind, integer, floating, whole, undecoded, kindOf}
+use Rattle.definitions.specs.DataType.{DataType, Kind, integer, floating, whole, undecoded, kindOf}
 use Rattle.definitions.specs.Channel.{Channel, Value, variableLength, startOf, bitSpan, spanIn, spanOf, floatBits, decoded, isNumber, isInteger, isFloating, valueBy, valueOf, doubleIn, recordDouble}
-use Rattle.fields.specs.Form.{orderMeant, formOf, formKind, numberKind, numberValue}
+use Rattle.fields.specs.Form.{orderMeant, formOf, formKind, numberKind, numberValue, formValue}
 use Rattle.fields.specs.Known.{valueAt, FieldTold, Fitting}
 use Rattle.fields.specs.declared.form.Number as numbers
 use Rattle.fields.specs.declared.form.Number.the-variants.{Float}
@@ -26,7 +26,7 @@ use Rattle.decoder.specs.declared.near.WordFound.{WordFound}
 use Rattle.decoder.specs.declared.near.WordFound.the-variants.{Word}
 use Rattle.decoder.specs.declared.near.NumberForm.{NumberForm}
 use Rattle.decoder.specs.declared.near.NumberForm.the-variants.{Number as SizedNumber, Other as NoNumber}
-use Rattle.fields.proofs.Forms.{number-kinds, number-span, is-number, no-number}
+use Rattle.fields.proofs.Forms.{kind-form, value-form, number-kinds, number-span, is-number, no-number}
 use Rattle.fields.proofs.Fields.{tested, value-tested, no-bits, no-float-width, found, fitting}
 use Rattle.fields.proofs.Values.{looked-for, sound-at, valued}
 use Rattle.decoder.proofs.Doubles.{double-found, double-fixed, double-other, double-number}
@@ -203,61 +203,63 @@ module _ (s : List ℕ) (idSize : ℕ) (c : Channel) {word from : ℕ} (near : N
 
 -- ---- elsewhere
 
--- the place of the field, its type, and whether there is a payload, say all of its value
-abbrev pub alike : Channel → ℕ → ℕ → Channel
-alike c channelType dataLink = placed (c .dataType) channelType (c .bitOffset) (c .byteOffset) (c .bitCount) dataLink
+-- the place of the field, the form of its type, and whether there is a payload, say all of its value
+abbrev pub alike : Channel → DataType → ℕ → ℕ → Channel
+alike c type channelType dataLink = placed type channelType (c .bitOffset) (c .byteOffset) (c .bitCount) dataLink
 
-decoded-alike : (type : DataType) (s : List ℕ) (at n : ℕ) (c : Channel) (t d : ℕ) → decoded type s at n (alike c t d) ≡ decoded type s at n c
-unfolding decoded
-decoded-alike (unsignedInteger o) s at n c t d = refl
-decoded-alike (signedInteger o) s at n c t d = refl
-decoded-alike (float o) s at n c t d = refl
-decoded-alike (string e) s at n c t d = refl
-decoded-alike byteArray s at n c t d = refl
-decoded-alike mimeSample s at n c t d = refl
-decoded-alike mimeStream s at n c t d = refl
-decoded-alike canOpenDate s at n c t d = refl
-decoded-alike canOpenTime s at n c t d = refl
-decoded-alike (complex o) s at n c t d = refl
-decoded-alike (unknown code) s at n c t d = refl
+form-alike : (f : Form) (s : List ℕ) (at n : ℕ) (c : Channel) (type : DataType) (t d : ℕ) → formValue f s at n (alike c type t d) ≡ formValue f s at n c
+form-alike (Number number big) s at n c type t d = refl
+form-alike (Other content) s at n c type t d = refl
 
-span-alike : (payload : Bool) (k : Kind) (n : ℕ) (c : Channel) (t d : ℕ) → spanIn payload k n (alike c t d) ≡ spanIn payload k n c
-span-alike payload integer n c t d = refl
-span-alike payload floating n c t d = refl
-span-alike payload whole n c t d = refl
-span-alike payload undecoded n c t d = refl
+span-alike : (payload : Bool) (k : Kind) (n : ℕ) (c : Channel) (type : DataType) (t d : ℕ) → spanIn payload k n (alike c type t d) ≡ spanIn payload k n c
+span-alike payload integer n c type t d = refl
+span-alike payload floating n c type t d = refl
+span-alike payload whole n c type t d = refl
+span-alike payload undecoded n c type t d = refl
 
-module _ (s : List ℕ) (idSize : ℕ) (c : Channel) (t d : ℕ) (same : variableLength (alike c t d) ≡ variableLength c) where
-  by-alike : (k : Kind) (at n : ℕ) → valueBy k at n s (alike c t d) ≡ valueBy k at n s c
-  by-alike k at n =
-      value-tested k at n s (alike c t d) ∙ ap (tested k at n (length s) c) (decoded-alike (c .dataType) s at n c t d) ∙ sym (value-tested k at n s c)
+module _ (s : List ℕ) (idSize : ℕ) (c : Channel) (type : DataType) (form : formOf type ≡ formOf (c .dataType)) (t d : ℕ)
+    (same : variableLength (alike c type t d) ≡ variableLength c) where
+  abbrev other : Channel
+  other = alike c type t d
 
-  pub value-alike : valueOf s idSize (alike c t d) ≡ valueOf s idSize c
+  decoded-alike : (at n : ℕ) → decoded type s at n other ≡ decoded (c .dataType) s at n c
+  decoded-alike at n =
+      sym (value-form type s at n other) ∙ form-alike (formOf type) s at n c type t d ∙ ap (λ (f : Form). formValue f s at n c) form
+      ∙ value-form (c .dataType) s at n c
+
+  by-alike : (k : Kind) (at n : ℕ) → valueBy k at n s other ≡ valueBy k at n s c
+  by-alike k at n = value-tested k at n s other ∙ ap (tested k at n (length s) c) (decoded-alike at n) ∙ sym (value-tested k at n s c)
+
+  pub value-alike : valueOf s idSize other ≡ valueOf s idSize c
   unfolding valueOf
   value-alike =
       let k : Kind = kindOf (c .dataType) in
-      ap (λ (p : Bool). valueBy k (if p then 0 else (idSize + c .byteOffset)) (spanIn p k (length s) (alike c t d)) s (alike c t d)) same
-      ∙ ap (λ (n : ℕ). valueBy k (startOf idSize c) n s (alike c t d)) (span-alike (variableLength c) k (length s) c t d)
+      let kind : kindOf type ≡ k = sym (kind-form type) ∙ ap formKind form ∙ kind-form (c .dataType) in
+      ap (λ (k : Kind). valueBy k (startOf idSize other) (spanIn (variableLength other) k (length s) other) s other) kind
+      ∙ ap (λ (p : Bool). valueBy k (if p then 0 else (idSize + c .byteOffset)) (spanIn p k (length s) other) s other) same
+      ∙ ap (λ (n : ℕ). valueBy k (startOf idSize c) n s other) (span-alike (variableLength c) k (length s) c type t d)
       ∙ by-alike k (startOf idSize c) (spanOf s c)
 
-  double-alike : recordDouble s idSize (alike c t d) ≡ recordDouble s idSize c
+  double-alike : recordDouble s idSize other ≡ recordDouble s idSize c
   unfolding recordDouble
   double-alike =
-      ap (λ (p : Bool). if p then nanPattern else doubleIn (valueOf s idSize (alike c t d))) same
+      ap (λ (p : Bool). if p then nanPattern else doubleIn (valueOf s idSize other)) same
       ∙ ap (λ (r : Reply Value). if variableLength c then nanPattern else doubleIn r) value-alike
 
 -- the general way is handed the record as a part of itself
-pub far-taken : (s : List ℕ) (idSize : ℕ) (c : Channel) {r : ℕ} → variableLength c ≡ false
-    → r ≡ recordDouble (take (length s - 0) (drop 0 s)) idSize (alike c 0 0) → r ≡ recordDouble s idSize c
-far-taken s idSize c fixed er =
+pub far-taken : (s : List ℕ) (idSize : ℕ) (c : Channel) (type : DataType) {r : ℕ} → variableLength c ≡ false → formOf type ≡ formOf (c .dataType)
+    → r ≡ recordDouble (take (length s - 0) (drop 0 s)) idSize (alike c type 0 0) → r ≡ recordDouble s idSize c
+far-taken s idSize c type fixed form er =
     let whole : length s - 0 ≡ length s = omega arith in
-    er ∙ ap (λ (part : List ℕ). recordDouble part idSize (alike c 0 0)) (ap (λ (n : ℕ). take n s) whole ∙ span-whole s) ∙ double-alike s idSize c 0 0 (sym fixed)
+    er ∙ ap (λ (part : List ℕ). recordDouble part idSize (alike c type 0 0)) (ap (λ (n : ℕ). take n s) whole ∙ span-whole s)
+    ∙ double-alike s idSize c type form 0 0 (sym fixed)
 
 -- so a channel laid down anew has the same value, where it is told whether there is a payload
-pub laid-anew : (s : List ℕ) (idSize : ℕ) (c : Channel) (payload : Bool) {t d : ℕ} {r : Reply Value} → payload ≡ variableLength c
-    → t ≡ (if payload then 1 else 0) → d ≡ (if payload then 1 else 0) → r ≡ valueOf s idSize (alike c t d) → r ≡ valueOf s idSize c
-laid-anew s idSize c payload {t} {d} ep et ed er =
-    er ∙ value-alike s idSize c t d (ap₂ (λ (t d : ℕ). eqb t 1 && not (eqb d 0)) et ed ∙ as-told payload ∙ ep)
+pub laid-anew : (s : List ℕ) (idSize : ℕ) (c : Channel) (type : DataType) (payload : Bool) {t d : ℕ} {r : Reply Value} → formOf type ≡ formOf (c .dataType)
+    → payload ≡ variableLength c → t ≡ (if payload then 1 else 0) → d ≡ (if payload then 1 else 0) → r ≡ valueOf s idSize (alike c type t d)
+    → r ≡ valueOf s idSize c
+laid-anew s idSize c type payload {t} {d} form ep et ed er =
+    er ∙ value-alike s idSize c type form t d (ap₂ (λ (t d : ℕ). eqb t 1 && not (eqb d 0)) et ed ∙ as-told payload ∙ ep)
   where
     as-told : (p : Bool) → eqb (if p then 1 else 0) 1 && not (eqb (if p then 1 else 0) 0) ≡ p
     as-told true = refl

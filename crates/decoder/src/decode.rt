@@ -9,10 +9,12 @@ ghost use Rattle.fields.specs.Form.{orderMeant, formKind, formValue, numberValu
 ghost use Rattle.fields.specs.Known.{Sound};
 ghost use Rattle.decoder.specs.Meaning.{judgedReply};
 ghost use Rattle.decoder.specs.Known.{InWord};
+use crate::alike::decoding_code;
 use crate::near::NumberForm;
 use crate::near::WordFound;
 use crate::near::find_word;
 use crate::near::number_form;
+use blocks::DataType;
 use fields::Channel;
 use fields::DecodedChannelValue;
 use fields::DecodedValue;
@@ -79,8 +81,9 @@ fn far_value(record: &[u8], record_id_size: usize, payload: bool, channel: Chann
     ensures { λ r. ⌜ valueReply r ≡ valueOf (now («record» .entry)) «record_id_size» (channelMeant channel) ⌝ }
 {
     let data_type = channel.data_type;
+    let code = decoding_code(data_type);
     let laid = Channel {
-        data_type,
+        data_type: DataType::from_u8(code),
         channel_type: one_if(payload),
         bit_offset: channel.bit_offset,
         byte_offset: channel.byte_offset,

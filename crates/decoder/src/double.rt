@@ -6,11 +6,12 @@ ghost use lib.Dec.{eqb};
 ghost use Rattle.definitions.specs.Reply.{if_then_else_};
 ghost use Rattle.definitions.specs.Ieee754.{nanPattern};
 ghost use Rattle.definitions.specs.Channel.{floatBits, recordDouble};
-ghost use Rattle.blocks.specs.Meaning.{typeMeant};
+ghost use Rattle.definitions.specs.DataType.{typeOf};
 ghost use Rattle.fields.specs.Meaning.{channelMeant};
 ghost use Rattle.fields.specs.Known.{Fitting};
 ghost use Rattle.decoder.specs.Meaning.{numberDouble, placed};
 ghost use Rattle.decoder.specs.Known.{Near};
+use crate::alike::decoding_code;
 use crate::integer::signed_double;
 use crate::integer::unsigned_double;
 use crate::near::WordFound;
@@ -67,13 +68,14 @@ fn any_double(record: &[u8], record_id_size: usize, channel: Channel) -> u64
 fn far_double(
     record: &[u8],
     record_id_size: usize,
-    data_type: DataType,
+    code: u8,
     bit_offset: u8,
     byte_offset: u32,
     bit_count: u32,
 ) -> u64
-    ensures { λ r. ⌜ r ≡ recordDouble (now («record» .entry)) «record_id_size» (placed (typeMeant «data_type») 0 «bit_offset» «byte_offset» «bit_count» 0) ⌝ }
+    ensures { λ r. ⌜ r ≡ recordDouble (now («record» .entry)) «record_id_size» (placed (typeOf code) 0 «bit_offset» «byte_offset» «bit_count» 0) ⌝ }
 {
+    let data_type = DataType::from_u8(code);
     let channel = Channel {
         data_type,
         channel_type: 0,
@@ -133,7 +135,7 @@ pub fn decode_f64_from_record(record: &[u8], record_id_size: usize, channel: Cha
         return far_double(
             &record[0..],
             record_id_size,
-            data_type,
+            decoding_code(data_type),
             offset,
             channel.byte_offset,
             count,
@@ -147,7 +149,7 @@ pub fn decode_f64_from_record(record: &[u8], record_id_size: usize, channel: Cha
         return far_double(
             &record[0..],
             record_id_size,
-            data_type,
+            decoding_code(data_type),
             offset,
             channel.byte_offset,
             count,

@@ -1,4 +1,5 @@
 // A channel's value in a record, as a double too, and with its validity.
+mod alike;
 mod decode;
 mod double;
 mod integer;

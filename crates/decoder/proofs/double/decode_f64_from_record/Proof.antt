@@ -18,17 +18,19 @@ returns c = double-payload _ _ _ (sym (c .before .is-variable-length .ensures) �
 
 returns-2 : tie.Need-returns-2
 returns-2 c =
-    let two = c .before .before in
+    let code = c .before in
+    let two = code .before .before in
     let one = two .before in
-    far-taken _ _ (channelMeant (one .before .before .before .args .channel)) (fixed one) (c .far-double .ensures)
+    far-taken _ _ (channelMeant (one .before .before .before .args .channel)) _ (fixed one) (code .decoding-code .ensures) (c .far-double .ensures)
 
 returns-3 : tie.Need-returns-3
 returns-3 c = without-bits _ _ _ (fixed (c .before .before)) (c .if3 .taken)
 
 returns-4 : tie.Need-returns-4
 returns-4 c =
-    let one = c .before .before .before .before .before .before .before in
-    far-taken _ _ (channelMeant (one .before .before .before .args .channel)) (fixed one) (c .far-double2 .ensures)
+    let code = c .before in
+    let one = code .before .before .before .before .before .before .before in
+    far-taken _ _ (channelMeant (one .before .before .before .args .channel)) _ (fixed one) (code .decoding-code2 .ensures) (c .far-double2 .ensures)
 
 near-double-requires : tie.Need-near-double-requires
 near-double-requires c κs =
@@ -49,6 +51,7 @@ decode-f64-from-record-spec =
     (λ c. search needs)
     (λ c. search needs)
     (λ c κs. search needs)
+    (λ c κs. search needs)
     returns-2
     returns-3
     (λ c κs. search needs)
@@ -57,6 +60,7 @@ decode-f64-from-record-spec =
     (λ c. search needs)
     (λ c. search needs)
     (λ c. search needs)
+    (λ c κs. search needs)
     (λ c κs. search needs)
     returns-4
     near-double-requires
