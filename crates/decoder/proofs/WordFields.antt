@@ -203,67 +203,55 @@ module _ (s : List ℕ) (idSize : ℕ) (c : Channel) {word from : ℕ} (near : N
 
 -- ---- elsewhere
 
--- the place of the field, the form of its type, and whether there is a payload, say all of its value
-abbrev pub alike : Channel → DataType → ℕ → ℕ → Channel
-alike c type channelType dataLink = placed type channelType (c .bitOffset) (c .byteOffset) (c .bitCount) dataLink
+-- the form of its type, its bit offset and its bit count say all of the value at a place
+abbrev pub alike : Channel → DataType → ℕ → Channel
+alike c type byteOffset = placed type 0 (c .bitOffset) byteOffset (c .bitCount) 0
 
-form-alike : (f : Form) (s : List ℕ) (at n : ℕ) (c : Channel) (type : DataType) (t d : ℕ) → formValue f s at n (alike c type t d) ≡ formValue f s at n c
-form-alike (Number number big) s at n c type t d = refl
-form-alike (Other content) s at n c type t d = refl
+form-alike : (f : Form) (s : List ℕ) (at n : ℕ) (c : Channel) (type : DataType) (o : ℕ) → formValue f s at n (alike c type o) ≡ formValue f s at n c
+form-alike (Number number big) s at n c type o = refl
+form-alike (Other content) s at n c type o = refl
 
-span-alike : (payload : Bool) (k : Kind) (n : ℕ) (c : Channel) (type : DataType) (t d : ℕ) → spanIn payload k n (alike c type t d) ≡ spanIn payload k n c
-span-alike payload integer n c type t d = refl
-span-alike payload floating n c type t d = refl
-span-alike payload whole n c type t d = refl
-span-alike payload undecoded n c type t d = refl
+span-alike : (payload : Bool) (k : Kind) (n : ℕ) (c : Channel) (type : DataType) (o : ℕ) → spanIn payload k n (alike c type o) ≡ spanIn payload k n c
+span-alike payload integer n c type o = refl
+span-alike payload floating n c type o = refl
+span-alike payload whole n c type o = refl
+span-alike payload undecoded n c type o = refl
 
-module _ (s : List ℕ) (idSize : ℕ) (c : Channel) (type : DataType) (form : formOf type ≡ formOf (c .dataType)) (t d : ℕ)
-    (same : variableLength (alike c type t d) ≡ variableLength c) where
-  abbrev other : Channel
-  other = alike c type t d
-
-  decoded-alike : (at n : ℕ) → decoded type s at n other ≡ decoded (c .dataType) s at n c
-  decoded-alike at n =
-      sym (value-form type s at n other) ∙ form-alike (formOf type) s at n c type t d ∙ ap (λ (f : Form). formValue f s at n c) form
+module _ (s : List ℕ) (idSize : ℕ) (c : Channel) (type : DataType) (form : formOf type ≡ formOf (c .dataType)) where
+  decoded-alike : (at n o : ℕ) → decoded type s at n (alike c type o) ≡ decoded (c .dataType) s at n c
+  decoded-alike at n o =
+      sym (value-form type s at n (alike c type o)) ∙ form-alike (formOf type) s at n c type o ∙ ap (λ (f : Form). formValue f s at n c) form
       ∙ value-form (c .dataType) s at n c
 
-  by-alike : (k : Kind) (at n : ℕ) → valueBy k at n s other ≡ valueBy k at n s c
-  by-alike k at n = value-tested k at n s other ∙ ap (tested k at n (length s) c) (decoded-alike at n) ∙ sym (value-tested k at n s c)
+  value-alike : (k : Kind) (payload : Bool) (at o : ℕ) → valueAt k payload s at (alike c type o) ≡ valueAt k payload s at c
+  value-alike k payload at o =
+      let n : ℕ = spanIn payload k (length s) c in
+      ap (λ (n : ℕ). valueBy k at n s (alike c type o)) (span-alike payload k (length s) c type o)
+      ∙ value-tested k at n s (alike c type o) ∙ ap (tested k at n (length s) c) (decoded-alike at n o) ∙ sym (value-tested k at n s c)
 
-  pub value-alike : valueOf s idSize other ≡ valueOf s idSize c
-  unfolding valueOf
-  value-alike =
-      let k : Kind = kindOf (c .dataType) in
-      let kind : kindOf type ≡ k = sym (kind-form type) ∙ ap formKind form ∙ kind-form (c .dataType) in
-      ap (λ (k : Kind). valueBy k (startOf idSize other) (spanIn (variableLength other) k (length s) other) s other) kind
-      ∙ ap (λ (p : Bool). valueBy k (if p then 0 else (idSize + c .byteOffset)) (spanIn p k (length s) other) s other) same
-      ∙ ap (λ (n : ℕ). valueBy k (startOf idSize c) n s other) (span-alike (variableLength c) k (length s) c type t d)
-      ∙ by-alike k (startOf idSize c) (spanOf s c)
+  -- so a channel laid down anew has the same value, and the same double
+  pub laid-anew : {payload : Bool} {skipped offset : ℕ} {r : Reply Value} → payload ≡ variableLength c
+      → skipped ≡ (if payload then 0 else idSize) → offset ≡ (if payload then 0 else c .byteOffset)
+      → r ≡ valueAt (formKind (formOf type)) payload s (skipped + offset) (alike c type 0) → r ≡ valueOf s idSize c
+  laid-anew {payload} {skipped} {offset} ep es eo er =
+      er ∙ value-alike (formKind (formOf type)) payload (skipped + offset) 0 ∙ looked-for s idSize c {form = formOf type} form ep es eo
 
-  double-alike : recordDouble s idSize other ≡ recordDouble s idSize c
-  unfolding recordDouble
-  double-alike =
-      ap (λ (p : Bool). if p then nanPattern else doubleIn (valueOf s idSize other)) same
-      ∙ ap (λ (r : Reply Value). if variableLength c then nanPattern else doubleIn r) value-alike
+  double-alike : variableLength c ≡ false → recordDouble s idSize (alike c type (c .byteOffset)) ≡ recordDouble s idSize c
+  double-alike fixed =
+      let other : Channel = alike c type (c .byteOffset) in
+      sym (double-fixed s idSize other refl)
+      ∙ ap doubleIn (sym (looked-for s idSize other {form = formOf type} {payload = false} refl refl refl refl)
+      ∙ value-alike (formKind (formOf type)) false (idSize + c .byteOffset) (c .byteOffset)
+      ∙ looked-for s idSize c {form = formOf type} {payload = false} form (sym fixed) refl refl)
+      ∙ double-fixed s idSize c fixed
 
 -- the general way is handed the record as a part of itself
-pub far-taken : (s : List ℕ) (idSize : ℕ) (c : Channel) (type : DataType) {r : ℕ} → variableLength c ≡ false → formOf type ≡ formOf (c .dataType)
-    → r ≡ recordDouble (take (length s - 0) (drop 0 s)) idSize (alike c type 0 0) → r ≡ recordDouble s idSize c
-far-taken s idSize c type fixed form er =
+pub far-taken : (s : List ℕ) (idSize : ℕ) (c : Channel) (type : DataType) {r : ℕ} → formOf type ≡ formOf (c .dataType) → variableLength c ≡ false
+    → r ≡ recordDouble (take (length s - 0) (drop 0 s)) idSize (alike c type (c .byteOffset)) → r ≡ recordDouble s idSize c
+far-taken s idSize c type form fixed er =
     let whole : length s - 0 ≡ length s = omega arith in
-    er ∙ ap (λ (part : List ℕ). recordDouble part idSize (alike c type 0 0)) (ap (λ (n : ℕ). take n s) whole ∙ span-whole s)
-    ∙ double-alike s idSize c type form 0 0 (sym fixed)
-
--- so a channel laid down anew has the same value, where it is told whether there is a payload
-pub laid-anew : (s : List ℕ) (idSize : ℕ) (c : Channel) (type : DataType) (payload : Bool) {t d : ℕ} {r : Reply Value} → formOf type ≡ formOf (c .dataType)
-    → payload ≡ variableLength c → t ≡ (if payload then 1 else 0) → d ≡ (if payload then 1 else 0) → r ≡ valueOf s idSize (alike c type t d)
-    → r ≡ valueOf s idSize c
-laid-anew s idSize c type payload {t} {d} form ep et ed er =
-    er ∙ value-alike s idSize c type form t d (ap₂ (λ (t d : ℕ). eqb t 1 && not (eqb d 0)) et ed ∙ as-told payload ∙ ep)
-  where
-    as-told : (p : Bool) → eqb (if p then 1 else 0) 1 && not (eqb (if p then 1 else 0) 0) ≡ p
-    as-told true = refl
-    as-told false = refl
+    er ∙ ap (λ (part : List ℕ). recordDouble part idSize (alike c type (c .byteOffset))) (ap (λ (n : ℕ). take n s) whole ∙ span-whole s)
+    ∙ double-alike s idSize c type form fixed
 
 -- a number that no field can be has no double, and what is no number has none either
 module _ (s : List ℕ) (idSize : ℕ) (c : Channel) (fixed : variableLength c ≡ false) where

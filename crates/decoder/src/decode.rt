@@ -1,13 +1,13 @@
 // A channel's value in a record.
 ghost use mathlib.Core.Path.{_≡_};
-ghost use Prim.Native.Nat.{_/_, _%_};
-ghost use Rattle.definitions.specs.Reply.{if_then_else_};
+ghost use Prim.Native.Nat.{_+_, _/_, _%_};
 ghost use Rattle.definitions.specs.Bytes.{le, fieldAt};
-ghost use Rattle.definitions.specs.Channel.{variableLength, valueOf, validValueOf};
+ghost use Rattle.definitions.specs.DataType.{typeOf};
+ghost use Rattle.definitions.specs.Channel.{valueOf, validValueOf};
 ghost use Rattle.fields.specs.Meaning.{channelMeant, valueMeant, valueReply, validValueReply};
-ghost use Rattle.fields.specs.Form.{orderMeant, formKind, formValue, numberValue};
-ghost use Rattle.fields.specs.Known.{Sound};
-ghost use Rattle.decoder.specs.Meaning.{judgedReply};
+ghost use Rattle.fields.specs.Form.{orderMeant, formOf, formKind, formValue, numberValue};
+ghost use Rattle.fields.specs.Known.{Sound, valueAt};
+ghost use Rattle.decoder.specs.Meaning.{judgedReply, placed};
 ghost use Rattle.decoder.specs.Known.{InWord};
 use crate::alike::decoding_code;
 use crate::near::NumberForm;
@@ -46,22 +46,30 @@ fn value_at(record: &[u8], at: usize, size: usize, form: Form, channel: Channel)
     }
 }
 
-// A payload has no record id, and its field no offset.
-fn unless(payload: bool, bytes: usize) -> usize
-    ensures { λ r. ⌜ r ≡ (if payload then 0 else bytes) ⌝ }
+// The value of the field at a place. It takes numbers and not the channel, as `far_double` does, and for its reason.
+fn far_value(
+    record: &[u8],
+    skipped: usize,
+    byte_offset: usize,
+    payload: bool,
+    code: u8,
+    bit_offset: u8,
+    bit_count: u32,
+) -> ValueRead
+    ensures { λ r. ⌜ valueReply r ≡ valueAt (formKind (formOf (typeOf code))) payload (now («record» .entry)) (skipped + «byte_offset») (placed (typeOf code) 0 «bit_offset» 0 «bit_count» 0) ⌝ }
 {
-    if payload { 0 } else { bytes }
-}
-
-// The value of any field, by the general way
-pub fn any_value(record: &[u8], record_id_size: usize, channel: Channel) -> ValueRead
-    ensures { λ r. ⌜ valueReply r ≡ valueOf (now («record» .entry)) «record_id_size» (channelMeant channel) ⌝ }
-{
-    let data_type = channel.data_type;
+    let data_type = DataType::from_u8(code);
     let form = form_of(data_type);
-    let payload = channel.is_variable_length();
-    let skipped = unless(payload, record_id_size);
-    let byte_offset = unless(payload, channel.byte_offset as usize);
+    let channel = Channel {
+        data_type,
+        channel_type: 0,
+        bit_offset,
+        byte_offset: 0,
+        bit_count,
+        data: 0,
+        flags: 0,
+        pos_invalidation_bit: 0,
+    };
     let found = find_field(record, skipped, byte_offset, payload, form, channel);
     let FieldFound::Field { at, length } = found else {
         return ValueRead::Refused(found.refusal());
@@ -69,30 +77,27 @@ pub fn any_value(record: &[u8], record_id_size: usize, channel: Channel) -> Valu
     ValueRead::Value(value_at(record, at, length, form, channel))
 }
 
-fn one_if(set: bool) -> u8
-    ensures { λ r. ⌜ r ≡ (if set then 1 else 0) ⌝ }
-{
-    if set { 1 } else { 0 }
-}
-
-// The same as a call apart. The channel is laid down anew for it, so that it lies in memory on this way alone.
-fn far_value(record: &[u8], record_id_size: usize, payload: bool, channel: Channel) -> ValueRead
-    requires { ⌜ payload ≡ variableLength (channelMeant channel) ⌝ }
+// The value of any field, by the general way. A payload has no record id, and its field no offset.
+pub fn any_value(record: &[u8], record_id_size: usize, channel: Channel) -> ValueRead
     ensures { λ r. ⌜ valueReply r ≡ valueOf (now («record» .entry)) «record_id_size» (channelMeant channel) ⌝ }
 {
     let data_type = channel.data_type;
     let code = decoding_code(data_type);
-    let laid = Channel {
-        data_type: DataType::from_u8(code),
-        channel_type: one_if(payload),
-        bit_offset: channel.bit_offset,
-        byte_offset: channel.byte_offset,
-        bit_count: channel.bit_count,
-        data: one_if(payload) as u64,
-        flags: 0,
-        pos_invalidation_bit: 0,
-    };
-    any_value(record, record_id_size, laid)
+    let offset = channel.bit_offset;
+    let count = channel.bit_count;
+    if channel.is_variable_length() {
+        return far_value(record, 0, 0, true, code, offset, count);
+    }
+    let byte_offset = channel.byte_offset as usize;
+    far_value(
+        record,
+        record_id_size,
+        byte_offset,
+        false,
+        code,
+        offset,
+        count,
+    )
 }
 
 // The value of a number in a word
@@ -118,21 +123,21 @@ pub fn decode_channel_value(record: &[u8], record_id_size: usize, channel: Chann
     ensures { λ r. ⌜ valueReply r ≡ valueOf (now («record» .entry)) «record_id_size» (channelMeant channel) ⌝ }
 {
     if channel.is_variable_length() {
-        return far_value(record, record_id_size, true, channel);
+        return any_value(record, record_id_size, channel);
     }
     let data_type = channel.data_type;
     let offset = channel.bit_offset;
     let count = channel.bit_count;
     let form = number_form(data_type, count);
     let NumberForm::Number(number, big_endian) = form else {
-        return far_value(record, record_id_size, false, channel);
+        return any_value(record, record_id_size, channel);
     };
     if 7 < offset {
-        return far_value(record, record_id_size, false, channel);
+        return any_value(record, record_id_size, channel);
     }
     let found = find_word(record, record_id_size, channel.byte_offset, offset, count);
     let WordFound::Word(word, from) = found else {
-        return far_value(record, record_id_size, false, channel);
+        return any_value(record, record_id_size, channel);
     };
     ValueRead::Value(near_value(number, big_endian, word, from, count))
 }
@@ -157,21 +162,21 @@ pub fn decode_channel_value_with_validity(
 {
     let is_valid = check_value_validity(record, record_id_size, cg_data_bytes, channel);
     if channel.is_variable_length() {
-        return judged(far_value(record, record_id_size, true, channel), is_valid);
+        return judged(any_value(record, record_id_size, channel), is_valid);
     }
     let data_type = channel.data_type;
     let offset = channel.bit_offset;
     let count = channel.bit_count;
     let form = number_form(data_type, count);
     let NumberForm::Number(number, big_endian) = form else {
-        return judged(far_value(record, record_id_size, false, channel), is_valid);
+        return judged(any_value(record, record_id_size, channel), is_valid);
     };
     if 7 < offset {
-        return judged(far_value(record, record_id_size, false, channel), is_valid);
+        return judged(any_value(record, record_id_size, channel), is_valid);
     }
     let found = find_word(record, record_id_size, channel.byte_offset, offset, count);
     let WordFound::Word(word, from) = found else {
-        return judged(far_value(record, record_id_size, false, channel), is_valid);
+        return judged(any_value(record, record_id_size, channel), is_valid);
     };
     let value = near_value(number, big_endian, word, from, count);
     ValidValueRead::Value(DecodedChannelValue { value, is_valid })

@@ -9,25 +9,13 @@ use Rattle.decoder.proofs.WordFields.{some-bits, word-number, near-valu
 use Rattle.decoder.proofs.decode.decode_channel_value.Statement.{statement}
 use Rattle.decoder.proofs.decode.decode_channel_value.Tie as tie
 
-far-value-requires : tie.Need-far-value-requires
-far-value-requires c κs = sym (c .if1 .taken) ∙ c .before .is-variable-length .ensures
-
-fixed : (c : tie.Else1) → false ≡ variableLength (channelMeant (c .before .before .before .args .channel))
-fixed c = sym (c .if1 .left) ∙ c .before .is-variable-length .ensures
-
-far-value-requires-2 : tie.Need-far-value-requires-2
-far-value-requires-2 c κs = fixed (c .before .before .before)
-
-far-value-requires-3 : tie.Need-far-value-requires-3
-far-value-requires-3 c κs = fixed (c .before .before .before .before .before)
+fixed : (c : tie.Else1) → variableLength (channelMeant (c .before .before .before .args .channel)) ≡ false
+fixed c = sym (c .before .is-variable-length .ensures) ∙ c .if1 .left
 
 find-word-requires : tie.Need-find-word-requires
 find-word-requires c κs =
     let form = c .before .before in
     (omega (arith, c .if2 .left), some-bits _ _ (form .before .before .number-form .ensures) (form .form .given .1))
-
-far-value-requires-4 : tie.Need-far-value-requires-4
-far-value-requires-4 c κs = fixed (c .before .before .before .before .before .before .before .before)
 
 near-value-requires : tie.Need-near-value-requires
 near-value-requires c κs =
@@ -38,7 +26,7 @@ near-value-requires c κs =
     let of = form .before .before in
     let one = of .before in
     let a = one .before .before .before .args in
-    word-number (a .«record» .now) (a .record-id-size) (channelMeant (a .channel)) (sym (fixed one)) (of .number-form .ensures) (form .form .given .1)
+    word-number (a .«record» .now) (a .record-id-size) (channelMeant (a .channel)) (fixed one) (of .number-form .ensures) (form .form .given .1)
     (two .if2 .left) (find .find-word .ensures) (word .found .given .1)
 
 returns-5 : tie.Need-returns-5
@@ -50,7 +38,7 @@ returns-5 c =
     let of = form .before .before in
     let one = of .before in
     let a = one .before .before .before .args in
-    near-valued (a .«record» .now) (a .record-id-size) (channelMeant (a .channel)) (sym (fixed one)) (of .number-form .ensures) (form .form .given .1)
+    near-valued (a .«record» .now) (a .record-id-size) (channelMeant (a .channel)) (fixed one) (of .number-form .ensures) (form .form .given .1)
     (two .if2 .left) (find .find-word .ensures) (word .found .given .1) (c .near-value .ensures)
 
 pub decode-channel-value-spec : {M : Type 1} → statement M
@@ -58,19 +46,19 @@ decode-channel-value-spec =
     tie.close
     (tie.spec
     (λ c κs. search needs)
-    far-value-requires
+    (λ c κs. search needs)
     (λ c. search needs)
     (λ c κs. search needs)
     (λ c. search needs)
     (λ c. search needs)
-    far-value-requires-2
+    (λ c κs. search needs)
     (λ c. search needs)
-    far-value-requires-3
+    (λ c κs. search needs)
     (λ c. search needs)
     find-word-requires
     (λ c. search needs)
     (λ c. search needs)
-    far-value-requires-4
+    (λ c κs. search needs)
     (λ c. search needs)
     near-value-requires
     returns-5)

@@ -1,24 +1,37 @@
--- What is said of validity does not matter to the value, nor the code that an unknown type carries.
-use mathlib.Core.Path.{_∙_, ap}
+-- The field that was found gives the value, and a refusal is handed on.
+use mathlib.Core.Path.{refl, sym}
 use borrow.Author.Needs.{needs}
-use Rattle.definitions.specs.DataType.{DataType}
-use Rattle.fields.specs.Form.{formOf}
-use Rattle.fields.specs.Meaning.{channelMeant}
-use Rattle.decoder.proofs.WordFields.{laid-anew}
+use Rattle.fields.proofs.Values.{sound-at, handed-on, valued}
 use Rattle.decoder.proofs.decode.far_value.Statement.{statement}
 use Rattle.decoder.proofs.decode.far_value.Tie as tie
 
 returns : tie.Need-returns
 returns c =
-    let first = c .before .before in
-    let made = first .before in
-    let code = made .before in
-    let start = code .before .before in
-    laid-anew _ _ (channelMeant (start .args .channel)) _ (start .args .payload)
-    (ap formOf (made .from-u8 .ensures) ∙ code .decoding-code .ensures)
-    (start .pre) (first .one-if .ensures) (c .before .one-if2 .ensures) (c .any-value .ensures)
+    let found = c .before .before .before in
+    let form = found .before in
+    rw (sym (form .before .from-u8 .ensures), sym (form .form-of .ensures))
+    (handed-on (found .find-field .ensures .0) (c .refusal .ensures) refl)
+
+value-at-requires : tie.Need-value-at-requires
+value-at-requires c κs = sound-at (c .before .before .before .find-field .ensures .0) (c .before .found .given .1)
+
+returns-2 : tie.Need-returns-2
+returns-2 c =
+    let found = c .before .before .before .before in
+    let form = found .before in
+    rw (sym (form .before .from-u8 .ensures), sym (form .form-of .ensures))
+    (valued (found .find-field .ensures .0) (c .before .before .found .given .1) (form .form-of .ensures) (c .value-at .ensures) refl)
 
 pub far-value-spec : {M : Type 1} → statement M
 far-value-spec =
     tie.close
-    (tie.spec (λ c κs. search needs) (λ c κs. search needs) (λ c κs. search needs) (λ c κs. search needs) (λ c. search needs) (λ c κs. search needs) returns)
+    (tie.spec
+    (λ c κs. search needs)
+    (λ c κs. search needs)
+    (λ c κs. search needs)
+    (λ c. search needs)
+    (λ c. search needs)
+    (λ c κs. search needs)
+    returns
+    value-at-requires
+    returns-2)

@@ -21,7 +21,7 @@ returns-2 c =
     let code = c .before in
     let two = code .before .before in
     let one = two .before in
-    far-taken _ _ (channelMeant (one .before .before .before .args .channel)) _ (fixed one) (code .decoding-code .ensures) (c .far-double .ensures)
+    far-taken _ _ (channelMeant (one .before .before .before .args .channel)) _ (code .decoding-code .ensures) (fixed one) (c .far-double .ensures)
 
 returns-3 : tie.Need-returns-3
 returns-3 c = without-bits _ _ _ (fixed (c .before .before)) (c .if3 .taken)
@@ -30,7 +30,7 @@ returns-4 : tie.Need-returns-4
 returns-4 c =
     let code = c .before in
     let one = code .before .before .before .before .before .before .before in
-    far-taken _ _ (channelMeant (one .before .before .before .args .channel)) _ (fixed one) (code .decoding-code2 .ensures) (c .far-double2 .ensures)
+    far-taken _ _ (channelMeant (one .before .before .before .args .channel)) _ (code .decoding-code2 .ensures) (fixed one) (c .far-double2 .ensures)
 
 near-double-requires : tie.Need-near-double-requires
 near-double-requires c κs =
