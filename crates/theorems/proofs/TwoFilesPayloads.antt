@@ -13,7 +13,7 @@ use borrow.Author.Tests.{ne-eqb}
 use Rattle.definitions.specs.Reply.{Reply, Outcome, answer, refusal, if_then_else_, andThen}
 use Rattle.definitions.specs.Channel.{Channel, variableLength, valueOf, validOf}
 use Rattle.definitions.specs.Payload.{idSD, holdsPosition, positionOf, joinedOf, payloadOf, stored, PayloadValue, Outcomes, payloadValueOf, payloadBehind, payloadFetched}
-use Rattle.decoder.proofs.WordFields.{value-alike}
+use Rattle.decoder.proofs.WordFields.{laid-anew}
 use Rattle.fields.specs.Meaning.{channelMeant}
 use Rattle.fields.specs.declared.channel.Channel as code
 use Rattle.chain.specs.declared.place.FileAddress.{FileAddress}
@@ -75,8 +75,8 @@ module _ (c : Channel) (link : ℕ) (from : 0 < c .dataLink) (to : 0 < link) whe
 
   value-relinked : (s : List ℕ) (idSize : ℕ) → valueOf s idSize (relinked c link) ≡ valueOf s idSize c
   value-relinked s idSize =
-      sym (value-alike s idSize (relinked c link) (c .channelType) (c .dataLink) (sym variable-alike))
-      ∙ value-alike s idSize c (c .channelType) (c .dataLink) refl
+      sym (laid-anew s idSize (relinked c link) (c .dataType) refl {payload = variableLength c} (sym variable-alike) refl refl refl)
+      ∙ laid-anew s idSize c (c .dataType) refl refl refl refl refl
 
   judged-relinked : (s : List ℕ) (idSize dataBytes : ℕ) (payload : List ℕ)
       → payloadValueOf s idSize dataBytes (relinked c link) payload ≡ payloadValueOf s idSize dataBytes c payload
