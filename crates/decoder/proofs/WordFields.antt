@@ -203,9 +203,15 @@ module _ (s : List ℕ) (idSize : ℕ) (c : Channel) {word from : ℕ} (near : N
 
 -- ---- elsewhere
 
+-- what was looked for, of the channel that was laid down
+pub value-placed : (payload : Bool) (s : List ℕ) (at : ℕ) {form : Form} {c d : Channel} → form ≡ formOf (c .dataType) → c ≡ d
+    → valueAt (formKind form) payload s at c ≡ valueAt (formKind (formOf (d .dataType))) payload s at d
+value-placed payload s at {form} {c} {d} ef e =
+    ap (λ (f : Form). valueAt (formKind f) payload s at c) ef ∙ ap (λ (x : Channel). valueAt (formKind (formOf (x .dataType))) payload s at x) e
+
 -- the form of its type, its bit offset and its bit count say all of the value at a place
 abbrev pub alike : Channel → DataType → ℕ → Channel
-alike c type byteOffset = placed type 0 (c .bitOffset) byteOffset (c .bitCount) 0
+alike c type byteOffset = placed type (c .bitOffset) byteOffset (c .bitCount)
 
 form-alike : (f : Form) (s : List ℕ) (at n : ℕ) (c : Channel) (type : DataType) (o : ℕ) → formValue f s at n (alike c type o) ≡ formValue f s at n c
 form-alike (Number number big) s at n c type o = refl

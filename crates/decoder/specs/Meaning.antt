@@ -26,15 +26,15 @@ doubleAt k s idSize c = doubleIn (valueAt k false s (idSize + c .byteOffset) c)
 abbrev pub judgedReply : Bool → Reply Value → Reply ValidValue
 judgedReply valid reply = andThen reply (λ v. answer (record { value = v; valid = valid }))
 
--- a description with nothing said of validity
-abbrev pub placed : DataType → ℕ → ℕ → ℕ → ℕ → ℕ → Channel
-placed type channelType bitOffset byteOffset bitCount dataLink = record {
+-- a description with nothing said of payloads and of validity
+abbrev pub placed : DataType → ℕ → ℕ → ℕ → Channel
+placed type bitOffset byteOffset bitCount = record {
   dataType = type;
-  channelType = channelType;
+  channelType = 0;
   bitOffset = bitOffset;
   byteOffset = byteOffset;
   bitCount = bitCount;
   flags = 0;
   invalidationBit = 0;
-  dataLink = dataLink;
+  dataLink = 0;
 }

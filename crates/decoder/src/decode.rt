@@ -10,11 +10,11 @@ ghost use Rattle.fields.specs.Known.{Sound, valueAt};
 ghost use Rattle.decoder.specs.Meaning.{judgedReply, placed};
 ghost use Rattle.decoder.specs.Known.{InWord};
 use crate::alike::decoding_code;
+use crate::alike::placed_channel;
 use crate::near::NumberForm;
 use crate::near::WordFound;
 use crate::near::find_word;
 use crate::near::number_form;
-use blocks::DataType;
 use fields::Channel;
 use fields::DecodedChannelValue;
 use fields::DecodedValue;
@@ -46,7 +46,7 @@ fn value_at(record: &[u8], at: usize, size: usize, form: Form, channel: Channel)
     }
 }
 
-// The value of the field at a place. It takes numbers and not the channel, as `far_double` does, and for its reason.
+// The value of the field at a place
 fn far_value(
     record: &[u8],
     skipped: usize,
@@ -56,20 +56,11 @@ fn far_value(
     bit_offset: u8,
     bit_count: u32,
 ) -> ValueRead
-    ensures { λ r. ⌜ valueReply r ≡ valueAt (formKind (formOf (typeOf code))) payload (now («record» .entry)) (skipped + «byte_offset») (placed (typeOf code) 0 «bit_offset» 0 «bit_count» 0) ⌝ }
+    ensures { λ r. ⌜ valueReply r ≡ valueAt (formKind (formOf (typeOf code))) payload (now («record» .entry)) (skipped + «byte_offset») (placed (typeOf code) «bit_offset» 0 «bit_count») ⌝ }
 {
-    let data_type = DataType::from_u8(code);
+    let channel = placed_channel(code, bit_offset, 0, bit_count);
+    let data_type = channel.data_type;
     let form = form_of(data_type);
-    let channel = Channel {
-        data_type,
-        channel_type: 0,
-        bit_offset,
-        byte_offset: 0,
-        bit_count,
-        data: 0,
-        flags: 0,
-        pos_invalidation_bit: 0,
-    };
     let found = find_field(record, skipped, byte_offset, payload, form, channel);
     let FieldFound::Field { at, length } = found else {
         return ValueRead::Refused(found.refusal());

@@ -12,6 +12,7 @@ ghost use Rattle.fields.specs.Known.{Fitting};
 ghost use Rattle.decoder.specs.Meaning.{numberDouble, placed};
 ghost use Rattle.decoder.specs.Known.{Near};
 use crate::alike::decoding_code;
+use crate::alike::placed_channel;
 use crate::integer::signed_double;
 use crate::integer::unsigned_double;
 use crate::near::WordFound;
@@ -63,8 +64,7 @@ fn any_double(record: &[u8], record_id_size: usize, channel: Channel) -> u64
     number_double(number, channel.bit_count, x)
 }
 
-// It takes numbers and not the channel: that would have to lie in memory for it, and every near field would wait for that. The
-// record lies there too, so it is lent as a part of itself, which is laid down on this way alone.
+// The record lies in memory for it too, so it is lent as a part of itself, which is laid down on this way alone.
 fn far_double(
     record: &[u8],
     record_id_size: usize,
@@ -73,19 +73,9 @@ fn far_double(
     byte_offset: u32,
     bit_count: u32,
 ) -> u64
-    ensures { λ r. ⌜ r ≡ recordDouble (now («record» .entry)) «record_id_size» (placed (typeOf code) 0 «bit_offset» «byte_offset» «bit_count» 0) ⌝ }
+    ensures { λ r. ⌜ r ≡ recordDouble (now («record» .entry)) «record_id_size» (placed (typeOf code) «bit_offset» «byte_offset» «bit_count») ⌝ }
 {
-    let data_type = DataType::from_u8(code);
-    let channel = Channel {
-        data_type,
-        channel_type: 0,
-        bit_offset,
-        byte_offset,
-        bit_count,
-        data: 0,
-        flags: 0,
-        pos_invalidation_bit: 0,
-    };
+    let channel = placed_channel(code, bit_offset, byte_offset, bit_count);
     any_double(record, record_id_size, channel)
 }
 

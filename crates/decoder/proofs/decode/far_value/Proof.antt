@@ -1,7 +1,7 @@
 -- The field that was found gives the value, and a refusal is handed on.
-use mathlib.Core.Path.{refl, sym}
 use borrow.Author.Needs.{needs}
 use Rattle.fields.proofs.Values.{sound-at, handed-on, valued}
+use Rattle.decoder.proofs.WordFields.{value-placed}
 use Rattle.decoder.proofs.decode.far_value.Statement.{statement}
 use Rattle.decoder.proofs.decode.far_value.Tie as tie
 
@@ -9,8 +9,7 @@ returns : tie.Need-returns
 returns c =
     let found = c .before .before .before in
     let form = found .before in
-    rw (sym (form .before .from-u8 .ensures), sym (form .form-of .ensures))
-    (handed-on (found .find-field .ensures .0) (c .refusal .ensures) refl)
+    handed-on (found .find-field .ensures .0) (c .refusal .ensures) (value-placed _ (form .before .before .before .args .«record» .now) _ (form .form-of .ensures) (form .before .placed-channel .ensures))
 
 value-at-requires : tie.Need-value-at-requires
 value-at-requires c κs = sound-at (c .before .before .before .find-field .ensures .0) (c .before .found .given .1)
@@ -19,8 +18,8 @@ returns-2 : tie.Need-returns-2
 returns-2 c =
     let found = c .before .before .before .before in
     let form = found .before in
-    rw (sym (form .before .from-u8 .ensures), sym (form .form-of .ensures))
-    (valued (found .find-field .ensures .0) (c .before .before .found .given .1) (form .form-of .ensures) (c .value-at .ensures) refl)
+    valued (found .find-field .ensures .0) (c .before .before .found .given .1) (form .form-of .ensures) (c .value-at .ensures)
+    (value-placed _ (form .before .before .before .args .«record» .now) _ (form .form-of .ensures) (form .before .placed-channel .ensures))
 
 pub far-value-spec : {M : Type 1} → statement M
 far-value-spec =
