@@ -15,7 +15,7 @@ use Rattle.definitions.specs.Reply.{Reply, Outcome, answer, refusal, if_then_el
 use Rattle.definitions.specs.Bytes.{twosComplement, u64At}
 use Rattle.definitions.specs.Unicode.{Encoding, textWritten}
 use Rattle.definitions.specs.Header.{headerOf, headerWritten}
-use Rattle.definitions.specs.DataType.{DataType, unsignedInteger, signedInteger, float, complex, string, byteArray, mimeSample, mimeStream, canOpenDate, canOpenTime, unknown, ownsCode, kindOf}
+use Rattle.definitions.specs.DataType.{DataType, unsignedInteger, signedInteger, float, complex, string, byteArray, mimeSample, mimeStream, canOpenDate, canOpenTime, unknown, codeOf, ownsCode, kindOf}
 use Rattle.definitions.specs.Channel.{Channel, Value, ValidValue, signed, decoded, startOf, spanOf, numberIn, isNumber, isInteger, isFloating, valueBy, valueOf, validOf, validValueOf}
 use Rattle.definitions.specs.ChannelBlock.{ChannelBlock, fieldsAt, described, channelBlockOf, channelWritten}
 use Rattle.definitions.specs.DataList.{listOf, listWritten, equal, variable}
@@ -38,7 +38,7 @@ use Rattle.replies.specs.declared.fetches.Mf4Length.{Mf4Length}
 use Rattle.replies.specs.declared.fetches.Mf4Fetched.{Mf4Fetched}
 use Rattle.replies.proofs.ToldToC.{Tellable, Any, OwnType, Reversible, headerAgain, header-told, writtenAgain, written-told, listAgain, list-told, channelAgain, description-back, channel-told, textAgain, text-told, valueReplyAgain, value-told, validValueAgain, valid-value-told, lengthAgain, length-told, fetchedAgain, fetched-told}
 use Rattle.theorems.specs.ClausesToC.{ReadsHeaderC, WritesHeaderC, ReadsListC, WritesEqualC, WritesVariableC, ReadsChannelC, WritesChannelC, WritesTextC, ReadsValueC, ReadsValidValueC, ReadsLengthC, ReadsRecordC, ReadsRecordValueC}
-use Rattle.theorems.proofs.TypeCodes.{code-owned}
+use Rattle.theorems.proofs.TypeCodes.{code-back, code-owned}
 use Rattle.theorems.proofs.ChannelAnswers.{channel-stands}
 use Rattle.theorems.proofs.TextClausesToC.{text-clause}
 use Rattle.theorems.proofs.RefusalNumbers.{Numbered, OfBlocks, between, header-numbered, list-numbered, channel-numbered, header-written-numbered, channel-written-numbered, list-written-numbered, text-written-numbered, length-numbered, fetched-numbered}
@@ -147,6 +147,13 @@ pub mf4-read-channel-described : (κs : Lfts 1) (bytes : Slice) (y : Mf4ChannelR
     → channelBlockOf (bytes .now) ≡ answer b → channelGiven (y .block .channel) ≡ described b
 mf4-read-channel-described κs bytes y b p e =
     ap (λ (x : Mf4ChannelReply). channelGiven (x .block .channel)) (p ∙ ap channelC e) ∙ description-back (described b) (own-type (bytes .now) b e)
+
+-- and the code of its type is the byte that stands in the block, whatever it is
+pub mf4-read-channel-code : (κs : Lfts 1) (bytes : Slice) (y : Mf4ChannelReply) (b : ChannelBlock) → ReadsChannelC κs bytes y
+    → channelBlockOf (bytes .now) ≡ answer b → y .block .channel .«data_type» ≡ getD (drop (fieldsAt (u64At (bytes .now) 16)) (bytes .now)) 2 0
+mf4-read-channel-code κs bytes y b p e =
+    ap (λ (x : Mf4ChannelReply). x .block .channel .«data_type») (p ∙ ap channelC e)
+    ∙ ap (λ (x : ChannelBlock). codeOf (x .dataType)) (channel-stands (bytes .now) b e .1) ∙ code-back _
 
 pub mf4-write-channel-told : (κs : Lfts 1) (block : Mf4ChannelBlock) (out : Slice) (y : Mf4Written) (after : List ℕ)
     → WritesChannelC κs block out y after → writtenAgain y ≡ channelWritten (out .now) (blockGiven block) .reply
