@@ -1,7 +1,7 @@
 -- The data types of channels, and their codes.
 use Prim.Native.Nat.{ℕ}
 use mathlib.Core.List.{List, [], _∷_}
-use mathlib.Core.Bool.{Bool, true, false}
+use mathlib.Core.Bool.{Bool, true}
 use lib.ListN.{getD}
 use lib.Dec.{ltb}
 use Rattle.definitions.specs.Bytes.{Order, little, big}

@@ -21,7 +21,6 @@ use Rattle.records.specs.Window.{laid}
 use Rattle.records.proofs.Laying.{laid-whole}
 use Rattle.payloads.specs.Meaning.{Stores}
 use Rattle.payloads.specs.Found.{payloadFrom, Lies}
-use Rattle.payloads.specs.declared.payload.PayloadStored.{PayloadStored}
 use Rattle.payloads.specs.declared.payload.PayloadStored.the-variants.{Bytes, Refused as NotStored}
 
 -- ---- the payload of a record

@@ -1,5 +1,4 @@
 -- Channel blocks as C sees them.
-use Prim.Native.Nat.{ℕ}
 use Rattle.definitions.specs.Reply.{Reply, answer, refusal}
 use Rattle.definitions.specs.DataType.{codeOf}
 use Rattle.definitions.specs.Channel.{Channel}

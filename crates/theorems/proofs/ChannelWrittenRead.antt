@@ -1,6 +1,6 @@
 -- Reading gives what a channel block was written from, whatever bytes come after it: every field, an unknown type too, but one that
 -- was made with the code of another.
-use mathlib.Core.Path.{_≡_, refl, sym, ap, _∙_}
+use mathlib.Core.Path.{_≡_, refl, ap, _∙_}
 use mathlib.Core.Bool.{true}
 use mathlib.Core.List.{List, _++_}
 use Prim.Native.Nat.{ℕ, _+_, _*_, _^_, _<_}
@@ -8,7 +8,7 @@ use native.Mathlib.Nat.{mod-eq-of-lt}
 use native.Mathlib.Omega.{arith}
 use lib.ListN.{length, drop, length-append}
 use Rattle.definitions.specs.Reply.{answer}
-use Rattle.definitions.specs.Bytes.{little, leOf, le, les, u64At, idAt}
+use Rattle.definitions.specs.Bytes.{leOf, le, les, u64At, idAt}
 use Rattle.definitions.specs.Header.{Header, headerIn, headerBytes}
 use Rattle.definitions.specs.ChannelBlock.{ChannelBlock, idCN, blockIn, channelBlockOf, channelHeader, channelBytes}
 use Rattle.words.proofs.Numbers.{le-back}

@@ -16,7 +16,7 @@ use Rattle.definitions.specs.Payload.{idSD, positionOf, payloadAt, joinedOf, pa
 use Rattle.definitions.proofs.Replies.{not-answered}
 use Rattle.words.proofs.Spans.{length-span}
 use Rattle.chain.proofs.Answers.{answered, followed, passed}
-use Rattle.theorems.specs.Exactly.{Exactly, Fetchable, recordBytes, PayloadFetchable}
+use Rattle.theorems.specs.Exactly.{Exactly, recordBytes, PayloadFetchable}
 use Rattle.theorems.proofs.AcceptedChains.{accepted, accepts}
 use Rattle.theorems.proofs.PayloadEnds.{payload-replied, by-record, Answered, payload-answered}
 

@@ -13,7 +13,7 @@ use borrow.Author.Tests.{ne-eqb}
 use Rattle.definitions.specs.Reply.{Reply, Outcome, answer, refusal, if_then_else_, andThen}
 use Rattle.definitions.specs.Channel.{Channel, variableLength, valueOf, validOf}
 use Rattle.definitions.specs.Payload.{idSD, holdsPosition, positionOf, joinedOf, payloadOf, stored, PayloadValue, Outcomes, payloadValueOf, payloadBehind, payloadFetched}
-use Rattle.decoder.proofs.WordFields.{laid-anew}
+use Rattle.decoder.proofs.LaidAnew.{laid-anew}
 use Rattle.fields.specs.Meaning.{channelMeant}
 use Rattle.fields.specs.declared.channel.Channel as code
 use Rattle.chain.specs.declared.place.FileAddress.{FileAddress}

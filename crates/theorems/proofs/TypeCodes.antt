@@ -58,7 +58,10 @@ type-written t = go (ownsCode t) refl
 
 -- the exception: made with a code from 0 to 16, an unknown type goes back to it, and is read as its type, which is no unknown one
 pub unknown-read : (n : ℕ) → n ≤ 16 → (typeOf (codeOf (unknown n)) ≡ typeOf n) × ((m : ℕ) → typeOf n ≡ unknown m → ⊥)
-unknown-read n few = (refl, λ m e. none m (sym (code-back n) ∙ ap codeOf e) (ltb-true _ _ (sym (ap ownsCode e) ∙ code-owned n)))
-  where
-    none : (m : ℕ) → n ≡ m → 16 < m → ⊥
-    none m same above = omega arith
+unknown-read n few = (
+  refl,
+  λ m e.
+      let same : n ≡ m = sym (code-back n) ∙ ap codeOf e in
+      let above : 16 < m = ltb-true _ _ (sym (ap ownsCode e) ∙ code-owned n) in
+      omega arith,
+)

@@ -3,7 +3,7 @@ use mathlib.Core.Path.{refl, sym, _∙_}
 use borrow.Author.Needs.{needs}
 use Rattle.definitions.specs.DataType.{typeOf}
 use Rattle.fields.specs.Meaning.{channelMeant}
-use Rattle.decoder.proofs.WordFields.{laid-anew}
+use Rattle.decoder.proofs.LaidAnew.{laid-anew}
 use Rattle.decoder.proofs.decode.any_value.Statement.{statement}
 use Rattle.decoder.proofs.decode.any_value.Tie as tie
 

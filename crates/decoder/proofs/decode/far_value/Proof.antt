@@ -1,7 +1,7 @@
 -- The field that was found gives the value, and a refusal is handed on.
 use borrow.Author.Needs.{needs}
 use Rattle.fields.proofs.Values.{sound-at, handed-on, valued}
-use Rattle.decoder.proofs.WordFields.{value-placed}
+use Rattle.decoder.proofs.LaidAnew.{value-placed}
 use Rattle.decoder.proofs.decode.far_value.Statement.{statement}
 use Rattle.decoder.proofs.decode.far_value.Tie as tie
 

@@ -6,7 +6,8 @@ use native.Mathlib.Omega.{arith}
 use Rattle.definitions.specs.Channel.{variableLength}
 use Rattle.fields.specs.Meaning.{channelMeant}
 use Rattle.decoder.proofs.Doubles.{double-payload}
-use Rattle.decoder.proofs.WordFields.{near-by, without-bits, far-taken}
+use Rattle.decoder.proofs.LaidAnew.{far-taken}
+use Rattle.decoder.proofs.WordFields.{near-by, without-bits}
 use Rattle.decoder.proofs.double.decode_f64_from_record.Statement.{statement}
 use Rattle.decoder.proofs.double.decode_f64_from_record.Tie as tie
 
