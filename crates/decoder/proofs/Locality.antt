@@ -5,11 +5,11 @@ use mathlib.Core.List.{List}
 use Prim.Native.Nat.{ℕ, _+_, _≤_, _<_}
 use lib.ListN.{length}
 use Rattle.definitions.specs.Bytes.{bytesFor}
-use Rattle.definitions.specs.DataType.{kindOf}
+use Rattle.definitions.specs.DataType.{kindOf, orderOf}
 use Rattle.definitions.specs.Channel.{Channel, variableLength, isNumber, doubleIn, recordDouble}
 use Rattle.words.proofs.Numbers.{Bytes}
 use Rattle.words.proofs.Locality as words
-use Rattle.fields.proofs.Locality.{orderOf, locality}
+use Rattle.fields.proofs.Locality.{locality}
 use Rattle.decoder.proofs.Doubles.{double-fixed}
 
 module _ (s t : List ℕ) (idSize : ℕ) (c : Channel) (fixed : variableLength c ≡ false) (number : isNumber (kindOf (c .dataType)) ≡ true) where

@@ -4,6 +4,7 @@ use mathlib.Core.List.{List, [], _∷_, _++_, reverse}
 use mathlib.Core.Bool.{Bool, _&&_}
 use lib.IntN.{ℤ, pos, negsuc}
 use lib.ListN.{getD, take, drop}
+use lib.Seq.{sets}
 use lib.Dec.{ltb, eqb}
 use Rattle.definitions.specs.Reply.{if_then_else_}
 
@@ -69,6 +70,20 @@ bytesFor offset count = (offset + count + 7) / 8
 -- the bit field of the bytes of s from `at` on, in the given order
 abbrev pub fieldAt : Order → List ℕ → ℕ → ℕ → ℕ → ℕ
 fieldAt o s at offset count = bits (numberOf o (span s at (bytesFor offset count))) offset count
+
+-- back: the n lowest bytes of a number in either order
+abbrev pub bytesOf : Order → ℕ → ℕ → List ℕ
+bytesOf little n x = le n x
+bytesOf big n x = reverse (le n x)
+
+-- a number with x in the place of its bit field: the field taken off, and x put on
+abbrev pub withBits : ℕ → ℕ → ℕ → ℕ → ℕ
+withBits n offset count x = n - bits n offset count * 2 ^ offset + x * 2 ^ offset
+
+-- the bytes s with x in their bit field from `at` on: the span stands for its old number with x in that field
+abbrev pub fieldSet : Order → List ℕ → ℕ → ℕ → ℕ → ℕ → List ℕ
+fieldSet o s at offset count x =
+    sets s at (bytesOf o (bytesFor offset count) (withBits (numberOf o (span s at (bytesFor offset count))) offset count x))
 
 -- which of the n bytes of a span holds bit k of its number
 abbrev pub byteWith : Order → ℕ → ℕ → ℕ

@@ -74,6 +74,20 @@ defaultBits canOpenTime = 64
 defaultBits (complex o) = 64
 defaultBits (unknown code) = 8
 
+-- the order of a number's bytes; of the others none is asked
+abbrev pub orderOf : DataType → Order
+orderOf (unsignedInteger o) = o
+orderOf (signedInteger o) = o
+orderOf (float o) = o
+orderOf (complex o) = o
+orderOf (string e) = little
+orderOf byteArray = little
+orderOf mimeSample = little
+orderOf mimeStream = little
+orderOf canOpenDate = little
+orderOf canOpenTime = little
+orderOf (unknown code) = little
+
 -- how a type's field lies in a record: an integer or a float of some bits, whole bytes, or bits that nothing here decodes
 pub data Kind : Type 0 where
   integer floating whole undecoded : Kind

@@ -4,6 +4,7 @@ use mathlib.Core.Logic.{_⊎_}
 use mathlib.Core.Bool.{Bool, Bool·beq}
 use Prim.Native.Nat.{ℕ, _+_, _-_, _*_, _%_, _^_, _≤_}
 use lib.IntN.{ℤ}
+use lib.Dec.{eqb}
 use lib.Ieee.{binary32, binary64, round, ofInt, ofBits, toBits}
 use lib.Ieee.Exact.{HasValue}
 use Rattle.definitions.specs.Reply.{if_then_else_}
@@ -23,6 +24,14 @@ doubleOfSign negative n = toBits binary64 (round binary64 negative n 1)
 -- the pattern of the double with the value of a 32-bit pattern; any NaN becomes the one above
 abbrev pub widened : ℕ → ℕ
 widened b = toBits binary64 (ofBits binary32 b)
+
+-- back: the 32-bit pattern that has a double's value, where there is one; of the NaN above 0x7FC00000
+abbrev pub narrowed : ℕ → ℕ
+narrowed b = toBits binary32 (ofBits binary64 b)
+
+-- whether there is one: widening returns the same bits
+abbrev pub narrows : ℕ → Bool
+narrows b = eqb (widened (narrowed b)) b
 
 -- Nearest, said over whole numbers. Every finite double is a whole number of 2^-1074, the smallest one above 0:
 -- `HasValue x s a unit` says that the double x is +a of them, or -a where the sign s is true.

@@ -6,6 +6,8 @@ pub mod Unicode
 pub mod Header
 pub mod DataType
 pub mod Channel
+pub mod WrittenValue
+pub mod Overlap
 pub mod ChannelBlock
 pub mod DataList
 pub mod Chain

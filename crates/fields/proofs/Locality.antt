@@ -10,9 +10,9 @@ use lib.Seq.{ext-getD}
 use lib.Dec.{ltb, eqb}
 use borrow.Author.Tests.{ltb-false}
 use Rattle.definitions.specs.Reply.{refusal}
-use Rattle.definitions.specs.Bytes.{Order, little, span, bytesFor}
+use Rattle.definitions.specs.Bytes.{span, bytesFor}
 use Rattle.definitions.specs.Unicode.{stopped}
-use Rattle.definitions.specs.DataType.{DataType, unsignedInteger, signedInteger, float, complex, string, byteArray, mimeSample, mimeStream, canOpenDate, canOpenTime, unknown, Kind, integer, floating, whole, undecoded, kindOf}
+use Rattle.definitions.specs.DataType.{DataType, unsignedInteger, signedInteger, float, complex, string, byteArray, mimeSample, mimeStream, canOpenDate, canOpenTime, unknown, Kind, integer, floating, whole, undecoded, kindOf, orderOf}
 use Rattle.definitions.specs.Channel.{Channel, Value, unsigned, signed, text, variableLength, startOf, bitSpan, spanIn, spanOf, doubleValue, floatBits, numberIn, decoded, isInteger, isFloating, isNumber, valueBy, valueOf}
 use Rattle.definitions.specs.Bytes.{twosComplement}
 use Rattle.definitions.proofs.Replies.{not-answered}
@@ -21,20 +21,6 @@ use Rattle.words.proofs.Locality as words
 use Rattle.words.proofs.Spans.{length-span, getD-span}
 use Rattle.fields.proofs.Fields.{inTurn, tested, value-tested}
 use Rattle.fields.proofs.Types.{number-types}
-
--- the byte order of a number
-abbrev pub orderOf : DataType → Order
-orderOf (unsignedInteger o) = o
-orderOf (signedInteger o) = o
-orderOf (float o) = o
-orderOf (complex o) = o
-orderOf (string e) = little
-orderOf byteArray = little
-orderOf mimeSample = little
-orderOf mimeStream = little
-orderOf canOpenDate = little
-orderOf canOpenTime = little
-orderOf (unknown code) = little
 
 -- a number is its field
 by-field : (type : DataType) (s t : List ℕ) (at n : ℕ) (c : Channel) → isNumber (kindOf type) ≡ true

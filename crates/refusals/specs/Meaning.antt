@@ -2,7 +2,7 @@
 use Prim.Native.Nat.{ℕ}
 use Rattle.definitions.specs.Reply.{Reply, refusal}
 use Rattle.refusals.specs.declared.Refusal.{Refusal}
-use Rattle.refusals.specs.declared.Refusal.the-variants.{TooFewBytes, OtherId, NoLinks, UnwritableList, NoRoom, FileTooLong, TooManyLists, TooManyFragments, ListDisagrees, NoBlockThere, BadDataBlock, UntrueDeclaration, DataTooLong, BadRecordSize, NoSuchRecord, TooFewLinks, NoBits, BadBitOffset, IntegerTooWide, FieldOutside, BadFloatWidth, PayloadOutside, NoPosition}
+use Rattle.refusals.specs.declared.Refusal.the-variants.{TooFewBytes, OtherId, NoLinks, UnwritableList, NoRoom, FileTooLong, TooManyLists, TooManyFragments, ListDisagrees, NoBlockThere, BadDataBlock, UntrueDeclaration, DataTooLong, BadRecordSize, NoSuchRecord, TooFewLinks, NoBits, BadBitOffset, IntegerTooWide, FieldOutside, BadFloatWidth, PayloadOutside, DoesNotFit, OtherKind, TooManyChannels, NoFixedNumber, NoPosition}
 
 abbrev pub refusalNumber : Refusal → ℕ
 refusalNumber (TooFewBytes n) = 2
@@ -27,6 +27,10 @@ refusalNumber IntegerTooWide = 20
 refusalNumber (FieldOutside n) = 21
 refusalNumber BadFloatWidth = 22
 refusalNumber PayloadOutside = 23
+refusalNumber DoesNotFit = 24
+refusalNumber OtherKind = 25
+refusalNumber TooManyChannels = 26
+refusalNumber (NoFixedNumber place) = 27
 refusalNumber NoPosition = 35
 
 abbrev pub toldOf : Refusal → ℕ
@@ -52,6 +56,10 @@ toldOf IntegerTooWide = 0
 toldOf (FieldOutside n) = n
 toldOf BadFloatWidth = 0
 toldOf PayloadOutside = 0
+toldOf DoesNotFit = 0
+toldOf OtherKind = 0
+toldOf TooManyChannels = 0
+toldOf (NoFixedNumber place) = place
 toldOf NoPosition = 0
 
 abbrev pub refused : {A : Type 0} → Refusal → Reply A

@@ -47,6 +47,14 @@ pub enum Refusal {
     BadFloatWidth,
     // 23
     PayloadOutside,
+    // 24
+    DoesNotFit,
+    // 25
+    OtherKind,
+    // 26
+    TooManyChannels,
+    // 27, with the place of the entry
+    NoFixedNumber(u64),
     // 35
     NoPosition,
 }
@@ -78,6 +86,10 @@ impl Refusal {
             Refusal::FieldOutside(_) => 21,
             Refusal::BadFloatWidth => 22,
             Refusal::PayloadOutside => 23,
+            Refusal::DoesNotFit => 24,
+            Refusal::OtherKind => 25,
+            Refusal::TooManyChannels => 26,
+            Refusal::NoFixedNumber(_) => 27,
             Refusal::NoPosition => 35,
         }
     }
@@ -109,6 +121,10 @@ impl Refusal {
             Refusal::FieldOutside(n) => n,
             Refusal::BadFloatWidth => 0,
             Refusal::PayloadOutside => 0,
+            Refusal::DoesNotFit => 0,
+            Refusal::OtherKind => 0,
+            Refusal::TooManyChannels => 0,
+            Refusal::NoFixedNumber(place) => place,
             Refusal::NoPosition => 0,
         }
     }

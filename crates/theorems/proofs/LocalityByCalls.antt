@@ -8,11 +8,11 @@ use contract.Lifetimes.{Lfts}
 use lib.ListN.{length, getD}
 use Rattle.definitions.specs.Reply.{Reply, answer, refusal, andThen}
 use Rattle.definitions.specs.Bytes.{bytesFor}
-use Rattle.definitions.specs.DataType.{kindOf}
+use Rattle.definitions.specs.DataType.{kindOf, orderOf}
 use Rattle.definitions.specs.Channel.{Channel, Value, variableLength, spanIn, isNumber, valueOf, validValueOf, doubleIn, recordDouble}
 use Rattle.words.proofs.Numbers.{Bytes}
 use Rattle.words.proofs.Locality.{recordBit}
-use Rattle.fields.proofs.Locality.{orderOf, locality, content-locality, refusal-locality}
+use Rattle.fields.proofs.Locality.{locality, content-locality, refusal-locality}
 use Rattle.fields.proofs.OneBit.{invalidationBitIn, one-bit}
 use Rattle.decoder.proofs.Doubles.{double-fixed}
 use Rattle.fields.proofs.Back.{value-one, valid-value-one}
