@@ -55,7 +55,7 @@ pub swap-end : (left done rest : ℕ) {whole : ℕ} → left ≡ 0 → whole ≡
 swap-end left done rest l e = sym (e ∙ ap (λ (n : ℕ). done * 2 ^ (8 * n) + numberOf big (le n rest)) l ∙ none-left done rest)
 
 -- the bytes of a number are its lower n and those above
-le-split : (n m x : ℕ) → le (n + m) x ≡ le n x ++ le m (x / 2 ^ (8 * n))
+pub le-split : (n m x : ℕ) → le (n + m) x ≡ le n x ++ le m (x / 2 ^ (8 * n))
 unfolding le
 le-split zero m x = ap (λ (k : ℕ). le k x) {x = 0 + m} {y = m} (omega arith) ∙ ap (λ (y : ℕ). le m y) (sym (div-one x))
 le-split (suc n) m x =

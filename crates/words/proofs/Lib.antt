@@ -11,3 +11,7 @@ pub mod Ways
 pub mod Signs
 pub mod Ids
 pub mod Ends
+pub mod BytesOf
+pub mod Replaced
+pub mod WaysBack
+pub mod StoredFields

@@ -36,7 +36,7 @@ getD-reverse (b ∷ bs) q h =
     (eq-or-lt-of-le (le-of-suc-le-suc h))
 
 -- the byte that holds bit k is among the n bytes
-byte-inside : (o : Order) (n k : ℕ) → k < 8 * n → byteWith o n k < n
+pub byte-inside : (o : Order) (n k : ℕ) → k < 8 * n → byteWith o n k < n
 byte-inside little n k h = omega arith
 byte-inside big n k h = omega arith
 
@@ -53,7 +53,7 @@ number-bit big bs k b h =
 abbrev pub recordBit : Order → List ℕ → ℕ → ℕ → ℕ → ℕ
 recordBit o s at n k = bit (getD s (at + byteWith o n k) 0) (k % 8)
 
-span-bit : (o : Order) (s : List ℕ) (at n k : ℕ) → Bytes s → at + n ≤ length s → k < 8 * n
+pub span-bit : (o : Order) (s : List ℕ) (at n k : ℕ) → Bytes s → at + n ≤ length s → k < 8 * n
     → bit (numberOf o (span s at n)) k ≡ recordBit o s at n k
 span-bit o s at n k b h l =
     let e : length (span s at n) ≡ n = length-span s at n h in

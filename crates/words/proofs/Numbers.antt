@@ -37,12 +37,12 @@ pub append : (o : Order) (xs ys : List ℕ)
 append little xs ys = le-append xs ys
 append big xs ys = rw (reverse-append, le-append, length-reverse)
 
-bytes-append : (xs ys : List ℕ) → Bytes xs → Bytes ys → Bytes (xs ++ ys)
+pub bytes-append : (xs ys : List ℕ) → Bytes xs → Bytes ys → Bytes (xs ++ ys)
 bytes-append [] ys a b i = b i
 bytes-append (x ∷ xs) ys a b zero = a zero
 bytes-append (x ∷ xs) ys a b (suc i) = bytes-append xs ys (λ j. a (suc j)) b i
 
-bytes-cons : (x : ℕ) (xs : List ℕ) → x < 256 → Bytes xs → Bytes (x ∷ xs)
+pub bytes-cons : (x : ℕ) (xs : List ℕ) → x < 256 → Bytes xs → Bytes (x ∷ xs)
 bytes-cons x xs h b zero = h
 bytes-cons x xs h b (suc i) = b i
 

@@ -1,7 +1,8 @@
-// Numbers in bytes: read, cut to bit fields, given a sign, written, and block ids compared.
+// Numbers in bytes: read, cut to bit fields, given a sign, written, put into bit fields, and block ids compared.
 mod field;
 mod id;
 mod read;
+mod replace;
 mod signed;
 mod write;
 
@@ -18,6 +19,8 @@ pub use read::read_u16_le;
 pub use read::read_u32_le;
 pub use read::read_u64_be;
 pub use read::read_u64_le;
+pub use replace::put_field_be;
+pub use replace::put_field_le;
 pub use signed::signed_of;
 pub use write::put_all_le;
 pub use write::put_le;
