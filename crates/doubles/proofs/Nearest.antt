@@ -2,13 +2,13 @@
 -- one made is 0: `nearest`, for both signs, among the doubles of both signs.
 use mathlib.Core.Path.{_≡_, refl, sym, ap, _∙_, subst}
 use mathlib.Core.Logic.{_⊎_, inl, inr, ⊎-elim}
-use mathlib.Core.Bool.{Bool, true, false, not, cond}
+use mathlib.Core.Bool.{Bool, true, false, cond}
 use Prim.Native.Nat.{ℕ, zero, suc, _+_, _-_, _*_, _/_, _%_, _^_, _≤_, _<_, zero-le}
 use Prim.Native.Nat.{compare, Ordering, Ordering·lt, Ordering·eq, Ordering·gt}
 use native.Mathlib.Nat.{le-trans, le-of-eq, lt-of-lt-of-le, lt-of-le-of-lt, eq-zero-or-pos}
 use native.Mathlib.Nat.{mul-le-mul-right, mul-assoc, suc-mul, div-add-mod', mod-lt}
 use native.Mathlib.Omega.{arith}
-use lib.Dec.{T, eqb, leb, leb→le, nleb→lt, lit<}
+use lib.Dec.{eqb, leb, lit<}
 use lib.Pow.{pow-add, pow-pos, pow-mono, shl-lt}
 use lib.Ieee as ieee
 use lib.Ieee.{Float, nan, inf, binary64, odd, round, ofFields, ofBits, toBits}
@@ -16,7 +16,7 @@ use lib.Ieee.Exact.{HasValue, odd-sign}
 use lib.Ieee.Nearest.{closest}
 use Rattle.definitions.specs.Ieee754.{unit, signedDistance, doubleOfSign, Nearest}
 use Rattle.doubles.proofs.Pattern.{signBit, one-size}
-use Rattle.doubles.proofs.Ties.{Compared, compared}
+use Rattle.doubles.proofs.Ties.{Compared, compared, le-or-lt}
 use Rattle.doubles.proofs.Whole.{dropped, kept, reaches, value-kept, pattern-kept, read-back}
 
 -- ---- among the multiples of u
@@ -26,13 +26,6 @@ distance a b = a - b + (b - a)
 -- C, which is c times something, is as near to a as X is, and nearer unless X is C or c is even
 abbrev Best : ℕ → ℕ → ℕ → ℕ → Type 0
 Best a c C X = (distance a C ≤ distance a X) × (distance a C ≡ distance a X → (X ≡ C) ⊎ (c % 2 ≡ 0))
-
-le-or-lt : (a b : ℕ) → (a ≤ b) ⊎ (b < a)
-le-or-lt a b = go (leb a b) (leb→le a b) (nleb→lt a b)
-  where
-    go : (t : Bool) → (T t → a ≤ b) → (T (not t) → b < a) → (a ≤ b) ⊎ (b < a)
-    go true y n = inl (y tt)
-    go false y n = inr (n tt)
 
 -- of two multiples one is no greater, or greater by u at least
 steps : (t w u : ℕ) → (t * u ≤ w * u) ⊎ (w * u + u ≤ t * u)

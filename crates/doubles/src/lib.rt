@@ -1,10 +1,13 @@
-// Patterns of doubles, made with integers alone: of integers, and of 32-bit floats.
+// Patterns of doubles, made with integers alone: of integers, and of 32-bit floats, which are made of them again.
+mod narrowing;
 mod patterns;
 mod round;
 mod sign;
 mod value;
 mod widening;
 
+pub use narrowing::Narrowed;
+pub use narrowing::narrow;
 pub use patterns::NAN;
 pub use round::double_of;
 pub use sign::double_of_sign;

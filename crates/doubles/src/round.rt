@@ -6,9 +6,8 @@ ghost use lib.Ieee.{nearest};
 ghost use Rattle.definitions.specs.Ieee754.{doubleOf};
 use crate::patterns::BIAS;
 use crate::patterns::FRACTION_BITS;
+use crate::patterns::LEADING;
 
-// The leading bit of a significand. It is always set, so no pattern stores it.
-const LEADING: u64 = 1 << FRACTION_BITS;
 // A significand keeps 53 bits of a word whose highest is set. Its last one counts 2^11 there, and the 11 below are dropped.
 const LAST_KEPT: u64 = 1 << (64 - 53);
 

@@ -2,28 +2,21 @@
 ghost use mathlib.Core.Path.{_≡_};
 ghost use Prim.Native.Nat.{_<_};
 ghost use Rattle.definitions.specs.Ieee754.{widened};
-use crate::patterns::BIAS;
+use crate::patterns::ALL_BUT_SIGN_32;
 use crate::patterns::FRACTION_BITS;
 use crate::patterns::INFINITY;
+use crate::patterns::INFINITY_32;
+use crate::patterns::LEAST_NORMAL_32;
+use crate::patterns::MORE_BIAS;
+use crate::patterns::MORE_FRACTION_BITS;
 use crate::patterns::NAN;
+use crate::patterns::SIGN_32;
+use crate::patterns::UNIT_PLACES_32;
 use crate::round::double_of;
 use crate::sign::with_sign;
 
-// Patterns of 32-bit floats.
-const LEAST_NORMAL_32: u32 = 0x0080_0000;
-
-const INFINITY_32: u32 = 0x7f80_0000;
-
-const SIGN_32: u32 = 0x8000_0000;
-
-const ALL_BUT_SIGN_32: u32 = 0x7fff_ffff;
-
-// What a double has more: a 32-bit float has a fraction of 23 bits, and a bias of 127.
-const MORE_FRACTION_BITS: u32 = FRACTION_BITS - 23;
-
-const MORE_BIAS: u64 = (BIAS - 127) << FRACTION_BITS;
-// A pattern below the normal ones counts units of 2^-149: that exponent, in the field of a double.
-const SUBNORMAL_EXPONENT: u64 = 149 << FRACTION_BITS;
+// The exponent of one unit, in the field of a double
+const SUBNORMAL_EXPONENT: u64 = UNIT_PLACES_32 << FRACTION_BITS;
 
 // The number of units as a double, whose exponent is lowered to theirs. Only 0 has none to lower.
 fn widen_subnormal(magnitude: u32) -> u64
