@@ -1,0 +1,105 @@
+-- The bits that are made of a number stand for it, and they are the only ones: made of what some bits stand for, they are these.
+use mathlib.Core.Path.{_≡_, refl, sym, ap, _∙_, subst}
+use mathlib.Core.Bool.{Bool, true, false, true≢false}
+use Prim.Native.Nat.{ℕ, suc, _-_, _^_, _≤_, _<_}
+use native.Mathlib.Omega.{arith}
+use lib.IntN.{ℤ, pos, negsuc}
+use lib.Dec.{ltb, eqb}
+use borrow.Author.Tests.{ltb-true, ltb-false, lt-ltb, le-ltb, eqb-true, eqb-false, eq-eqb, ne-eqb}
+use Rattle.definitions.specs.Reply.{Reply, answer, refusal, if_then_else_}
+use Rattle.definitions.specs.Bytes.{twosComplement}
+use Rattle.definitions.specs.Ieee754.{widened, narrowed, narrows}
+use Rattle.definitions.specs.Channel.{Value, unsigned, signed, double, text, bytes, sample, stream, unknownValue, doubleValue, floatBits, isFloating}
+use Rattle.definitions.specs.WrittenValue.{Given, givenUnsigned, givenSigned, givenDouble, givenOther, fitting, complementOf}
+use Rattle.definitions.proofs.Replies.{not-answered}
+use Rattle.doubles.proofs.Narrowed.{narrowed-back, narrowed-lt, widened-narrows, ComesBack, comes-back}
+use Rattle.fields.specs.Form.{numberKind, numberValue}
+use Rattle.fields.specs.declared.form.Number.{Number}
+use Rattle.fields.specs.declared.form.Number.the-variants.{Unsigned, Signed, Float}
+use Rattle.encoder.specs.Meaning.{valueGiven, numberField}
+use Rattle.encoder.proofs.Digits.{twice}
+
+answer-back : {A : Type 0} {a b : A} → answer a ≡ answer b → a ≡ b
+answer-back {A} {a} e = ap from e
+  where
+    from : Reply A → A
+    from (answer x) = x
+    from (refusal n t) = a
+
+-- what fits was tested
+fitted : (t : Bool) (x : ℕ) {y : ℕ} → fitting t x ≡ answer y → (t ≡ true) × (x ≡ y)
+fitted true x e = (refl, answer-back e)
+fitted false x {y} e = absurd (not-answered y 24 0 e)
+
+-- ---- the bits stand for the number
+
+-- two's complement
+complement-stands : (count : ℕ) (z : ℤ) (x : ℕ) → 1 ≤ count → complementOf count z ≡ answer x → (x < 2 ^ count) × (twosComplement count x ≡ z)
+complement-stands count (pos n) x h e =
+    let t = fitted (ltb n (2 ^ (count - 1))) n e in
+    let l : n < 2 ^ (count - 1) = ltb-true n (2 ^ (count - 1)) (t .0) in
+    let i : n ≡ x = t .1 in
+    (omega (arith, twice count h), subst (λ (y : ℕ). twosComplement count y ≡ pos n) i (rw (t .0)))
+complement-stands count (negsuc n) x h e =
+    let t = fitted (ltb n (2 ^ (count - 1))) (2 ^ count - suc n) e in
+    let l : n < 2 ^ (count - 1) = ltb-true n (2 ^ (count - 1)) (t .0) in
+    let i : 2 ^ count - suc n ≡ x = t .1 in
+    let f : ltb x (2 ^ (count - 1)) ≡ false = le-ltb x (2 ^ (count - 1)) (omega (arith, twice count h)) in
+    let v : 2 ^ count - suc x ≡ n = omega (arith, twice count h) in
+    (omega (arith, twice count h), rw f (ap negsuc v))
+
+-- a float is a pattern of 64 bits, or it has 32
+module _ (count x : ℕ) (width : (count ≡ 64 → ⊥) → count ≡ 32) where
+  float-stands : (b : ℕ) → x < 2 ^ 64 → (if eqb count 64 then answer b else fitting (narrows b) (narrowed b)) ≡ answer x
+      → (x < 2 ^ count) × (floatBits count x ≡ b)
+  float-stands b l e = go (eqb count 64) refl e
+    where
+      go : (t : Bool) → eqb count 64 ≡ t → (if t then answer b else fitting (narrows b) (narrowed b)) ≡ answer x → (x < 2 ^ count) × (floatBits count x ≡ b)
+      go true et e =
+          let n : count ≡ 64 = eqb-true count 64 et in
+          (subst (λ (k : ℕ). x < 2 ^ k) (sym n) l, rw et (sym (answer-back e)))
+      go false et e =
+          let n : count ≡ 32 = width (eqb-false count 64 et) in
+          let f = fitted (narrows b) (narrowed b) e in
+          let small : x < 2 ^ 32 = subst (λ (y : ℕ). y < 2 ^ 32) (f .1) (narrowed-lt b (f .0)) in
+          let back : widened x ≡ b = subst (λ (y : ℕ). widened y ≡ b) (f .1) (narrowed-back b (f .0)) in
+          (subst (λ (k : ℕ). x < 2 ^ k) (sym n) small, rw et back)
+
+  -- and the pattern of a float that comes back is made again
+  float-made : x < 2 ^ count → (count ≡ 32 → ComesBack x)
+      → (if eqb count 64 then answer (floatBits count x) else fitting (narrows (floatBits count x)) (narrowed (floatBits count x))) ≡ answer x
+  float-made l comes = go (eqb count 64) refl
+    where
+      go : (t : Bool) → eqb count 64 ≡ t
+          → (if t then answer (if t then x else widened x) else fitting (narrows (if t then x else widened x)) (narrowed (if t then x else widened x))) ≡ answer x
+      go true et = refl
+      go false et =
+          let n : count ≡ 32 = width (eqb-false count 64 et) in
+          let small : x < 2 ^ 32 = subst (λ (k : ℕ). x < 2 ^ k) n l in
+          ap (λ (t : Bool). fitting t (narrowed (widened x))) (widened-narrows x) ∙ ap answer (comes-back x small (comes n))
+
+pub record Stands (number : Number) (count : ℕ) (v : Given) (x : ℕ) : Type 0 where
+  pub below : x < 2 ^ count
+  pub value : numberValue number count x ≡ valueGiven v
+
+module _ (count x : ℕ) (some : 1 ≤ count) where
+  pub stands : (number : Number) (v : Given) → x < 2 ^ 64 → (isFloating (numberKind number) ≡ true → (count ≡ 64 → ⊥) → count ≡ 32)
+      → numberField number count v ≡ answer x → Stands number count v x
+  stands Unsigned (givenUnsigned n) l width e =
+      let t = fitted (ltb n (2 ^ count)) n e in
+      record { below = subst (λ (y : ℕ). y < 2 ^ count) (t .1) (ltb-true n (2 ^ count) (t .0)); value = ap unsigned (sym (t .1)) }
+  stands Signed (givenSigned z) l width e =
+      let t = complement-stands count z x some e in
+      record { below = t .0; value = ap signed (t .1) }
+  stands Float (givenDouble b) l width e =
+      let t = float-stands count x (width refl) b l e in
+      record { below = t .0; value = ap doubleValue (t .1) }
+  stands Unsigned (givenSigned z) l width e = absurd (not-answered x 25 0 e)
+  stands Unsigned (givenDouble b) l width e = absurd (not-answered x 25 0 e)
+  stands Unsigned givenOther l width e = absurd (not-answered x 25 0 e)
+  stands Signed (givenUnsigned n) l width e = absurd (not-answered x 25 0 e)
+  stands Signed (givenDouble b) l width e = absurd (not-answered x 25 0 e)
+  stands Signed givenOther l width e = absurd (not-answered x 25 0 e)
+  stands Float (givenUnsigned n) l width e = absurd (not-answered x 25 0 e)
+  stands Float (givenSigned z) l width e = absurd (not-answered x 25 0 e)
+  stands Float givenOther l width e = absurd (not-answered x 25 0 e)

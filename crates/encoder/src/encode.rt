@@ -1,0 +1,145 @@
+// A number written into a channel's field of a record.
+ghost use mathlib.Core.Path.{_≡_};
+ghost use mathlib.Core.Bool.{true};
+ghost use Prim.Native.Nat.{_^_, _<_};
+ghost use Rattle.definitions.specs.Bytes.{fieldSet};
+ghost use Rattle.definitions.specs.Channel.{variableLength};
+ghost use Rattle.definitions.specs.WrittenValue.{fieldGiven, valueWritten};
+ghost use Rattle.refusals.specs.Meaning.{refused};
+ghost use Rattle.fields.specs.Meaning.{channelMeant};
+ghost use Rattle.fields.specs.Form.{orderMeant};
+ghost use Rattle.fields.specs.Known.{FieldBounds};
+ghost use Rattle.encoder.specs.Meaning.{givenMeant, outcome};
+ghost use Rattle.encoder.specs.Known.{Chosen};
+use crate::bits::FieldBits;
+use crate::bits::number_bits;
+use crate::number::NumberGiven;
+use fields::Channel;
+use fields::FieldFound;
+use fields::Form;
+use fields::find_field;
+use fields::form_of;
+use refusals::Refusal;
+use words::put_field_be;
+use words::put_field_le;
+
+pub enum ValueWritten {
+    Done,
+    Refused(Refusal),
+}
+
+// The field to write to, and its new bits
+pub(crate) enum FieldChosen {
+    Field {
+        at: usize,
+        big_endian: bool,
+        bits: u64,
+    },
+    Refused(Refusal),
+}
+
+impl FieldChosen {
+    // Why there is none. Only a refusal is asked, so the second arm is never taken.
+    pub(crate) fn refusal(self) -> Refusal
+        requires { ⌜ ((why : Refusal) × (self ≡ FieldChosen.Refused why)) ⌝ }
+        ensures { λ r. ⌜ self ≡ FieldChosen.Refused r ⌝ }
+    {
+        match self {
+            FieldChosen::Refused(why) => why,
+            FieldChosen::Field { .. } => Refusal::OtherKind,
+        }
+    }
+}
+
+// A payload is tested as it would be decoded, and is then no field of a record.
+fn payload_refusal(
+    payload: &[u8],
+    record_id_size: usize,
+    channel: Channel,
+    given: NumberGiven,
+) -> Refusal
+    requires { ⌜ variableLength (channelMeant channel) ≡ true ⌝ }
+    ensures { λ r. ⌜ fieldGiven (now (payload .entry)) «record_id_size» (channelMeant channel) (givenMeant given) ≡ refused r ⌝ }
+{
+    let data_type = channel.data_type;
+    let form = form_of(data_type);
+    let found = find_field(payload, 0, 0, true, form, channel);
+    let FieldFound::Field { at: _, length: _ } = found else {
+        return found.refusal();
+    };
+    Refusal::OtherKind
+}
+
+// Nothing is written before all is tested: first what decoding would refuse, then the number given.
+fn choose_field(
+    record: &[u8],
+    record_id_size: usize,
+    channel: Channel,
+    given: NumberGiven,
+) -> FieldChosen
+    ensures { λ r. ⌜ Chosen (now («record» .entry)) «record_id_size» (channelMeant channel) (givenMeant given) r ⌝ }
+{
+    if channel.is_variable_length() {
+        return FieldChosen::Refused(payload_refusal(record, record_id_size, channel, given));
+    }
+    let data_type = channel.data_type;
+    let form = form_of(data_type);
+    let byte_offset = channel.byte_offset as usize;
+    let found = find_field(record, record_id_size, byte_offset, false, form, channel);
+    let FieldFound::Field { at, length: _ } = found else {
+        return FieldChosen::Refused(found.refusal());
+    };
+    let Form::Number(number, big_endian) = form else {
+        return FieldChosen::Refused(Refusal::OtherKind);
+    };
+    let field = number_bits(number, channel.bit_count, given);
+    let FieldBits::Bits(bits) = field else {
+        return FieldChosen::Refused(field.refusal());
+    };
+    FieldChosen::Field {
+        at,
+        big_endian,
+        bits,
+    }
+}
+
+fn put_field(
+    record: &mut [u8],
+    at: usize,
+    big_endian: bool,
+    bit_offset: u32,
+    bit_count: u32,
+    bits: u64,
+)
+    requires { ⌜ FieldBounds (now «record») at «bit_offset» «bit_count» × (bits < 2 ^ «bit_count») ⌝ }
+    ensures { λ _. ⌜ now («record» .exit) ≡ fieldSet (orderMeant «big_endian») (now («record» .entry)) at «bit_offset» «bit_count» bits ⌝ }
+{
+    if big_endian {
+        put_field_be(record, at, bit_offset, bit_count, bits);
+    } else {
+        put_field_le(record, at, bit_offset, bit_count, bits);
+    }
+}
+
+// What is given, written so that decoding gives it back. A refusal changes nothing.
+pub fn encode_channel_value(
+    record_id_size: usize,
+    channel: Channel,
+    given: NumberGiven,
+    record: &mut [u8],
+) -> ValueWritten
+    ensures { λ r. ⌜ outcome r (now («record» .exit)) ≡ valueWritten (now («record» .entry)) «record_id_size» (channelMeant channel) (givenMeant given) ⌝ }
+{
+    let chosen = choose_field(record, record_id_size, channel, given);
+    let FieldChosen::Field {
+        at,
+        big_endian,
+        bits,
+    } = chosen
+    else {
+        return ValueWritten::Refused(chosen.refusal());
+    };
+    let offset = channel.bit_offset as u32;
+    put_field(record, at, big_endian, offset, channel.bit_count, bits);
+    ValueWritten::Done
+}
