@@ -28,6 +28,19 @@ pub enum ValueWritten {
     Refused(Refusal),
 }
 
+impl ValueWritten {
+    // Why nothing was written. Only a refusal is asked, so the second arm is never taken.
+    pub fn refusal(self) -> Refusal
+        requires { ⌜ ((why : Refusal) × (self ≡ ValueWritten.Refused why)) ⌝ }
+        ensures { λ r. ⌜ self ≡ ValueWritten.Refused r ⌝ }
+    {
+        match self {
+            ValueWritten::Refused(why) => why,
+            ValueWritten::Done => Refusal::OtherKind,
+        }
+    }
+}
+
 // The field to write to, and its new bits
 pub(crate) enum FieldChosen {
     Field {

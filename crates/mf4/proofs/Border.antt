@@ -11,12 +11,14 @@ use Rattle.definitions.specs.DataType.{typeOf, codeOf, defaultBits}
 use Rattle.definitions.specs.DataList.{listOf, listWritten, equal, variable}
 use Rattle.definitions.specs.ChannelBlock.{channelBlockOf, channelWritten}
 use Rattle.definitions.specs.Channel.{valueOf, validOf, validValueOf, recordDouble}
+use Rattle.definitions.specs.WrittenValue.{valueWritten}
 use Rattle.definitions.specs.Chain.{dataLength, fetched, valueFetched}
 use Rattle.definitions.specs.Payload.{payloadFetched}
 use Rattle.mf4.specs.Clauses.{Slice, Allows}
 use Rattle.replies.specs.Replies.{flagC, writtenC, headerC, headerGiven, listC, textC, returned, returnedBy}
 use Rattle.replies.specs.Values.{channelGiven, valueC, validValueC, lengthC, fetchedC, payloadC, returnedBoth, returnedBothBy}
 use Rattle.replies.specs.Channels.{channelC, blockGiven}
+use Rattle.replies.specs.Stored.{numberGiven, storedC}
 use Rattle.replies.specs.declared.written.Mf4Written.{Mf4Written}
 use Rattle.replies.specs.declared.header.Mf4BlockHeader.{Mf4BlockHeader}
 use Rattle.replies.specs.declared.header.Mf4Header.{Mf4Header}
@@ -30,6 +32,8 @@ use Rattle.replies.specs.declared.valid_values.Mf4ValidValue.{Mf4ValidValue}
 use Rattle.replies.specs.declared.fetches.Mf4Length.{Mf4Length}
 use Rattle.replies.specs.declared.fetches.Mf4Fetched.{Mf4Fetched}
 use Rattle.replies.specs.declared.payload.Mf4Payload.{Mf4Payload}
+use Rattle.replies.specs.declared.stored.Mf4Number.{Mf4Number}
+use Rattle.replies.specs.declared.stored.Mf4Stored.{Mf4Stored}
 use Rattle.mf4.proofs.mf4_read_header.Kinds as mf4-read-header-kinds
 use Rattle.mf4.proofs.mf4_read_header.Reads as mf4-read-header
 use Rattle.mf4.proofs.mf4_write_header.Kinds as mf4-write-header-kinds
@@ -72,6 +76,8 @@ use Rattle.mf4.proofs.mf4_record_value.Kinds as mf4-record-value-kinds
 use Rattle.mf4.proofs.mf4_record_value.Reads as mf4-record-value
 use Rattle.mf4.proofs.mf4_record_payload.Kinds as mf4-record-payload-kinds
 use Rattle.mf4.proofs.mf4_record_payload.Reads as mf4-record-payload
+use Rattle.mf4.proofs.mf4_write_value.Kinds as mf4-write-value-kinds
+use Rattle.mf4.proofs.mf4_write_value.Reads as mf4-write-value
 
 pub mf4-read-header-arguments : (κs : Lfts 1) (bytes : Slice) (y : Mf4Header)
     → Allows 1 mf4-read-header-kinds.ps mf4-read-header-kinds.r mf4-read-header.Learnt κs (bytes, tt) y (tt, tt)
@@ -177,3 +183,8 @@ pub mf4-record-payload-arguments : (κs : Lfts 3) (file : Slice) (start number r
     → Allows 3 mf4-record-payload-kinds.ps mf4-record-payload-kinds.r mf4-record-payload.Learnt κs (file, (start, (number, (recordSize, (recordIdSize, (dataBytes, (channel, (bytes, (payload, tt))))))))) y (tt, (tt, (tt, (tt, (tt, (tt, (tt, (recordAfter, (payloadAfter, tt)))))))))
     ≡ (returnedBoth y recordAfter payloadAfter ≡ returnedBothBy payloadC (payloadFetched (file .now) start number recordSize recordIdSize dataBytes (channelGiven channel) (bytes .now) (payload .now)))
 mf4-record-payload-arguments κs file start number recordSize recordIdSize dataBytes channel bytes payload y recordAfter payloadAfter = refl
+
+pub mf4-write-value-arguments : (κs : Lfts 1) (recordIdSize : ℕ) (channel : Mf4Channel) (value : Mf4Number) (bytes : Slice) (y : Mf4Stored) (after : List ℕ)
+    → Allows 1 mf4-write-value-kinds.ps mf4-write-value-kinds.r mf4-write-value.Learnt κs (recordIdSize, (channel, (value, (bytes, tt)))) y (tt, (tt, (tt, (after, tt))))
+    ≡ (returned y after ≡ returnedBy storedC (valueWritten (bytes .now) recordIdSize (channelGiven channel) (numberGiven value)))
+mf4-write-value-arguments κs recordIdSize channel value bytes y after = refl

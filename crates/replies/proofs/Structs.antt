@@ -13,6 +13,8 @@ use Rattle.replies.specs.declared.valid_values.Mf4ValidValue.{Mf4ValidVa
 use Rattle.replies.specs.declared.fetches.Mf4Length.{Mf4Length}
 use Rattle.replies.specs.declared.fetches.Mf4Fetched.{Mf4Fetched}
 use Rattle.replies.specs.declared.payload.Mf4Payload.{Mf4Payload}
+use Rattle.replies.specs.declared.stored.Mf4Number.{Mf4Number}
+use Rattle.replies.specs.declared.stored.Mf4Stored.{Mf4Stored}
 use Rattle.replies.proofs.written.Mf4Written as mf4-written
 use Rattle.replies.proofs.header.Mf4BlockHeader as mf4-block-header
 use Rattle.replies.proofs.header.Mf4Header as mf4-header
@@ -26,6 +28,8 @@ use Rattle.replies.proofs.valid_values.Mf4ValidValue as mf4-valid-value
 use Rattle.replies.proofs.fetches.Mf4Length as mf4-length
 use Rattle.replies.proofs.fetches.Mf4Fetched as mf4-fetched
 use Rattle.replies.proofs.payload.Mf4Payload as mf4-payload
+use Rattle.replies.proofs.stored.Mf4Number as mf4-number
+use Rattle.replies.proofs.stored.Mf4Stored as mf4-stored
 
 pub mf4-written-fields : (s : Mf4Written) → mf4-written.struct .as-values s ≡ (s .reply, (s .told, (s .count, tt)))
 mf4-written-fields s = refl
@@ -65,3 +69,9 @@ mf4-fetched-fields s = refl
 
 pub mf4-payload-fields : (s : Mf4Payload) → mf4-payload.struct .as-values s ≡ (s .reply, (s .kind, (s .told, (s .number, (s .at, (s .length, (s .«payload_length», (s .«is_valid», tt))))))))
 mf4-payload-fields s = refl
+
+pub mf4-number-fields : (s : Mf4Number) → mf4-number.struct .as-values s ≡ (s .kind, (s .number, tt))
+mf4-number-fields s = refl
+
+pub mf4-stored-fields : (s : Mf4Stored) → mf4-stored.struct .as-values s ≡ (s .reply, (s .told, tt))
+mf4-stored-fields s = refl

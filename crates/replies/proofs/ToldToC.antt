@@ -22,6 +22,7 @@ use Rattle.definitions.proofs.Types.{type-back}
 use Rattle.replies.specs.Replies.{flagC, writtenC, headerC, headerGiven, listC, textC}
 use Rattle.replies.specs.Channels.{descriptionC, blockC, blockGiven, channelC}
 use Rattle.replies.specs.Values.{channelGiven, wordOf, decodedC, valueC, validValueC, lengthC, fetchedC, payloadC}
+use Rattle.replies.specs.Stored.{storedC}
 use Rattle.replies.specs.declared.written.Mf4Written.{Mf4Written}
 use Rattle.replies.specs.declared.header.Mf4Header.{Mf4Header}
 use Rattle.replies.specs.declared.list.Mf4List.{Mf4List}
@@ -32,6 +33,7 @@ use Rattle.replies.specs.declared.valid_values.Mf4ValidValue.{Mf4ValidVa
 use Rattle.replies.specs.declared.payload.Mf4Payload.{Mf4Payload}
 use Rattle.replies.specs.declared.fetches.Mf4Length.{Mf4Length}
 use Rattle.replies.specs.declared.fetches.Mf4Fetched.{Mf4Fetched}
+use Rattle.replies.specs.declared.stored.Mf4Stored.{Mf4Stored}
 
 -- a refusal has a number above 0, and what is answered meets P
 abbrev pub Tellable : {A : Type 0} → (A → Type 0) → Reply A → Type 0
@@ -76,6 +78,12 @@ fetchedAgain s = again (s .reply) (s .told) tt
 
 pub fetched-told : (r : Reply (Unit {0})) → Tellable Any r → fetchedAgain (fetchedC r) ≡ r
 fetched-told = told-by Any fetchedC fetchedAgain (λ a h. refl) (again-refused _)
+
+abbrev pub storedAgain : Mf4Stored → Reply (Unit {0})
+storedAgain s = again (s .reply) (s .told) tt
+
+pub stored-told : (r : Reply (Unit {0})) → Tellable Any r → storedAgain (storedC r) ≡ r
+stored-told = told-by Any storedC storedAgain (λ a h. refl) (again-refused _)
 
 -- ---- blocks
 

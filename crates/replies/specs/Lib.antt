@@ -1,3 +1,4 @@
 pub mod Replies
 pub mod Values
 pub mod Channels
+pub mod Stored

@@ -1,0 +1,49 @@
+// A number that C gives to be written, and whether it was.
+ghost use mathlib.Core.Path.{_≡_};
+ghost use Rattle.encoder.specs.Meaning.{givenMeant, writtenReply};
+ghost use Rattle.replies.specs.Stored.{numberGiven, storedC};
+use encoder::NumberGiven;
+use encoder::ValueWritten;
+use words::signed_of;
+
+// The kind and the number as Mf4Value has them
+#[repr(C)]
+pub struct Mf4Number {
+    pub kind: u32,
+    pub number: u64,
+}
+
+#[repr(C)]
+pub struct Mf4Stored {
+    pub reply: u32,
+    pub told: u64,
+}
+
+pub fn number_of(given: Mf4Number) -> NumberGiven
+    ensures { λ r. ⌜ givenMeant r ≡ numberGiven given ⌝ }
+{
+    let number = given.number;
+    if given.kind == 1 {
+        return NumberGiven::Unsigned(number);
+    }
+    if given.kind == 2 {
+        return NumberGiven::Signed(signed_of(number, 64));
+    }
+    if given.kind == 3 {
+        return NumberGiven::Double(number);
+    }
+    NumberGiven::Other
+}
+
+pub fn stored_reply(written: ValueWritten) -> Mf4Stored
+    ensures { λ r. ⌜ r ≡ storedC (writtenReply written) ⌝ }
+{
+    let ValueWritten::Done = written else {
+        let why = written.refusal();
+        return Mf4Stored {
+            reply: why.number(),
+            told: why.told(),
+        };
+    };
+    Mf4Stored { reply: 0, told: 0 }
+}
