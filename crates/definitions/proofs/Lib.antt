@@ -2,3 +2,4 @@
 pub mod Replies
 pub mod Stores
 pub mod Types
+pub mod Shared

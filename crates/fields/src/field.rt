@@ -36,7 +36,7 @@ impl FieldFound {
     }
 }
 
-fn is_over_a_word(number: Number, bit_count: u32) -> bool
+pub fn is_over_a_word(number: Number, bit_count: u32) -> bool
     ensures { λ r. ⌜ r ≡ isInteger (numberKind number) && ltb 64 «bit_count» ⌝ }
 {
     match number {

@@ -13,6 +13,7 @@ pub use content::content_at;
 pub use field::FieldFound;
 pub use field::find_field;
 pub use field::is_no_float_width;
+pub use field::is_over_a_word;
 pub use form::Content;
 pub use form::Form;
 pub use form::Number;
