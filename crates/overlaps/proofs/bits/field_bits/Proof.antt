@@ -1,0 +1,22 @@
+-- The order of the form is the order of the type, since it is a number's.
+use mathlib.Core.Path.{ap, _∙_}
+use Rattle.definitions.specs.Bytes.{Order}
+use Rattle.fields.specs.Form.{orderMeant}
+use Rattle.fields.specs.Meaning.{channelMeant}
+use Rattle.overlaps.specs.Meaning.{bigForm, unsignedAt}
+use Rattle.overlaps.proofs.Entries.{fixed-is-number}
+use Rattle.overlaps.proofs.Pairs.{form-order}
+use borrow.Author.Needs.{needs}
+use Rattle.overlaps.proofs.bits.field_bits.Statement.{statement}
+use Rattle.overlaps.proofs.bits.field_bits.Tie as tie
+
+returns : tie.Need-returns
+returns c =
+    let start = c .before .before in
+    let m = channelMeant (start .args .channel) in
+    ap (λ (o : Order). unsignedAt o (m .byteOffset) (m .bitOffset) (m .bitCount))
+    (ap orderMeant (c .is-big-endian .ensures ∙ ap bigForm (c .before .form-of .ensures))
+    ∙ form-order (m .dataType) (fixed-is-number m (start .pre)))
+
+pub field-bits-spec : {M : Type 1} → statement M
+field-bits-spec = tie.close (tie.spec (λ c κs. search needs) (λ c κs. search needs) returns)

@@ -1,0 +1,36 @@
+// Whether two fields share a bit of the record.
+ghost use mathlib.Core.Path.{_≡_};
+ghost use mathlib.Core.Bool.{true};
+ghost use Rattle.definitions.specs.Overlap.{isFixedNumber, shareABit};
+ghost use Rattle.fields.specs.Meaning.{channelMeant};
+ghost use Rattle.overlaps.specs.Meaning.{fieldMeant};
+use crate::bits::FieldBits;
+use crate::bits::byte_end;
+use crate::bits::field_bits;
+use crate::run::larger;
+use crate::run::meet;
+use crate::run::run_in;
+use crate::run::smaller;
+use fields::Channel;
+
+// Byte after byte where both are: a big-endian field with an offset is no single run of the record's bits.
+fn fields_share_a_bit(x: FieldBits, y: FieldBits) -> bool
+    ensures { λ r. ⌜ r ≡ shareABit (fieldMeant x) (fieldMeant y) ⌝ }
+{
+    let end = smaller(byte_end(x), byte_end(y));
+    let mut byte = larger(x.byte_offset as u64, y.byte_offset as u64);
+    while byte < end {
+        if meet(run_in(x, byte), run_in(y, byte)) {
+            return true;
+        }
+        byte = byte + 1;
+    }
+    false
+}
+
+pub(crate) fn share_a_bit(a: Channel, b: Channel) -> bool
+    requires { ⌜ (isFixedNumber (channelMeant a) ≡ true) × (isFixedNumber (channelMeant b) ≡ true) ⌝ }
+    ensures { λ r. ⌜ r ≡ shareABit (channelMeant a) (channelMeant b) ⌝ }
+{
+    fields_share_a_bit(field_bits(a), field_bits(b))
+}
