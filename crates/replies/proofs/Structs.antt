@@ -15,6 +15,7 @@ use Rattle.replies.specs.declared.fetches.Mf4Fetched.{Mf4Fetched}
 use Rattle.replies.specs.declared.payload.Mf4Payload.{Mf4Payload}
 use Rattle.replies.specs.declared.stored.Mf4Number.{Mf4Number}
 use Rattle.replies.specs.declared.stored.Mf4Stored.{Mf4Stored}
+use Rattle.replies.specs.declared.overlap.Mf4Overlap.{Mf4Overlap}
 use Rattle.replies.proofs.written.Mf4Written as mf4-written
 use Rattle.replies.proofs.header.Mf4BlockHeader as mf4-block-header
 use Rattle.replies.proofs.header.Mf4Header as mf4-header
@@ -30,6 +31,7 @@ use Rattle.replies.proofs.fetches.Mf4Fetched as mf4-fetched
 use Rattle.replies.proofs.payload.Mf4Payload as mf4-payload
 use Rattle.replies.proofs.stored.Mf4Number as mf4-number
 use Rattle.replies.proofs.stored.Mf4Stored as mf4-stored
+use Rattle.replies.proofs.overlap.Mf4Overlap as mf4-overlap
 
 pub mf4-written-fields : (s : Mf4Written) → mf4-written.struct .as-values s ≡ (s .reply, (s .told, (s .count, tt)))
 mf4-written-fields s = refl
@@ -75,3 +77,5 @@ mf4-number-fields s = refl
 
 pub mf4-stored-fields : (s : Mf4Stored) → mf4-stored.struct .as-values s ≡ (s .reply, (s .told, tt))
 mf4-stored-fields s = refl
+pub mf4-overlap-fields : (s : Mf4Overlap) → mf4-overlap.struct .as-values s ≡ (s .reply, (s .told, (s .found, (s .first, (s .second, tt)))))
+mf4-overlap-fields s = refl

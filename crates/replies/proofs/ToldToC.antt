@@ -17,12 +17,14 @@ use Rattle.definitions.specs.DataList.{DataList}
 use Rattle.definitions.specs.DataType.{ownsCode}
 use Rattle.definitions.specs.ChannelBlock.{ChannelBlock}
 use Rattle.definitions.specs.Payload.{PayloadValue}
+use Rattle.definitions.specs.Overlap.{Overlap, pair, none}
 use Rattle.definitions.specs.Channel.{Channel, Value, ValidValue, unsigned, signed, double, text, bytes, sample, stream, unknownValue, doubleValue}
 use Rattle.definitions.proofs.Types.{type-back}
 use Rattle.replies.specs.Replies.{flagC, writtenC, headerC, headerGiven, listC, textC}
 use Rattle.replies.specs.Channels.{descriptionC, blockC, blockGiven, channelC}
 use Rattle.replies.specs.Values.{channelGiven, wordOf, decodedC, valueC, validValueC, lengthC, fetchedC, payloadC}
 use Rattle.replies.specs.Stored.{storedC}
+use Rattle.replies.specs.Overlaps.{overlapC}
 use Rattle.replies.specs.declared.written.Mf4Written.{Mf4Written}
 use Rattle.replies.specs.declared.header.Mf4Header.{Mf4Header}
 use Rattle.replies.specs.declared.list.Mf4List.{Mf4List}
@@ -34,6 +36,7 @@ use Rattle.replies.specs.declared.payload.Mf4Payload.{Mf4Payload}
 use Rattle.replies.specs.declared.fetches.Mf4Length.{Mf4Length}
 use Rattle.replies.specs.declared.fetches.Mf4Fetched.{Mf4Fetched}
 use Rattle.replies.specs.declared.stored.Mf4Stored.{Mf4Stored}
+use Rattle.replies.specs.declared.overlap.Mf4Overlap.{Mf4Overlap}
 
 -- a refusal has a number above 0, and what is answered meets P
 abbrev pub Tellable : {A : Type 0} → (A → Type 0) → Reply A → Type 0
@@ -249,3 +252,15 @@ payload-told =
     told-by (λ v. Reversible (v .value)) payloadC payloadAgain
     (λ v h. ap₂ (λ (x : Value) (b : Bool). answer (record { value = x; valid = b; size = v .size })) (value-back (v .value) h) (flag-back (v .valid)))
     (again-refused _)
+
+-- ---- overlaps
+
+abbrev pub overlapAgain : Mf4Overlap → Reply Overlap
+overlapAgain s = again (s .reply) (s .told) (if eqb (s .found) 1 then pair (s .first) (s .second) else none)
+
+overlap-back : (o : Overlap) → Any o → overlapAgain (overlapC (answer o)) ≡ answer o
+overlap-back (pair i j) h = refl
+overlap-back none h = refl
+
+pub overlap-told : (r : Reply Overlap) → Tellable Any r → overlapAgain (overlapC r) ≡ r
+overlap-told = told-by Any overlapC overlapAgain overlap-back (again-refused _)
