@@ -5,3 +5,4 @@ pub mod ClausesToC
 pub mod Exactly
 pub mod Causes
 pub mod PayloadEnds
+pub mod OverlapEnds
