@@ -34,7 +34,7 @@ use Rattle.encoder.proofs.Standing.{stands}
 
 -- ---- by the form of a type
 
-abbrev formField : Form → ℕ → Given → Reply ℕ
+abbrev pub formField : Form → ℕ → Given → Reply ℕ
 formField (Number number b) count v = numberField number count v
 formField (Other content) count v = otherKind
 
@@ -55,11 +55,11 @@ field-form canOpenTime count v = refl
 field-form (unknown code) count v = refl
 
 -- the order of a number's form is its type's; of another form none is asked
-abbrev orderIn : Form → Order → Order
+abbrev pub orderIn : Form → Order → Order
 orderIn (Number number b) o = orderMeant b
 orderIn (Other content) o = o
 
-order-form : (t : DataType) → orderIn (formOf t) (orderOf t) ≡ orderOf t
+pub order-form : (t : DataType) → orderIn (formOf t) (orderOf t) ≡ orderOf t
 order-form (unsignedInteger little) = refl
 order-form (unsignedInteger big) = refl
 order-form (signedInteger little) = refl
@@ -149,7 +149,7 @@ module _ (s : List ℕ) (idSize : ℕ) (c : Channel) (v : Given) where
               start = subst (FieldPlaced (idSize + c .byteOffset) m) e placed .0 ∙ ap (λ (t : Bool). if t then 0 else (idSize + c .byteOffset)) (sym fixed);
               order = ap (λ (f : Form). orderIn f (orderOf (c .dataType))) (sym en ∙ ef) ∙ order-form (c .dataType);
               bounds = bounds;
-              below = stands (c .bitCount) x (bounds .some) number v l (sound .width) (sym eb ∙ ap bitsReply ex) .below;
+              below = stands (c .bitCount) x (bounds .some) number v (λ f. l) (sound .width) (sym eb ∙ ap bitsReply ex) .below;
             };
           }
 

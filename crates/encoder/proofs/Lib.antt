@@ -2,3 +2,4 @@
 pub mod Digits
 pub mod Standing
 pub mod Choosing
+pub mod Back

@@ -83,7 +83,7 @@ pub record Stands (number : Number) (count : ℕ) (v : Given) (x : ℕ) : Type 0
   pub value : numberValue number count x ≡ valueGiven v
 
 module _ (count x : ℕ) (some : 1 ≤ count) where
-  pub stands : (number : Number) (v : Given) → x < 2 ^ 64 → (isFloating (numberKind number) ≡ true → (count ≡ 64 → ⊥) → count ≡ 32)
+  pub stands : (number : Number) (v : Given) → (isFloating (numberKind number) ≡ true → x < 2 ^ 64) → (isFloating (numberKind number) ≡ true → (count ≡ 64 → ⊥) → count ≡ 32)
       → numberField number count v ≡ answer x → Stands number count v x
   stands Unsigned (givenUnsigned n) l width e =
       let t = fitted (ltb n (2 ^ count)) n e in
@@ -92,7 +92,7 @@ module _ (count x : ℕ) (some : 1 ≤ count) where
       let t = complement-stands count z x some e in
       record { below = t .0; value = ap signed (t .1) }
   stands Float (givenDouble b) l width e =
-      let t = float-stands count x (width refl) b l e in
+      let t = float-stands count x (width refl) b (l refl) e in
       record { below = t .0; value = ap doubleValue (t .1) }
   stands Unsigned (givenSigned z) l width e = absurd (not-answered x 25 0 e)
   stands Unsigned (givenDouble b) l width e = absurd (not-answered x 25 0 e)
@@ -103,3 +103,79 @@ module _ (count x : ℕ) (some : 1 ≤ count) where
   stands Float (givenUnsigned n) l width e = absurd (not-answered x 25 0 e)
   stands Float (givenSigned z) l width e = absurd (not-answered x 25 0 e)
   stands Float givenOther l width e = absurd (not-answered x 25 0 e)
+
+-- ---- and they are the only ones
+
+complement-made : (count x : ℕ) → 1 ≤ count → x < 2 ^ count → complementOf count (twosComplement count x) ≡ answer x
+complement-made count x some l = go (ltb x (2 ^ (count - 1))) refl
+  where
+    go : (t : Bool) → ltb x (2 ^ (count - 1)) ≡ t → complementOf count (if t then pos x else negsuc (2 ^ count - suc x)) ≡ answer x
+    go true e = rw e
+    go false e =
+        let high : 2 ^ (count - 1) ≤ x = ltb-false x (2 ^ (count - 1)) e in
+        let low : 2 ^ count - suc x < 2 ^ (count - 1) = omega (arith, twice count some) in
+        let back : 2 ^ count - suc (2 ^ count - suc x) ≡ x = omega arith in
+        rw (lt-ltb (2 ^ count - suc x) (2 ^ (count - 1)) low, back)
+
+-- which kind a value is, and what it is of
+abbrev unsignedIn : Value → ℕ
+unsignedIn (unsigned n) = n
+unsignedIn (signed z) = 0
+unsignedIn (double x pattern) = 0
+unsignedIn (text at n) = 0
+unsignedIn (bytes at n) = 0
+unsignedIn (sample at n) = 0
+unsignedIn (stream at n) = 0
+unsignedIn unknownValue = 0
+
+abbrev signedIn : Value → ℤ
+signedIn (unsigned n) = pos 0
+signedIn (signed z) = z
+signedIn (double x pattern) = pos 0
+signedIn (text at n) = pos 0
+signedIn (bytes at n) = pos 0
+signedIn (sample at n) = pos 0
+signedIn (stream at n) = pos 0
+signedIn unknownValue = pos 0
+
+abbrev patternIn : Value → ℕ
+patternIn (unsigned n) = 0
+patternIn (signed z) = 0
+patternIn (double x pattern) = pattern
+patternIn (text at n) = 0
+patternIn (bytes at n) = 0
+patternIn (sample at n) = 0
+patternIn (stream at n) = 0
+patternIn unknownValue = 0
+
+abbrev kindIn : Value → ℕ
+kindIn (unsigned n) = 1
+kindIn (signed z) = 2
+kindIn (double x pattern) = 3
+kindIn (text at n) = 0
+kindIn (bytes at n) = 0
+kindIn (sample at n) = 0
+kindIn (stream at n) = 0
+kindIn unknownValue = 0
+
+module _ (count x : ℕ) (some : 1 ≤ count) (l : x < 2 ^ count) where
+  other-kind : {A : Type 0} {a b : Value} → a ≡ b → (kindIn a ≡ kindIn b → ⊥) → A
+  other-kind e differ = absurd (differ (ap kindIn e))
+
+  pub made-again : (number : Number) (v : Given) → (isFloating (numberKind number) ≡ true → (count ≡ 64 → ⊥) → count ≡ 32)
+      → (isFloating (numberKind number) ≡ true → count ≡ 32 → ComesBack x) → numberValue number count x ≡ valueGiven v → numberField number count v ≡ answer x
+  made-again Unsigned (givenUnsigned n) width comes e =
+      let i : x ≡ n = ap unsignedIn e in
+      ap (λ (y : ℕ). fitting (ltb y (2 ^ count)) y) (sym i) ∙ rw (lt-ltb x (2 ^ count) l)
+  made-again Signed (givenSigned z) width comes e = ap (complementOf count) (sym (ap signedIn e)) ∙ complement-made count x some l
+  made-again Float (givenDouble b) width comes e =
+      ap (λ (y : ℕ). if eqb count 64 then answer y else fitting (narrows y) (narrowed y)) (sym (ap patternIn e)) ∙ float-made count x (width refl) l (comes refl)
+  made-again Unsigned (givenSigned z) width comes e = other-kind e (λ k. omega arith)
+  made-again Unsigned (givenDouble b) width comes e = other-kind e (λ k. omega arith)
+  made-again Unsigned givenOther width comes e = other-kind e (λ k. omega arith)
+  made-again Signed (givenUnsigned n) width comes e = other-kind e (λ k. omega arith)
+  made-again Signed (givenDouble b) width comes e = other-kind e (λ k. omega arith)
+  made-again Signed givenOther width comes e = other-kind e (λ k. omega arith)
+  made-again Float (givenUnsigned n) width comes e = other-kind e (λ k. omega arith)
+  made-again Float (givenSigned z) width comes e = other-kind e (λ k. omega arith)
+  made-again Float givenOther width comes e = other-kind e (λ k. omega arith)

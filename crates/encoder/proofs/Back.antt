@@ -1,0 +1,19 @@
+-- The meaning of an answer is one-to-one.
+use mathlib.Core.Path.{_≡_, refl, sym, ap, _∙_}
+use mathlib.Core.Bool.{Bool, true, false}
+use Rattle.definitions.specs.Reply.{Reply, answer, refusal}
+use Rattle.refusals.proofs.Back.{refusalOf, back}
+use Rattle.encoder.specs.Meaning.{writtenReply}
+use Rattle.encoder.specs.declared.encode.ValueWritten.{ValueWritten}
+use Rattle.encoder.specs.declared.encode.ValueWritten.the-variants.{Done, Refused}
+
+abbrev writtenAgain : Reply (Unit {0}) → ValueWritten
+writtenAgain (answer u) = Done
+writtenAgain (refusal n t) = Refused (refusalOf n t)
+
+again : (y : ValueWritten) → writtenAgain (writtenReply y) ≡ y
+again Done = refl
+again (Refused r) = ap Refused (back r)
+
+pub written-one : (y z : ValueWritten) → writtenReply y ≡ writtenReply z → y ≡ z
+written-one y z e = sym (again y) ∙ ap writtenAgain e ∙ again z
