@@ -2,15 +2,18 @@
 use mathlib.Core.Path.{_≡_}
 use mathlib.Core.Logic.{_⊎_}
 use mathlib.Core.List.{List}
-use mathlib.Core.Bool.{true}
-use Prim.Native.Nat.{ℕ, _+_, _*_, _≤_, _<_}
+use mathlib.Core.Bool.{true, false}
+use Prim.Native.Nat.{ℕ, _+_, _-_, _*_, _^_, _≤_, _<_}
+use lib.IntN.{pos, negsuc}
 use lib.ListN.{length}
 use Rattle.definitions.specs.Reply.{Reply, answer}
-use Rattle.definitions.specs.DataType.{Kind, integer, floating, whole, undecoded, kindOf}
+use Rattle.definitions.specs.DataType.{DataType, unsignedInteger, signedInteger, float, complex, string, byteArray, mimeSample, mimeStream, canOpenDate, canOpenTime, unknown, Kind, integer, floating, whole, undecoded, kindOf}
 use Rattle.definitions.specs.Bytes.{span, u32At, u64At, idAt}
 use Rattle.definitions.specs.DataList.{Lengths, equal, variable, idDL, linkLimit, flagsAt, restIn, listSize, restFor}
 use Rattle.definitions.specs.ChannelBlock.{idCN, fieldsAt}
-use Rattle.definitions.specs.Channel.{Channel, startOf, spanOf, isNumber}
+use Rattle.definitions.specs.Ieee754.{widened, narrowed}
+use Rattle.definitions.specs.Channel.{Channel, variableLength, startOf, spanOf, isNumber}
+use Rattle.definitions.specs.WrittenValue.{Given, givenUnsigned, givenSigned, givenDouble, givenOther}
 use Rattle.definitions.specs.Chain.{Block, idDT, fileLimit, recordLimit, joined}
 use Rattle.definitions.specs.Accepted.{Accepted}
 use Rattle.definitions.specs.Payload.{idSD}
@@ -62,6 +65,47 @@ Legal undecoded c = Unit {0}
 pub record FieldStands (s : List ℕ) (idSize : ℕ) (c : Channel) : Type 0 where
   pub legal : Legal (kindOf (c .dataType)) c
   pub inside : startOf idSize c + spanOf s c ≤ length s
+
+-- ---- a number to be written
+
+-- what a field of count bits takes, by its type: a number below 2^count; one of two's complement; a pattern, of 32 bits only
+-- where widening returns it; and no field takes a number of another kind
+abbrev pub TakesUnsigned : ℕ → Given → Type 0
+TakesUnsigned count (givenUnsigned n) = n < 2 ^ count
+TakesUnsigned count (givenSigned z) = ⊥
+TakesUnsigned count (givenDouble pattern) = ⊥
+TakesUnsigned count givenOther = ⊥
+
+abbrev pub TakesSigned : ℕ → Given → Type 0
+TakesSigned count (givenUnsigned n) = ⊥
+TakesSigned count (givenSigned (pos n)) = n < 2 ^ (count - 1)
+TakesSigned count (givenSigned (negsuc k)) = k < 2 ^ (count - 1)
+TakesSigned count (givenDouble pattern) = ⊥
+TakesSigned count givenOther = ⊥
+
+abbrev pub TakesFloat : ℕ → Given → Type 0
+TakesFloat count (givenUnsigned n) = ⊥
+TakesFloat count (givenSigned z) = ⊥
+TakesFloat count (givenDouble pattern) = (count ≡ 64) ⊎ (widened (narrowed pattern) ≡ pattern)
+TakesFloat count givenOther = ⊥
+
+abbrev pub Takes : DataType → ℕ → Given → Type 0
+Takes (unsignedInteger o) count v = TakesUnsigned count v
+Takes (signedInteger o) count v = TakesSigned count v
+Takes (float o) count v = TakesFloat count v
+Takes (complex o) count v = ⊥
+Takes (string e) count v = ⊥
+Takes byteArray count v = ⊥
+Takes mimeSample count v = ⊥
+Takes mimeStream count v = ⊥
+Takes canOpenDate count v = ⊥
+Takes canOpenTime count v = ⊥
+Takes (unknown code) count v = ⊥
+
+pub record Writable (s : List ℕ) (idSize : ℕ) (c : Channel) (v : Given) : Type 0 where
+  pub field : FieldStands s idSize c
+  pub fixed : variableLength c ≡ false
+  pub takes : Takes (c .dataType) (c .bitCount) v
 
 -- ---- the joined data, a record of it, and a value in that
 

@@ -6,3 +6,4 @@ pub mod Exactly
 pub mod Causes
 pub mod PayloadEnds
 pub mod OverlapEnds
+pub mod WrittenValue
