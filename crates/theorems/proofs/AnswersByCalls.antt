@@ -38,11 +38,11 @@ use Rattle.chain.specs.declared.acceptance.ChainRead.{ChainRead}
 use Rattle.records.specs.declared.record.RecordRead.{RecordRead}
 
 -- a reply that is the definition's
-exactly : {A P : Type 0} {r q : Reply A} → r ≡ q → Exactly P q → Exactly P r
+pub exactly : {A P : Type 0} {r q : Reply A} → r ≡ q → Exactly P q → Exactly P r
 exactly e h = record { answers = λ p. let a = h .answers p in (a .0, e ∙ a .1); only = λ a i. h .only a (sym e ∙ i) }
 
 -- and one beside the buffer
-of-outcome : {A : Type 0} {o q : Outcome A} → o ≡ q → o .reply ≡ q .reply
+pub of-outcome : {A : Type 0} {o q : Outcome A} → o ≡ q → o .reply ≡ q .reply
 of-outcome {A} e = ap (λ (o : Outcome A). o .reply) e
 
 -- ---- blocks

@@ -39,3 +39,5 @@ pub mod RoundTripsToC
 pub mod PayloadsByCalls
 pub mod PayloadsToC
 pub mod TwoFilesPayloads
+pub mod WrittenValuesByCalls
+pub mod WrittenValuesToC

@@ -18,6 +18,8 @@ use Rattle.blocks.proofs.Back.{written-one, header-one, type-one, list-one}
 use Rattle.channels.proofs.Back.{channel-one}
 use Rattle.text.proofs.Back.{text-one}
 use Rattle.fields.proofs.Back.{description-one, field-one, value-one, valid-value-one}
+use Rattle.encoder.specs.Meaning as encoder
+use Rattle.encoder.proofs.Back as encoder-back
 use Rattle.chain.proofs.Back.{chain-one}
 use Rattle.records.proofs.Back.{record-one}
 use Rattle.payloads.proofs.Back.{payload-fetched-one}
@@ -85,6 +87,8 @@ use Rattle.decoder.proofs.any_valid_value.Kinds as any-valid-value-kinds
 use Rattle.decoder.proofs.any_valid_value.Reads as any-valid-value
 use Rattle.decoder.proofs.decode_f64_from_record.Kinds as record-double-kinds
 use Rattle.decoder.proofs.decode_f64_from_record.Reads as record-double
+use Rattle.encoder.proofs.encode_channel_value.Kinds as value-write-kinds
+use Rattle.encoder.proofs.encode_channel_value.Reads as value-write
 use Rattle.chain.proofs.accept.Kinds as chain-accept-kinds
 use Rattle.chain.proofs.accept.Reads as chain-accept
 use Rattle.chain.proofs.data_length.Kinds as chain-length-kinds
@@ -212,6 +216,9 @@ any-valid-value-settled = settled (λ κs a y z b c p q. (valid-value-one y z (p
 
 pub record-double-settled : Settled 1 record-double-kinds.ps record-double-kinds.r record-double.Asked record-double.ensures record-double.Learnt
 record-double-settled = settled (λ κs a y z b c p q. (p ∙ sym q, refl))
+
+pub value-write-settled : Settled 1 value-write-kinds.ps value-write-kinds.r value-write.Asked value-write.ensures value-write.Learnt
+value-write-settled = settled (λ κs a y z b c p q. one-outcome encoder.writtenReply encoder-back.written-one (λ out. (tt, (tt, (tt, (out, tt))))) (p ∙ sym q))
 
 pub chain-accept-settled : Settled 2 chain-accept-kinds.ps chain-accept-kinds.r chain-accept.Asked chain-accept.ensures chain-accept.Learnt
 chain-accept-settled = settled (λ κs a y z b c p q. (chain-one y z (p ∙ sym q), refl))

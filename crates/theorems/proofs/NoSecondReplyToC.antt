@@ -40,6 +40,8 @@ use Rattle.mf4.proofs.mf4_decode_valid_value.Kinds as mf4-decode-valid-value-ki
 use Rattle.mf4.proofs.mf4_decode_valid_value.Reads as mf4-decode-valid-value
 use Rattle.mf4.proofs.mf4_decode_double.Kinds as mf4-decode-double-kinds
 use Rattle.mf4.proofs.mf4_decode_double.Reads as mf4-decode-double
+use Rattle.mf4.proofs.mf4_write_value.Kinds as mf4-write-value-kinds
+use Rattle.mf4.proofs.mf4_write_value.Reads as mf4-write-value
 use Rattle.mf4.proofs.mf4_data_length.Kinds as mf4-data-length-kinds
 use Rattle.mf4.proofs.mf4_data_length.Reads as mf4-data-length
 use Rattle.mf4.proofs.mf4_read_record.Kinds as mf4-read-record-kinds
@@ -108,6 +110,9 @@ mf4-decode-valid-value-settled = settled (λ κs a y z b c p q. (p ∙ sym q, re
 
 pub mf4-decode-double-settled : Settled 1 mf4-decode-double-kinds.ps mf4-decode-double-kinds.r mf4-decode-double.Asked mf4-decode-double.ensures mf4-decode-double.Learnt
 mf4-decode-double-settled = settled (λ κs a y z b c p q. (p ∙ sym q, refl))
+
+pub mf4-write-value-settled : Settled 1 mf4-write-value-kinds.ps mf4-write-value-kinds.r mf4-write-value.Asked mf4-write-value.ensures mf4-write-value.Learnt
+mf4-write-value-settled = settled (λ κs a y z b c p q. one-returned (λ out. (tt, (tt, (tt, (out, tt))))) (p ∙ sym q))
 
 pub mf4-data-length-settled : Settled 1 mf4-data-length-kinds.ps mf4-data-length-kinds.r mf4-data-length.Asked mf4-data-length.ensures mf4-data-length.Learnt
 mf4-data-length-settled = settled (λ κs a y z b c p q. (p ∙ sym q, refl))

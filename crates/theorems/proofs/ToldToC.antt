@@ -8,9 +8,9 @@ use native.Mathlib.Omega.{arith}
 use contract.Lifetimes.{Lfts}
 use lib.IntN.{pos, negsuc}
 use lib.ListN.{length, getD, take, drop}
-use lib.Dec.{ltb, eqb}
+use lib.Dec.{ltb, leb, eqb}
 use lib.Pow.{pow-pos, pow-mono, pow-add}
-use borrow.Author.Tests.{ltb-true, ltb-false, eqb-false}
+use borrow.Author.Tests.{ltb-true, ltb-false, leb-true, eqb-false}
 use Rattle.definitions.specs.Reply.{Reply, Outcome, answer, refusal, if_then_else_, andThen, told}
 use Rattle.definitions.specs.Bytes.{twosComplement, u64At}
 use Rattle.definitions.specs.Unicode.{Encoding, textWritten}
@@ -19,11 +19,14 @@ use Rattle.definitions.specs.DataType.{DataType, unsignedInteger, signedInteger
 use Rattle.definitions.specs.Channel.{Channel, Value, ValidValue, signed, decoded, startOf, spanOf, numberIn, isNumber, isInteger, isFloating, valueBy, valueOf, validOf, validValueOf}
 use Rattle.definitions.specs.ChannelBlock.{ChannelBlock, fieldsAt, described, channelBlockOf, channelWritten}
 use Rattle.definitions.specs.DataList.{listOf, listWritten, equal, variable}
+use Rattle.definitions.specs.WrittenValue.{valueWritten}
 use Rattle.definitions.specs.Chain.{dataLength, fetched, valueFetched}
+use Rattle.definitions.proofs.Replies.{both}
 use Rattle.mf4.specs.Clauses.{Slice}
 use Rattle.replies.specs.Replies.{Returned, returned, returnedBy, writtenC, headerGiven, textC}
 use Rattle.replies.specs.Channels.{blockGiven, channelC}
 use Rattle.replies.specs.Values.{channelGiven, validValueC, fetchedC}
+use Rattle.replies.specs.Stored.{numberGiven, storedC}
 use Rattle.replies.specs.declared.written.Mf4Written.{Mf4Written}
 use Rattle.replies.specs.declared.header.Mf4BlockHeader.{Mf4BlockHeader}
 use Rattle.replies.specs.declared.header.Mf4Header.{Mf4Header}
@@ -36,12 +39,14 @@ use Rattle.replies.specs.declared.values.Mf4Value.{Mf4Value}
 use Rattle.replies.specs.declared.valid_values.Mf4ValidValue.{Mf4ValidValue}
 use Rattle.replies.specs.declared.fetches.Mf4Length.{Mf4Length}
 use Rattle.replies.specs.declared.fetches.Mf4Fetched.{Mf4Fetched}
-use Rattle.replies.proofs.ToldToC.{Tellable, Any, OwnType, Reversible, headerAgain, header-told, writtenAgain, written-told, listAgain, list-told, channelAgain, description-back, channel-told, textAgain, text-told, valueReplyAgain, value-told, validValueAgain, valid-value-told, lengthAgain, length-told, fetchedAgain, fetched-told}
-use Rattle.theorems.specs.ClausesToC.{ReadsHeaderC, WritesHeaderC, ReadsListC, WritesEqualC, WritesVariableC, ReadsChannelC, WritesChannelC, WritesTextC, ReadsValueC, ReadsValidValueC, ReadsLengthC, ReadsRecordC, ReadsRecordValueC}
+use Rattle.replies.specs.declared.stored.Mf4Number.{Mf4Number}
+use Rattle.replies.specs.declared.stored.Mf4Stored.{Mf4Stored}
+use Rattle.replies.proofs.ToldToC.{Tellable, Any, OwnType, Reversible, headerAgain, header-told, writtenAgain, written-told, listAgain, list-told, channelAgain, description-back, channel-told, textAgain, text-told, valueReplyAgain, value-told, validValueAgain, valid-value-told, lengthAgain, length-told, fetchedAgain, fetched-told, storedAgain, stored-told}
+use Rattle.theorems.specs.ClausesToC.{ReadsHeaderC, WritesHeaderC, ReadsListC, WritesEqualC, WritesVariableC, ReadsChannelC, WritesChannelC, WritesTextC, ReadsValueC, ReadsValidValueC, ReadsLengthC, WritesValueC, ReadsRecordC, ReadsRecordValueC}
 use Rattle.theorems.proofs.TypeCodes.{code-back, code-owned}
 use Rattle.theorems.proofs.ChannelAnswers.{channel-stands}
 use Rattle.theorems.proofs.TextClausesToC.{text-clause}
-use Rattle.theorems.proofs.RefusalNumbers.{Numbered, OfBlocks, between, header-numbered, list-numbered, channel-numbered, header-written-numbered, channel-written-numbered, list-written-numbered, text-written-numbered, length-numbered, fetched-numbered}
+use Rattle.theorems.proofs.RefusalNumbers.{Numbered, OfBlocks, OfWriting, between, value-written-numbered, header-numbered, list-numbered, channel-numbered, header-written-numbered, channel-written-numbered, list-written-numbered, text-written-numbered, length-numbered, fetched-numbered}
 
 -- ---- the values of fields can be told
 
@@ -112,6 +117,10 @@ valid-value-tellable s idSize dataBytes c = go (valueOf s idSize c) (value-tella
 of-blocks : {A : Type 0} (r : Reply A) → Numbered OfBlocks r → Tellable Any r
 of-blocks (answer a) h = tt
 of-blocks (refusal n t) h = omega (arith, between 2 17 n (h n t refl) .0)
+
+of-writing : {A : Type 0} (r : Reply A) → Numbered OfWriting r → Tellable Any r
+of-writing (answer a) h = tt
+of-writing (refusal n t) h = omega (arith, leb-true 18 n (both (leb 18 n) _ (h n t refl) .0))
 
 -- of a call that wrote
 by-result : {A R : Type 0} (toC : Reply A → R) (back : R → Reply A) {y : R} {after : List ℕ} {o : Outcome A}
@@ -186,6 +195,11 @@ mf4-decode-valid-value-told κs bytes idSize dataBytes channel y p =
 
 pub mf4-data-length-told : (κs : Lfts 1) (file : Slice) (start : ℕ) (y : Mf4Length) → ReadsLengthC κs file start y → lengthAgain y ≡ dataLength (file .now) start
 mf4-data-length-told κs file start y p = ap lengthAgain p ∙ length-told _ (of-blocks _ (length-numbered (file .now) start))
+
+pub mf4-write-value-told : (κs : Lfts 1) (idSize : ℕ) (channel : Mf4Channel) (value : Mf4Number) (bytes : Slice) (y : Mf4Stored) (after : List ℕ)
+    → WritesValueC κs idSize channel value bytes y after → storedAgain y ≡ valueWritten (bytes .now) idSize (channelGiven channel) (numberGiven value) .reply
+mf4-write-value-told κs idSize channel value bytes y after p =
+    by-result storedC storedAgain p (stored-told _ (of-writing _ (value-written-numbered (bytes .now) idSize (channelGiven channel) (numberGiven value))))
 
 pub mf4-read-record-told : (κs : Lfts 2) (file : Slice) (start number size : ℕ) (out : Slice) (y : Mf4Fetched) (after : List ℕ)
     → ReadsRecordC κs file start number size out y after → fetchedAgain y ≡ fetched (file .now) start number size (out .now) .reply

@@ -17,6 +17,8 @@ use Rattle.text.specs.declared.answer.TextWrite.{TextWrite}
 use Rattle.fields.specs.declared.channel.Channel.{Channel}
 use Rattle.fields.specs.declared.value.ValueRead.{ValueRead}
 use Rattle.fields.specs.declared.value.ValidValueRead.{ValidValueRead}
+use Rattle.encoder.specs.declared.number.NumberGiven.{NumberGiven}
+use Rattle.encoder.specs.declared.encode.ValueWritten.{ValueWritten}
 use Rattle.chain.specs.declared.place.FileAddress.{FileAddress}
 use Rattle.chain.specs.declared.acceptance.ChainRead.{ChainRead}
 use Rattle.records.specs.declared.record.RecordRead.{RecordRead}
@@ -51,6 +53,8 @@ use Rattle.fields.proofs.check_value_validity.Kinds as validity-kinds
 use Rattle.fields.proofs.check_value_validity.Reads as validity
 use Rattle.decoder.proofs.decode_f64_from_record.Kinds as record-double-kinds
 use Rattle.decoder.proofs.decode_f64_from_record.Reads as record-double
+use Rattle.encoder.proofs.encode_channel_value.Kinds as value-write-kinds
+use Rattle.encoder.proofs.encode_channel_value.Reads as value-write
 use Rattle.chain.proofs.accept.Kinds as chain-accept-kinds
 use Rattle.chain.proofs.accept.Reads as chain-accept
 use Rattle.chain.proofs.data_length.Kinds as chain-length-kinds
@@ -121,6 +125,10 @@ ChecksValidity κs bytes idSize dataBytes channel y =
 abbrev pub ReadsDouble : Lfts 1 → Slice → ℕ → Channel → ℕ → Type 0
 ReadsDouble κs bytes idSize channel y =
     Allows 1 record-double-kinds.ps record-double-kinds.r record-double.Learnt κs (bytes, (idSize, (channel, tt))) y (tt, (tt, (tt, tt)))
+
+abbrev pub WritesValue : Lfts 1 → ℕ → Channel → NumberGiven → Slice → ValueWritten → List ℕ → Type 0
+WritesValue κs idSize channel given bytes y after =
+    Allows 1 value-write-kinds.ps value-write-kinds.r value-write.Learnt κs (idSize, (channel, (given, (bytes, tt)))) y (tt, (tt, (tt, (after, tt))))
 
 -- ---- a chain
 

@@ -19,6 +19,8 @@ use Rattle.replies.specs.declared.valid_values.Mf4ValidValue.{Mf4ValidValue}
 use Rattle.replies.specs.declared.fetches.Mf4Length.{Mf4Length}
 use Rattle.replies.specs.declared.fetches.Mf4Fetched.{Mf4Fetched}
 use Rattle.replies.specs.declared.payload.Mf4Payload.{Mf4Payload}
+use Rattle.replies.specs.declared.stored.Mf4Number.{Mf4Number}
+use Rattle.replies.specs.declared.stored.Mf4Stored.{Mf4Stored}
 use Rattle.mf4.proofs.mf4_read_header.Kinds as read-header-kinds
 use Rattle.mf4.proofs.mf4_read_header.Reads as read-header
 use Rattle.mf4.proofs.mf4_write_header.Kinds as write-header-kinds
@@ -57,6 +59,8 @@ use Rattle.mf4.proofs.mf4_read_record.Kinds as read-record-kinds
 use Rattle.mf4.proofs.mf4_read_record.Reads as read-record
 use Rattle.mf4.proofs.mf4_record_value.Kinds as record-value-kinds
 use Rattle.mf4.proofs.mf4_record_value.Reads as record-value
+use Rattle.mf4.proofs.mf4_write_value.Kinds as write-value-kinds
+use Rattle.mf4.proofs.mf4_write_value.Reads as write-value
 use Rattle.mf4.proofs.mf4_record_payload.Kinds as record-payload-kinds
 use Rattle.mf4.proofs.mf4_record_payload.Reads as record-payload
 
@@ -113,6 +117,10 @@ ChecksValidityC κs bytes idSize dataBytes channel y =
 abbrev pub ReadsDoubleC : Lfts 1 → Slice → ℕ → Mf4Channel → ℕ → Type 0
 ReadsDoubleC κs bytes idSize channel y =
     Allows 1 decode-double-kinds.ps decode-double-kinds.r decode-double.Learnt κs (bytes, (idSize, (channel, tt))) y (tt, (tt, (tt, tt)))
+
+abbrev pub WritesValueC : Lfts 1 → ℕ → Mf4Channel → Mf4Number → Slice → Mf4Stored → List ℕ → Type 0
+WritesValueC κs idSize channel value bytes y after =
+    Allows 1 write-value-kinds.ps write-value-kinds.r write-value.Learnt κs (idSize, (channel, (value, (bytes, tt)))) y (tt, (tt, (tt, (after, tt))))
 
 -- ---- the joined data, a record of it, and a value in that
 

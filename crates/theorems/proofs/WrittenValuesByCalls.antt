@@ -1,0 +1,73 @@
+-- Numbers that are written, about the calls' own clauses: written and then decoded, and decoded and then written.
+use mathlib.Core.Path.{_≡_, refl, sym, ap, _∙_, subst}
+use mathlib.Core.Bool.{true, false}
+use mathlib.Core.List.{List}
+use Prim.Native.Nat.{ℕ}
+use contract.Lifetimes.{Lfts}
+use Rattle.definitions.specs.Reply.{Reply, Outcome, answer, refusal}
+use Rattle.definitions.specs.DataType.{kindOf, orderOf}
+use Rattle.definitions.specs.Channel.{variableLength, startOf, numberIn, isNumber, isFloating, valueOf, doubleIn, recordDouble}
+use Rattle.definitions.specs.WrittenValue.{valueWritten}
+use Rattle.words.proofs.Numbers.{Bytes}
+use Rattle.doubles.proofs.Narrowed.{ComesBack}
+use Rattle.fields.specs.Meaning.{channelMeant, valueReply}
+use Rattle.fields.specs.declared.channel.Channel.{Channel}
+use Rattle.fields.specs.declared.value.ValueRead.{ValueRead}
+use Rattle.encoder.specs.Meaning.{givenMeant, valueGiven, writtenReply}
+use Rattle.encoder.specs.declared.number.NumberGiven.{NumberGiven}
+use Rattle.encoder.specs.declared.encode.ValueWritten.{ValueWritten}
+use Rattle.encoder.specs.declared.encode.ValueWritten.the-variants.{Done}
+use Rattle.encoder.proofs.Back.{written-one}
+use Rattle.mf4.specs.Clauses.{Slice}
+use Rattle.theorems.specs.Clauses.{ReadsValue, ReadsDouble, WritesValue}
+use Rattle.theorems.specs.Exactly.{Exactly, Writable}
+use Rattle.theorems.specs.WrittenValue.{Sized, DecodesTo, SameOutside}
+use Rattle.theorems.proofs.WrittenValues.{written-exactly, refused-kept, written-decoded, outside-kept, decoded-written}
+use Rattle.theorems.proofs.AnswersByCalls.{exactly, of-outcome}
+
+module _ (κs : Lfts 1) (idSize : ℕ) (channel : Channel) (given : NumberGiven) (bytes : Slice) (y : ValueWritten) (after : List ℕ)
+    (p : WritesValue κs idSize channel given bytes y after)
+  where
+    same-buffer : after ≡ valueWritten (bytes .now) idSize (channelMeant channel) (givenMeant given) .buffer
+    same-buffer = ap (λ (o : Outcome (Unit {0})). o .buffer) p
+
+    same-reply : valueWritten (bytes .now) idSize (channelMeant channel) (givenMeant given) .reply ≡ writtenReply y
+    same-reply = sym (of-outcome p)
+
+    pub value-write-exactly : Exactly (Writable (bytes .now) idSize (channelMeant channel) (givenMeant given)) (writtenReply y)
+    value-write-exactly = exactly (of-outcome p) (written-exactly (bytes .now) idSize (channelMeant channel) (givenMeant given))
+
+    -- a refusal changes nothing
+    pub value-write-refused : (n t : ℕ) → writtenReply y ≡ refusal n t → after ≡ bytes .now
+    value-write-refused n t e = same-buffer ∙ refused-kept (bytes .now) idSize (channelMeant channel) (givenMeant given) n t (same-reply ∙ e)
+
+    module _ (b : Bytes (bytes .now)) (sized : Sized (givenMeant given)) where
+      -- and nothing changes outside the field
+      pub value-write-keeps : SameOutside (bytes .now) after idSize (channelMeant channel)
+      value-write-keeps =
+          subst (λ (t : List ℕ). SameOutside (bytes .now) t idSize (channelMeant channel)) (sym same-buffer)
+          (outside-kept (bytes .now) idSize (channelMeant channel) (givenMeant given) b sized)
+
+      module _ (done : y ≡ Done) where
+        decodes : DecodesTo after idSize (channelMeant channel) (givenMeant given)
+        decodes =
+            subst (λ (t : List ℕ). DecodesTo t idSize (channelMeant channel) (givenMeant given)) (sym same-buffer)
+            (written-decoded (bytes .now) idSize (channelMeant channel) (givenMeant given) b sized (same-reply ∙ ap writtenReply done))
+
+        -- what was written is decoded, and its double
+        pub write-then-decode : (ρs : Lfts 1) (written : Slice) (z : ValueRead) → written .now ≡ after → ReadsValue ρs written idSize channel z
+            → valueReply z ≡ answer (valueGiven (givenMeant given))
+        write-then-decode ρs written z e q = q ∙ ap (λ (t : List ℕ). valueOf t idSize (channelMeant channel)) e ∙ decodes .value
+
+        pub write-then-double : (ρs : Lfts 1) (written : Slice) (z : ℕ) → written .now ≡ after → ReadsDouble ρs written idSize channel z
+            → z ≡ doubleIn (answer (valueGiven (givenMeant given)))
+        write-then-double ρs written z e q = q ∙ ap (λ (t : List ℕ). recordDouble t idSize (channelMeant channel)) e ∙ decodes .double
+
+    -- what was decoded is written over itself
+    pub decode-then-write : Bytes (bytes .now) → variableLength (channelMeant channel) ≡ false → isNumber (kindOf (channelMeant channel .dataType)) ≡ true
+        → (isFloating (kindOf (channelMeant channel .dataType)) ≡ true → channelMeant channel .bitCount ≡ 32
+        → ComesBack (numberIn (orderOf (channelMeant channel .dataType)) (bytes .now) (startOf idSize (channelMeant channel)) (channelMeant channel)))
+        → (ρs : Lfts 1) (z : ValueRead) → ReadsValue ρs bytes idSize channel z → valueReply z ≡ answer (valueGiven (givenMeant given)) → (y ≡ Done) × (after ≡ bytes .now)
+    decode-then-write b fixed number comes ρs z q e =
+        let same = decoded-written (bytes .now) idSize (channelMeant channel) (givenMeant given) b fixed number (sym q ∙ e) comes in
+        (written-one y Done (of-outcome (p ∙ same)), same-buffer ∙ ap (λ (o : Outcome (Unit {0})). o .buffer) same)

@@ -1,0 +1,137 @@
+-- The same of the calls for C: the kind and the number that mf4_write_value was given are those that mf4_decode_value tells.
+use mathlib.Core.Path.{_≡_, refl, sym, ap, ap₂, _∙_, subst}
+use mathlib.Core.Bool.{Bool, true, false}
+use mathlib.Core.List.{List}
+use Prim.Native.Nat.{ℕ, suc, _-_, _^_, _≤_, _<_}
+use native.Mathlib.Omega.{arith}
+use contract.Lifetimes.{Lfts}
+use lib.IntN.{pos, negsuc}
+use lib.Dec.{ltb, eqb}
+use borrow.Author.Tests.{ltb-true, ltb-false, eqb-true}
+use Rattle.definitions.specs.Reply.{Reply, answer, refusal, if_then_else_}
+use Rattle.definitions.specs.Bytes.{twosComplement}
+use Rattle.definitions.specs.DataType.{DataType, unsignedInteger, signedInteger, float, complex, string, byteArray, mimeSample, mimeStream, canOpenDate, canOpenTime, unknown, kindOf, orderOf}
+use Rattle.definitions.specs.Channel.{variableLength, startOf, numberIn, isNumber, isFloating, valueOf, doubleIn, recordDouble}
+use Rattle.definitions.specs.WrittenValue.{Given, givenUnsigned, givenSigned, givenDouble, givenOther, valueWritten}
+use Rattle.words.proofs.Numbers.{Bytes}
+use Rattle.doubles.proofs.Narrowed.{ComesBack}
+use Rattle.encoder.specs.Meaning.{valueGiven}
+use Rattle.replies.specs.Replies.{Returned, returned, returnedBy}
+use Rattle.replies.specs.Values.{channelGiven, wordOf, numberC, decodedC, answerC, valueC}
+use Rattle.replies.specs.Stored.{givenBy, numberGiven, storedC}
+use Rattle.replies.specs.declared.channel.Mf4Channel.{Mf4Channel}
+use Rattle.replies.specs.declared.values.Mf4Value.{Mf4Value}
+use Rattle.replies.specs.declared.stored.Mf4Number.{Mf4Number}
+use Rattle.replies.specs.declared.stored.Mf4Stored.{Mf4Stored}
+use Rattle.mf4.specs.Clauses.{Slice}
+use Rattle.theorems.specs.ClausesToC.{ReadsValueC, ReadsDoubleC, WritesValueC}
+use Rattle.theorems.specs.Exactly.{ExactlyZero, Takes, Writable}
+use Rattle.theorems.specs.WrittenValue.{Sized, DecodesTo, SameOutside}
+use Rattle.theorems.proofs.WrittenValues.{written-exactly, refused-kept, written-decoded, outside-kept, decoded-written}
+use Rattle.theorems.proofs.ToldToC.{mf4-write-value-told}
+use Rattle.theorems.proofs.AnswersToC.{zero-exactly}
+
+-- ---- what C gives, and what it is told
+
+word-again : (n : ℕ) → n < 2 ^ 64 → wordOf (twosComplement 64 n) ≡ n
+word-again n l = go (ltb n (2 ^ 63)) refl
+  where
+    go : (t : Bool) → ltb n (2 ^ 63) ≡ t → wordOf (if t then pos n else negsuc (2 ^ 64 - suc n)) ≡ n
+    go true e = refl
+    go false e = let high : 2 ^ 63 ≤ n = ltb-false n (2 ^ 63) e in omega arith
+
+-- no field takes what is no number
+none-taken : (t : DataType) (count : ℕ) → Takes t count givenOther → ⊥
+none-taken (unsignedInteger o) count h = h
+none-taken (signedInteger o) count h = h
+none-taken (float o) count h = h
+none-taken (complex o) count h = h
+none-taken (string e) count h = h
+none-taken byteArray count h = h
+none-taken mimeSample count h = h
+none-taken mimeStream count h = h
+none-taken canOpenDate count h = h
+none-taken canOpenTime count h = h
+none-taken (unknown code) count h = h
+
+-- a number that is taken is shown as it was given
+shown-again : (type : DataType) (count kind number : ℕ) → number < 2 ^ 64 → Takes type count (givenBy kind number) → decodedC (valueGiven (givenBy kind number)) ≡ numberC kind number
+shown-again type count kind number l = one (eqb kind 1) refl
+  where
+    three : (t : Bool) → eqb kind 3 ≡ t → Takes type count (if t then givenDouble number else givenOther)
+        → decodedC (valueGiven (if t then givenDouble number else givenOther)) ≡ numberC kind number
+    three true e h = ap (λ (k : ℕ). numberC k number) (sym (eqb-true kind 3 e))
+    three false e h = absurd (none-taken type count h)
+
+    two : (t : Bool) → eqb kind 2 ≡ t → Takes type count (if t then givenSigned (twosComplement 64 number) else if eqb kind 3 then givenDouble number else givenOther)
+        → decodedC (valueGiven (if t then givenSigned (twosComplement 64 number) else if eqb kind 3 then givenDouble number else givenOther)) ≡ numberC kind number
+    two true e h = ap₂ numberC (sym (eqb-true kind 2 e)) (word-again number l)
+    two false e h = three (eqb kind 3) refl h
+
+    one : (t : Bool) → eqb kind 1 ≡ t
+        → Takes type count (if t then givenUnsigned number else if eqb kind 2 then givenSigned (twosComplement 64 number) else if eqb kind 3 then givenDouble number else givenOther)
+        → decodedC (valueGiven (if t then givenUnsigned number else if eqb kind 2 then givenSigned (twosComplement 64 number) else if eqb kind 3 then givenDouble number else givenOther))
+        ≡ numberC kind number
+    one true e h = ap (λ (k : ℕ). numberC k number) (sym (eqb-true kind 1 e))
+    one false e h = two (eqb kind 2) refl h
+
+-- a number of 64 bits is the pattern of a double
+number-sized : (kind number : ℕ) → number < 2 ^ 64 → Sized (givenBy kind number)
+number-sized kind number l = go (eqb kind 1) (eqb kind 2) (eqb kind 3)
+  where
+    go : (a b c : Bool) → Sized (if a then givenUnsigned number else if b then givenSigned (twosComplement 64 number) else if c then givenDouble number else givenOther)
+    go true b c = tt
+    go false true c = tt
+    go false false true = l
+    go false false false = tt
+
+-- ---- the call
+
+module _ (κs : Lfts 1) (idSize : ℕ) (channel : Mf4Channel) (value : Mf4Number) (bytes : Slice) (y : Mf4Stored) (after : List ℕ)
+    (p : WritesValueC κs idSize channel value bytes y after)
+  where
+    same-buffer : after ≡ valueWritten (bytes .now) idSize (channelGiven channel) (numberGiven value) .buffer
+    same-buffer = ap (λ (x : Returned Mf4Stored). x .buffer) p
+
+    pub value-write-zero : ExactlyZero (Writable (bytes .now) idSize (channelGiven channel) (numberGiven value)) (y .reply)
+    value-write-zero =
+        zero-exactly (y .reply) (y .told) _ _ (mf4-write-value-told κs idSize channel value bytes y after p)
+        (written-exactly (bytes .now) idSize (channelGiven channel) (numberGiven value))
+
+    replied : y .reply ≡ 0 → valueWritten (bytes .now) idSize (channelGiven channel) (numberGiven value) .reply ≡ answer tt
+    replied e = written-exactly (bytes .now) idSize (channelGiven channel) (numberGiven value) .answers (value-write-zero .only e) .1
+
+    -- a reply other than 0 changes nothing
+    pub value-write-spares : (y .reply ≡ 0 → ⊥) → after ≡ bytes .now
+    value-write-spares some = go (valueWritten (bytes .now) idSize (channelGiven channel) (numberGiven value) .reply) refl
+      where
+        go : (r : Reply (Unit {0})) → valueWritten (bytes .now) idSize (channelGiven channel) (numberGiven value) .reply ≡ r → after ≡ bytes .now
+        go (answer u) e = absurd (some (ap (λ (x : Returned Mf4Stored). x .result .reply) p ∙ ap (λ (r : Reply (Unit {0})). storedC r .reply) e))
+        go (refusal n t) e = same-buffer ∙ refused-kept (bytes .now) idSize (channelGiven channel) (numberGiven value) n t e
+
+    module _ (b : Bytes (bytes .now)) (sized : value .number < 2 ^ 64) where
+      fits : Sized (numberGiven value)
+      fits = number-sized (value .kind) (value .number) sized
+
+      -- nothing changes outside the field
+      pub value-write-keeps : SameOutside (bytes .now) after idSize (channelGiven channel)
+      value-write-keeps =
+          subst (λ (t : List ℕ). SameOutside (bytes .now) t idSize (channelGiven channel)) (sym same-buffer)
+          (outside-kept (bytes .now) idSize (channelGiven channel) (numberGiven value) b fits)
+
+      module _ (done : y .reply ≡ 0) where
+        decodes : DecodesTo after idSize (channelGiven channel) (numberGiven value)
+        decodes =
+            subst (λ (t : List ℕ). DecodesTo t idSize (channelGiven channel) (numberGiven value)) (sym same-buffer)
+            (written-decoded (bytes .now) idSize (channelGiven channel) (numberGiven value) b fits (replied done))
+
+        -- mf4_decode_value answers the kind and the number that were given
+        pub write-then-decode : (ρs : Lfts 1) (written : Slice) (z : Mf4Value) → written .now ≡ after → ReadsValueC ρs written idSize channel z
+            → z ≡ answerC (numberC (value .kind) (value .number))
+        write-then-decode ρs written z e q =
+            q ∙ ap (λ (t : List ℕ). valueC (valueOf t idSize (channelGiven channel))) e ∙ ap valueC (decodes .value)
+            ∙ ap answerC (shown-again (channelGiven channel .dataType) (channelGiven channel .bitCount) (value .kind) (value .number) sized (value-write-zero .only done .takes))
+
+        pub write-then-double : (ρs : Lfts 1) (written : Slice) (z : ℕ) → written .now ≡ after → ReadsDoubleC ρs written idSize channel z
+            → z ≡ doubleIn (answer (valueGiven (numberGiven value)))
+        write-then-double ρs written z e q = q ∙ ap (λ (t : List ℕ). recordDouble t idSize (channelGiven channel)) e ∙ decodes .double
