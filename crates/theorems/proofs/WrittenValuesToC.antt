@@ -2,7 +2,7 @@
 use mathlib.Core.Path.{_≡_, refl, sym, ap, ap₂, _∙_, subst}
 use mathlib.Core.Bool.{Bool, true, false}
 use mathlib.Core.List.{List}
-use Prim.Native.Nat.{ℕ, suc, _-_, _^_, _≤_, _<_}
+use Prim.Native.Nat.{ℕ, zero, suc, _-_, _^_, _≤_, _<_}
 use native.Mathlib.Omega.{arith}
 use contract.Lifetimes.{Lfts}
 use lib.IntN.{pos, negsuc}
@@ -19,6 +19,7 @@ use Rattle.encoder.specs.Meaning.{valueGiven}
 use Rattle.replies.specs.Replies.{Returned, returned, returnedBy}
 use Rattle.replies.specs.Values.{channelGiven, wordOf, numberC, decodedC, answerC, valueC}
 use Rattle.replies.specs.Stored.{givenBy, numberGiven, storedC}
+use Rattle.replies.proofs.ToldToC.{valueAgain}
 use Rattle.replies.specs.declared.channel.Mf4Channel.{Mf4Channel}
 use Rattle.replies.specs.declared.values.Mf4Value.{Mf4Value}
 use Rattle.replies.specs.declared.stored.Mf4Number.{Mf4Number}
@@ -28,7 +29,7 @@ use Rattle.theorems.specs.ClausesToC.{ReadsValueC, ReadsDoubleC, WritesV
 use Rattle.theorems.specs.Exactly.{ExactlyZero, Takes, Writable}
 use Rattle.theorems.specs.WrittenValue.{Sized, DecodesTo, SameOutside}
 use Rattle.theorems.proofs.WrittenValues.{written-exactly, refused-kept, written-decoded, outside-kept, decoded-written}
-use Rattle.theorems.proofs.ToldToC.{mf4-write-value-told}
+use Rattle.theorems.proofs.ToldToC.{mf4-decode-value-told, mf4-write-value-told}
 use Rattle.theorems.proofs.AnswersToC.{zero-exactly}
 
 -- ---- what C gives, and what it is told
@@ -74,6 +75,14 @@ shown-again type count kind number l = one (eqb kind 1) refl
         ≡ numberC kind number
     one true e h = ap (λ (k : ℕ). numberC k number) (sym (eqb-true kind 1 e))
     one false e h = two (eqb kind 2) refl h
+
+-- and a number that is shown is given again
+given-again : (kind number at n : ℕ) → 0 < kind → kind ≤ 3 → valueAgain kind number at n ≡ valueGiven (givenBy kind number)
+given-again zero number at n some few = let no-kind : ⊥ = omega arith in absurd no-kind
+given-again (suc zero) number at n some few = refl
+given-again (suc (suc zero)) number at n some few = refl
+given-again (suc (suc (suc zero))) number at n some few = refl
+given-again (suc (suc (suc (suc k)))) number at n some few = let no-kind : ⊥ = omega arith in absurd no-kind
 
 -- a number of 64 bits is the pattern of a double
 number-sized : (kind number : ℕ) → number < 2 ^ 64 → Sized (givenBy kind number)
@@ -135,3 +144,18 @@ module _ (κs : Lfts 1) (idSize : ℕ) (channel : Mf4Channel) (value : Mf4Number
         pub write-then-double : (ρs : Lfts 1) (written : Slice) (z : ℕ) → written .now ≡ after → ReadsDoubleC ρs written idSize channel z
             → z ≡ doubleIn (answer (valueGiven (numberGiven value)))
         write-then-double ρs written z e q = q ∙ ap (λ (t : List ℕ). recordDouble t idSize (channelGiven channel)) e ∙ decodes .double
+
+    -- what mf4_decode_value answered is written over itself
+    pub decode-then-write : Bytes (bytes .now) → variableLength (channelGiven channel) ≡ false → isNumber (kindOf (channelGiven channel .dataType)) ≡ true
+        → (isFloating (kindOf (channelGiven channel .dataType)) ≡ true → channelGiven channel .bitCount ≡ 32
+        → ComesBack (numberIn (orderOf (channelGiven channel .dataType)) (bytes .now) (startOf idSize (channelGiven channel)) (channelGiven channel)))
+        → (ρs : Lfts 1) (z : Mf4Value) → ReadsValueC ρs bytes idSize channel z → z .reply ≡ 0 → 0 < z .kind → z .kind ≤ 3
+        → value .kind ≡ z .kind → value .number ≡ z .number → (y .reply ≡ 0) × (after ≡ bytes .now)
+    decode-then-write b fixed number comes ρs z q answered some few ek en =
+        let told : valueOf (bytes .now) idSize (channelGiven channel) ≡ answer (valueAgain (z .kind) (z .number) (z .at) (z .length)) =
+        sym (mf4-decode-value-told ρs bytes idSize channel z q)
+        ∙ ap (λ (r : ℕ). if eqb r 0 then answer (valueAgain (z .kind) (z .number) (z .at) (z .length)) else refusal r (z .told)) answered in
+        let same = decoded-written (bytes .now) idSize (channelGiven channel) (numberGiven value) b fixed number
+        (told ∙ ap answer (given-again (z .kind) (z .number) (z .at) (z .length) some few) ∙ ap₂ (λ (k n : ℕ). answer (valueGiven (givenBy k n))) (sym ek) (sym en)) comes in
+        let after-is : returned y after ≡ returned (storedC (answer tt)) (bytes .now) = p ∙ ap (returnedBy storedC) same in
+        (ap (λ (x : Returned Mf4Stored). x .result .reply) after-is, ap (λ (x : Returned Mf4Stored). x .buffer) after-is)
