@@ -1,8 +1,9 @@
 -- The border with C by place, and not by name alone: what each call makes of its arguments in their order. include/mf4.h has
 -- the same orders; those of the structs' fields are in `replies`.
 use mathlib.Core.Path.{_≡_, refl}
-use mathlib.Core.List.{List}
+use mathlib.Core.List.{List, map}
 use contract.Lifetimes.{Lfts}
+use denote.Ref.{RefT}
 use Prim.Native.Nat.{ℕ}
 use Rattle.definitions.specs.Bytes.{little, big}
 use Rattle.definitions.specs.Unicode.{latin1, utf8, utf16, textWritten}
@@ -14,11 +15,14 @@ use Rattle.definitions.specs.Channel.{valueOf, validOf, validValueOf, recordDou
 use Rattle.definitions.specs.WrittenValue.{valueWritten}
 use Rattle.definitions.specs.Chain.{dataLength, fetched, valueFetched}
 use Rattle.definitions.specs.Payload.{payloadFetched}
+use Rattle.definitions.specs.Overlap.{overlapOf}
 use Rattle.mf4.specs.Clauses.{Slice, Allows}
+use Rattle.mf4.specs.ByHand.{ClausesIn, Says}
 use Rattle.replies.specs.Replies.{flagC, writtenC, headerC, headerGiven, listC, textC, returned, returnedBy}
 use Rattle.replies.specs.Values.{channelGiven, valueC, validValueC, lengthC, fetchedC, payloadC, returnedBoth, returnedBothBy}
 use Rattle.replies.specs.Channels.{channelC, blockGiven}
 use Rattle.replies.specs.Stored.{numberGiven, storedC}
+use Rattle.replies.specs.Overlaps.{overlapC}
 use Rattle.replies.specs.declared.written.Mf4Written.{Mf4Written}
 use Rattle.replies.specs.declared.header.Mf4BlockHeader.{Mf4BlockHeader}
 use Rattle.replies.specs.declared.header.Mf4Header.{Mf4Header}
@@ -34,6 +38,7 @@ use Rattle.replies.specs.declared.fetches.Mf4Fetched.{Mf4Fetched}
 use Rattle.replies.specs.declared.payload.Mf4Payload.{Mf4Payload}
 use Rattle.replies.specs.declared.stored.Mf4Number.{Mf4Number}
 use Rattle.replies.specs.declared.stored.Mf4Stored.{Mf4Stored}
+use Rattle.replies.specs.declared.overlap.Mf4Overlap.{Mf4Overlap}
 use Rattle.mf4.proofs.mf4_read_header.Kinds as mf4-read-header-kinds
 use Rattle.mf4.proofs.mf4_read_header.Reads as mf4-read-header
 use Rattle.mf4.proofs.mf4_write_header.Kinds as mf4-write-header-kinds
@@ -78,6 +83,7 @@ use Rattle.mf4.proofs.mf4_record_payload.Kinds as mf4-record-payload-ki
 use Rattle.mf4.proofs.mf4_record_payload.Reads as mf4-record-payload
 use Rattle.mf4.proofs.mf4_write_value.Kinds as mf4-write-value-kinds
 use Rattle.mf4.proofs.mf4_write_value.Reads as mf4-write-value
+use Rattle.mf4.proofs.mf4_first_overlap as mf4-first-overlap
 
 pub mf4-read-header-arguments : (κs : Lfts 1) (bytes : Slice) (y : Mf4Header)
     → Allows 1 mf4-read-header-kinds.ps mf4-read-header-kinds.r mf4-read-header.Learnt κs (bytes, tt) y (tt, tt)
@@ -188,3 +194,11 @@ pub mf4-write-value-arguments : (κs : Lfts 1) (recordIdSize : ℕ) (channel : M
     → Allows 1 mf4-write-value-kinds.ps mf4-write-value-kinds.r mf4-write-value.Learnt κs (recordIdSize, (channel, (value, (bytes, tt)))) y (tt, (tt, (tt, (after, tt))))
     ≡ (returned y after ≡ returnedBy storedC (valueWritten (bytes .now) recordIdSize (channelGiven channel) (numberGiven value)))
 mf4-write-value-arguments κs recordIdSize channel value bytes y after = refl
+-- proved by a walk of its own
+abbrev pub mf4-first-overlap-clauses : ClausesIn mf4-first-overlap.ended
+mf4-first-overlap-clauses w = mf4-first-overlap.clauses (w .𝓤) (w .H) (w .𝓖 .A) (w .𝓜 .mem) (w .𝓡 .run)
+
+pub mf4-first-overlap-arguments : (κs : Lfts 1) (list : RefT (List Mf4Channel)) (y : Mf4Overlap)
+    → Says mf4-first-overlap.ended mf4-first-overlap-clauses κs (list, tt) y (tt, tt)
+    (y ≡ overlapC (overlapOf (map channelGiven (list .now))))
+mf4-first-overlap-arguments κs list y w g = refl
