@@ -38,6 +38,8 @@ pub mod LeftAloneToC
 pub mod RoundTripsToC
 pub mod PayloadsByCalls
 pub mod PayloadsToC
+pub mod OverlapsToC
+pub mod OverlapExamples
 pub mod TwoFilesPayloads
 pub mod WrittenValuesByCalls
 pub mod WrittenValuesToC

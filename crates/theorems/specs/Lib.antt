@@ -7,3 +7,4 @@ pub mod Causes
 pub mod PayloadEnds
 pub mod OverlapEnds
 pub mod WrittenValue
+pub mod SoleByHand
