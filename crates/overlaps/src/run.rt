@@ -58,9 +58,9 @@ pub(crate) fn run_in(field: FieldBits, byte: u64) -> Run
     let low = field.bit_offset as u64;
     let high = low + field.bit_count as u64;
     let i = byte - field.byte_offset as u64;
+    let mirrored = byte_count(field) - 1 - i;
     if field.big_endian {
-        let last = byte_count(field) - 1;
-        return bits_of_byte(low, high, last - i);
+        return bits_of_byte(low, high, mirrored);
     }
     bits_of_byte(low, high, i)
 }

@@ -8,13 +8,13 @@ use Rattle.overlaps.proofs.run.run_in.Tie as tie
 
 returns : tie.Need-returns
 returns c =
-    let big = c .before .before in
-    big-run _ _ (ap orderMeant (big .if1 .taken)) (big .before .before .before .before .pre) (c .before .byte-count .ensures) (c .bits-of-byte .ensures)
+    let counted = c .before .before in
+    big-run _ _ (ap orderMeant (c .before .if1 .taken)) (counted .before .before .before .before .pre) (counted .byte-count .ensures) (c .bits-of-byte .ensures)
 
 returns-2 : tie.Need-returns-2
 returns-2 c =
-    let little = c .before in
-    little-run _ _ (ap orderMeant (little .if1 .left)) (little .before .before .before .before .pre) (c .bits-of-byte2 .ensures)
+    let counted = c .before .before in
+    little-run _ _ (ap orderMeant (c .before .if1 .left)) (counted .before .before .before .before .pre) (c .bits-of-byte2 .ensures)
 
 pub run-in-spec : {M : Type 1} → statement M
 run-in-spec =
