@@ -4,7 +4,7 @@ use mathlib.Core.Bool.{Bool, true, false, true≢false, _||_}
 use Prim.Native.Nat.{ℕ, zero, suc, _+_, _≤_, _<_}
 use native.Mathlib.Omega.{arith}
 use lib.Dec.{eqb}
-use borrow.Author.Tests.{eqb-true, eqb-false, eq-eqb, ne-eqb}
+use borrow.Author.Tests.{eqb-true, eqb-false, eq-eqb}
 use Rattle.definitions.specs.Channel.{Channel}
 use Rattle.definitions.specs.Overlap.{bitPlace, someFrom, shareABit}
 

@@ -1,5 +1,5 @@
 -- The bits of one record byte that belong to a field.
-use mathlib.Core.Path.{_≡_, refl, sym, ap, subst, _∙_}
+use mathlib.Core.Path.{_≡_, sym, ap, subst, _∙_}
 use Prim.Native.Nat.{ℕ, _+_, _-_, _*_, _/_, _%_, _≤_, _<_, min}
 use native.Mathlib.Omega.{arith}
 use Rattle.definitions.specs.Bytes.{Order, little, big, bytesFor, byteWith}
