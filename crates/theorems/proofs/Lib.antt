@@ -24,6 +24,7 @@ pub mod LeftAlone
 pub mod PayloadEnds
 pub mod WrittenValues
 pub mod Overlaps
+pub mod FixedNumbers
 pub mod PayloadAnswers
 pub mod LeftAloneByCalls
 pub mod AnswersByCalls
