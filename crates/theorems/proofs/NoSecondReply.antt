@@ -67,6 +67,8 @@ use Rattle.fields.proofs.channel.Channel.is_variable_length.Kinds as variable-l
 use Rattle.fields.proofs.channel.Channel.is_variable_length.Reads as variable-length
 use Rattle.fields.proofs.form_of.Kinds as form-of-type-kinds
 use Rattle.fields.proofs.form_of.Reads as form-of-type
+use Rattle.fields.proofs.is_over_a_word.Kinds as over-a-word-kinds
+use Rattle.fields.proofs.is_over_a_word.Reads as over-a-word
 use Rattle.fields.proofs.is_no_float_width.Kinds as no-float-width-kinds
 use Rattle.fields.proofs.is_no_float_width.Reads as no-float-width
 use Rattle.fields.proofs.find_field.Kinds as field-found-kinds
@@ -103,6 +105,8 @@ use Rattle.records.proofs.read_value.Kinds as record-value-kinds
 use Rattle.records.proofs.read_value.Reads as record-value
 use Rattle.payloads.proofs.read_payload.Kinds as record-payload-kinds
 use Rattle.payloads.proofs.read_payload.Reads as record-payload
+use Rattle.overlaps.proofs.begin_search.Kinds as search-begin-kinds
+use Rattle.overlaps.proofs.begin_search.Reads as search-begin
 
 -- what differs from call to call is why two replies are one; that a clause asks nothing and is the plain fact is computed
 pub settled : {n : ℕ} {ps : List (PK n)} {r : RK n} {learnt : Out n ps r}
@@ -187,6 +191,9 @@ variable-length-settled = settled (λ κs a y z b c p q. (p ∙ sym q, refl))
 pub form-of-type-settled : Settled 0 form-of-type-kinds.ps form-of-type-kinds.r form-of-type.Asked form-of-type.ensures form-of-type.Learnt
 form-of-type-settled = settled (λ κs a y z b c p q. (p ∙ sym q, refl))
 
+pub over-a-word-settled : Settled 0 over-a-word-kinds.ps over-a-word-kinds.r over-a-word.Asked over-a-word.ensures over-a-word.Learnt
+over-a-word-settled = settled (λ κs a y z b c p q. (p ∙ sym q, refl))
+
 pub no-float-width-settled : Settled 0 no-float-width-kinds.ps no-float-width-kinds.r no-float-width.Asked no-float-width.ensures no-float-width.Learnt
 no-float-width-settled = settled (λ κs a y z b c p q. (p ∙ sym q, refl))
 
@@ -240,3 +247,6 @@ record-value-settled = settled (λ κs a y z b c p q. one-outcome validValueRepl
 
 pub record-payload-settled : Settled 3 record-payload-kinds.ps record-payload-kinds.r record-payload.Asked record-payload.ensures record-payload.Learnt
 record-payload-settled = settled (λ κs a y z b c p q. in-places (λ out room. (tt, (tt, (tt, (tt, (tt, (tt, (tt, (out, (room, tt)))))))))) (payload-fetched-one y z _ _ _ _ (p ∙ sym q)))
+
+pub search-begin-settled : Settled 0 search-begin-kinds.ps search-begin-kinds.r search-begin.Asked search-begin.ensures search-begin.Learnt
+search-begin-settled = settled (λ κs a y z b c p q. (p ∙ sym q, refl))
