@@ -10,16 +10,19 @@ use lib.Dec.{T, leb}
 use lib.Ieee.{Float, nan, binary32, binary64, isNan, fits, ofBits, toBits}
 use lib.Ieee.Bits.{ofBits-toBits, toBits-ofBits, ofBits-fits, toBits-lt, nanBits-is}
 use borrow.Author.Tests.{leb-true, leb-false, le-leb, lt-leb, eqb-true, eq-eqb, ne-eqb}
-use Rattle.definitions.specs.Reply.{answer, refusal}
+use Rattle.definitions.specs.Reply.{Reply, answer, refusal}
 use Rattle.definitions.specs.Ieee754.{nanPattern, widened, narrowed, narrows}
 use Rattle.definitions.specs.WrittenValue.{fitting}
-use Rattle.doubles.specs.Meaning.{OnlyOne}
+use Rattle.doubles.specs.Meaning.{narrowMeant, OnlyOne}
+use Rattle.doubles.specs.declared.narrowing.Narrowed.{Narrowed}
+use Rattle.doubles.specs.declared.narrowing.Narrowed.the-variants.{Single, Wider}
 use Rattle.doubles.proofs.Pattern.{signBit}
 use Rattle.doubles.proofs.Ties.{le-or-lt}
 use Rattle.doubles.proofs.Nan.{nan-above, no-nan-below}
 use Rattle.doubles.proofs.Widened.{widening-exact, nan-widened, sign-widened, widened-clear}
 
 -- ---- there and back
+
 -- a double that narrows is what its 32-bit pattern widens to
 pub narrowed-back : (b : ℕ) → narrows b ≡ true → widened (narrowed b) ≡ b
 narrowed-back b h = eqb-true (widened (narrowed b)) b h
@@ -41,6 +44,7 @@ widened-narrows x =
     (ap widened (narrowed-widened x) ∙ ap (toBits binary64) (ofBits-toBits binary32 (ofBits binary32 x) (ofBits-fits binary32 x)))
 
 -- ---- which patterns come back
+
 -- a 32-bit pattern that is no NaN's, or that of the one NaN
 abbrev pub ComesBack : ℕ → Type 0
 ComesBack x = (x % 2 ^ 31 ≤ 0x7f80_0000) ⊎ (x ≡ 0x7fc0_0000)
@@ -66,6 +70,19 @@ come-back-only x e = elim (le-or-lt (x % 2 ^ 31) 0x7f80_0000) [
 ]
 
 -- ---- as a program makes it: b is no NaN, and c is tried
+
+abbrev narrowAgain : Reply ℕ → Narrowed
+narrowAgain (answer x) = Single x
+narrowAgain (refusal n t) = Wider
+
+again : (r : Narrowed) → narrowAgain (narrowMeant r) ≡ r
+again (Single x) = refl
+again Wider = refl
+
+-- the meaning is one-to-one
+pub narrow-one : (r q : Narrowed) → narrowMeant r ≡ narrowMeant q → r ≡ q
+narrow-one r q e = sym (again r) ∙ ap narrowAgain e ∙ again q
+
 pub nan-way : answer 0x7fc0_0000 ≡ fitting (narrows nanPattern) (narrowed nanPattern)
 unfolding toBits ofBits
 nan-way = refl

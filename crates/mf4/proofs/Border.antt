@@ -194,6 +194,7 @@ pub mf4-write-value-arguments : (κs : Lfts 1) (recordIdSize : ℕ) (channel : M
     → Allows 1 mf4-write-value-kinds.ps mf4-write-value-kinds.r mf4-write-value.Learnt κs (recordIdSize, (channel, (value, (bytes, tt)))) y (tt, (tt, (tt, (after, tt))))
     ≡ (returned y after ≡ returnedBy storedC (valueWritten (bytes .now) recordIdSize (channelGiven channel) (numberGiven value)))
 mf4-write-value-arguments κs recordIdSize channel value bytes y after = refl
+
 -- proved by a walk of its own
 abbrev pub mf4-first-overlap-clauses : ClausesIn mf4-first-overlap.ended
 mf4-first-overlap-clauses w = mf4-first-overlap.clauses (w .𝓤) (w .H) (w .𝓖 .A) (w .𝓜 .mem) (w .𝓡 .run)

@@ -14,6 +14,7 @@ use Rattle.blocks.specs.Meaning.{writtenReply}
 use Rattle.text.specs.Meaning.{textReply}
 use Rattle.fields.specs.Meaning.{validValueReply}
 use Rattle.records.specs.Meaning.{recordReply}
+use Rattle.doubles.proofs.Narrowed.{narrow-one}
 use Rattle.blocks.proofs.Back.{written-one, header-one, type-one, list-one}
 use Rattle.channels.proofs.Back.{channel-one}
 use Rattle.text.proofs.Back.{text-one}
@@ -35,6 +36,8 @@ use Rattle.doubles.proofs.double_of_signed.Kinds as double-signed-kinds
 use Rattle.doubles.proofs.double_of_signed.Reads as double-signed
 use Rattle.doubles.proofs.widen.Kinds as double-widened-kinds
 use Rattle.doubles.proofs.widen.Reads as double-widened
+use Rattle.doubles.proofs.narrow.Kinds as double-narrowed-kinds
+use Rattle.doubles.proofs.narrow.Reads as double-narrowed
 use Rattle.doubles.proofs.value_of.Kinds as double-value-kinds
 use Rattle.doubles.proofs.value_of.Reads as double-value
 use Rattle.blocks.proofs.header.BlockHeader.from_bytes.Kinds as header-read-kinds
@@ -142,6 +145,9 @@ double-signed-settled = settled (λ κs a y z b c p q. (p ∙ sym q, refl))
 
 pub double-widened-settled : Settled 0 double-widened-kinds.ps double-widened-kinds.r double-widened.Asked double-widened.ensures double-widened.Learnt
 double-widened-settled = settled (λ κs a y z b c p q. (p ∙ sym q, refl))
+
+pub double-narrowed-settled : Settled 0 double-narrowed-kinds.ps double-narrowed-kinds.r double-narrowed.Asked double-narrowed.ensures double-narrowed.Learnt
+double-narrowed-settled = settled (λ κs a y z b c p q. (narrow-one y z (p ∙ sym q), refl))
 
 pub double-value-settled : Settled 0 double-value-kinds.ps double-value-kinds.r double-value.Asked double-value.ensures double-value.Learnt
 double-value-settled = settled (λ κs a y z b c p q. (p ∙ sym q, refl))
