@@ -1,5 +1,5 @@
 /*
- * mf4.h: reading MDF4 channels, their descriptions, payloads and data lists, proved.
+ * mf4.h: reading MDF4 channels, their descriptions, payloads and data lists, and writing what a record holds, proved.
  *
  * Every call ends with an answer or a numbered refusal, for every input. A call that can refuse returns a struct by
  * value: `reply` is 0 (MF4_ANSWER) or the refusal's number, `told` is what the refusal tells beside its number (0 where it
@@ -26,9 +26,9 @@
 #include <string.h>
 
 #define MF4_VERSION_MAJOR 0
-#define MF4_VERSION_MINOR 3
+#define MF4_VERSION_MINOR 4
 #define MF4_VERSION_PATCH 0
-#define MF4_VERSION "0.3.0"
+#define MF4_VERSION "0.4.0"
 
 #ifdef __cplusplus
 extern "C" {
@@ -40,6 +40,7 @@ extern "C" {
 #define MF4_MAX_LISTS 256                     /* data lists of a chain; a 257th is refused with 8                       */
 #define MF4_MAX_FRAGMENTS 4096                /* data blocks of a chain (else 9), data links of a written list (else 5) */
 #define MF4_MAX_RECORD_SIZE 16384             /* bytes of a record; more are refused with 15                            */
+#define MF4_MAX_CHANNELS 256                  /* descriptions of a list; more are refused with 26                       */
 
 /* ---- replies ---------------------------------------------------------------------------------------------------- */
 
@@ -68,6 +69,10 @@ enum mf4_reply {
     MF4_FIELD_OUTSIDE = 21,      /* a field that ends outside the slice; told: the size needed, at most 2^64-1    */
     MF4_BAD_FLOAT_WIDTH = 22,    /* a float whose bit count is neither 32 nor 64                                  */
     MF4_PAYLOAD_OUTSIDE = 23,    /* a payload, or its length, that ends behind the joined data of its chain       */
+    MF4_DOES_NOT_FIT = 24,       /* a number that the field's bits do not hold                                    */
+    MF4_OTHER_KIND = 25,         /* a number of another kind than the channel's, or a channel of no fixed number  */
+    MF4_TOO_MANY_CHANNELS = 26,  /* a list of more than 256 descriptions                                          */
+    MF4_NO_FIXED_NUMBER = 27,    /* a description that is no fixed number; told: its place in the list, from 0    */
     MF4_NO_POSITION = 35,        /* a channel whose field in the record is no position of a payload               */
 
     /* Numbers from 256 on are those of this header's own helpers, never the library's. */
@@ -101,6 +106,10 @@ static inline const char *mf4_reply_text(uint32_t reply)
     case MF4_FIELD_OUTSIDE: return "the field ends outside the record or payload, which has too few bytes";
     case MF4_BAD_FLOAT_WIDTH: return "the description gives the float neither 32 nor 64 bits";
     case MF4_PAYLOAD_OUTSIDE: return "the payload or its length ends behind the joined data";
+    case MF4_DOES_NOT_FIT: return "the number does not fit the field";
+    case MF4_OTHER_KIND: return "the number is of another kind than the channel's, or the channel is no fixed number";
+    case MF4_TOO_MANY_CHANNELS: return "the list has over 256 descriptions";
+    case MF4_NO_FIXED_NUMBER: return "a description in the list is that of no fixed number";
     case MF4_NO_POSITION: return "the channel holds no position of a payload";
     case MF4_NO_TEXT_TYPE: return "the data type is no text";
     default: return "no reply of this library";
@@ -342,6 +351,75 @@ mf4_valid_value mf4_decode_valid_value(const uint8_t *record, size_t record_len,
 /* The value as a double's 64-bit pattern: integers rounded to the nearest double, ties to even. NaN, 0x7FF8000000000000,
  * for a payload, for what mf4_decode_value refuses, and for no number. */
 uint64_t mf4_decode_double(const uint8_t *record, size_t record_len, uint64_t record_id_size, mf4_channel channel);
+
+/* ---- a value written -------------------------------------------------------------------------------------------- */
+
+/* A number to be written, as mf4_value tells one: kind is MF4_KIND_UNSIGNED, MF4_KIND_SIGNED or MF4_KIND_DOUBLE, and number
+ * what that kind says. Every other kind is no number, and is refused with 25. */
+typedef struct mf4_number {
+    uint32_t kind;
+    uint64_t number;
+} mf4_number;
+
+/* Numbers of the three kinds. */
+static inline mf4_number mf4_unsigned(uint64_t value)
+{
+    mf4_number number = { MF4_KIND_UNSIGNED, 0 };
+    number.number = value;
+    return number;
+}
+
+static inline mf4_number mf4_signed(int64_t value)
+{
+    mf4_number number = { MF4_KIND_SIGNED, 0 };
+    number.number = (uint64_t)value;
+    return number;
+}
+
+static inline mf4_number mf4_double(double value)
+{
+    mf4_number number = { MF4_KIND_DOUBLE, 0 };
+    memcpy(&number.number, &value, sizeof value);
+    return number;
+}
+
+typedef struct mf4_stored {
+    uint32_t reply;
+    uint64_t told;
+} mf4_stored;
+
+/* Stores a number in a channel's field of a record, so that mf4_decode_value gives it back, and changes no bit outside the
+ * field; the record's invalidation bits are the caller's. A refusal changes nothing.
+ *
+ * Refuses first as mf4_decode_value does of that record and channel, with 18 to 22; then with 25 where the number is of another
+ * kind than the data type (MF4_UNSIGNED_.. takes an unsigned number alone, and so on: an integer is not made a float), or
+ * where the type is no number or the channel one of variable length; then with 24 where the field does not hold the number:
+ * an unsigned one of 2^bit_count or more, a signed one outside two's complement of bit_count bits, or, in a float of 32 bits,
+ * a double that widening would not give back. So a double that would be rounded is refused, and round it as (float)value
+ * first; -0, the infinities and what is subnormal as a float are stored. Of the NaNs a float of 32 bits takes
+ * 0x7FF8000000000000 alone, as 0x7FC00000; one of 64 bits takes every pattern. */
+mf4_stored mf4_write_value(uint64_t record_id_size, mf4_channel channel, mf4_number value, uint8_t *record,
+                           size_t record_len);
+
+/* ---- fields that overlap ---------------------------------------------------------------------------------------- */
+
+/* found: whether two of the fields share a bit of the record; then first and second are their places in the list, from 0. */
+typedef struct mf4_overlap {
+    uint32_t reply;
+    uint64_t told;
+    uint8_t found;
+    uint64_t first;
+    uint64_t second;
+} mf4_overlap;
+
+/* The first two descriptions whose fields share a bit: of all such pairs the one with the smallest first, and then the
+ * smallest second. Bit k of a field's number, of bit_count bits from bit_offset on, is bit k % 8 of the byte k / 8 behind
+ * byte_offset, in big-endian order counted from the field's last byte. Invalidation bits are no part of a field, and neither
+ * is the record id, which stands in front of all.
+ *
+ * Refuses with 26 over MF4_MAX_CHANNELS descriptions, then with 27 where one is no fixed number: no number, a channel of
+ * variable length, or what mf4_decode_value refuses in every record with 18, 19, 20 or 22. told is the first such place. */
+mf4_overlap mf4_first_overlap(const mf4_channel *list, size_t list_len);
 
 /* ---- texts ------------------------------------------------------------------------------------------------------ */
 
