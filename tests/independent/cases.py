@@ -8,7 +8,7 @@ import random
 import struct
 
 from protocol import LongFile
-from reference import Channel, ChannelBlock, Header
+from reference import NAN, Channel, ChannelBlock, Header, Number
 
 U8 = 2**8 - 1
 U16 = 2**16 - 1
@@ -412,6 +412,283 @@ def random_value_case(rng):
     if call in ("decode_value", "decode_double"):
         return call, (record, id_size, channel)
     return call, (record, id_size, data_bytes, channel)
+
+
+# ---- numbers written into a record -------------------------------------------------------------------------------------
+
+UNSIGNED_KIND, SIGNED_KIND, DOUBLE_KIND = 1, 2, 3
+NUMBER_KINDS = (UNSIGNED_KIND, SIGNED_KIND, DOUBLE_KIND)
+OTHER_KINDS = (0, 4, 5, 6, 7, 8, 9, 255, 256, 257, 258, 259, 2**31, U32)
+
+
+def kind_of_type(data_type):
+    """The kind that a type of number takes."""
+    return NUMBER_KINDS[data_type // 2]
+
+
+def write_case(rng, channel, number, id_size=0, room=None):
+    """Into a record of random bytes that ends with the field, or some bytes behind it; room: what the field gets."""
+    room = span_size(channel) if room is None else room
+    behind = rng.choice([0, 0, 1, 3])
+    return "write_value", (id_size, channel, number, some_bytes(rng, id_size + channel.byte_offset + room + behind))
+
+
+def placed_channel(rng, data_type, bit_count, bit_offset):
+    """With a place in the record, and what plays no part in it."""
+    channel = Channel(data_type, rng.choice([0, 0, 2, 255]), bit_offset, rng.choice([0, 0, 1, 2, 5]), bit_count,
+                      rng.choice([0, 1, 2, 3, U32]), edge_number(rng, U32), 0)
+    return channel._replace(channel_type=1) if rng.random() < 0.2 else channel._replace(data=rng.choice([0, 0, 9, U64]))
+
+
+def border_numbers(data_type, bit_count):
+    """The ends of what a width holds, and the first numbers behind them, as far as 64 bits go."""
+    if data_type < 2:
+        numbers = {0, 1, 2**(bit_count - 1), 2**bit_count - 1, 2**bit_count, 2**bit_count + 1, U64}
+        return sorted(number for number in numbers if number <= U64)
+    half = 2**(bit_count - 1)
+    numbers = {-half - 1, -half, -half + 1, -1, 0, 1, half - 1, half, half + 1, -2**63, 2**63 - 1, 2 * half - 1}
+    return sorted(number % 2**64 for number in numbers if -2**63 <= number < 2**63)
+
+
+def write_width_boundaries(rng):
+    """Every width, bit offset and type of integer, at the borders of what it holds; nine bytes among the spans."""
+    for bit_count, bit_offset, data_type in itertools.product(range(1, 65), range(8), range(4)):
+        for number in border_numbers(data_type, bit_count):
+            channel = placed_channel(rng, data_type, bit_count, bit_offset)
+            yield write_case(rng, channel, Number(kind_of_type(data_type), number), rng.choice([0, 0, 1, 2, 8]))
+
+
+def write_bit_boundaries(rng):
+    """One bit set, or one not set, in a record of zeros and in one of ones: each bit lands in its own place alone."""
+    for bit_count, bit_offset, data_type in itertools.product((1, 7, 8, 9, 12, 31, 57, 64), (0, 3, 4, 7), range(6)):
+        if data_type < 4 or bit_count == 64:
+            channel = Channel(data_type, 0, bit_offset, 1, bit_count)
+            size = span_size(channel) + 2
+            for bit in range(bit_count - (data_type in (2, 3))):
+                number = Number(kind_of_type(data_type), 2**bit)
+                yield "write_value", (0, channel, number, bytes(size))
+                yield "write_value", (0, channel, number, b"\xff" * size)
+
+
+def doubles_of_singles():
+    """The bits of the doubles that hard singles widen to, without the NaNs."""
+    for single in HARD_SINGLES + [0x00800002, 0x01000000, 0x4B7FFFFF, 0x7F000000, 0x00400001, 0x33800000, 0xC2F]:
+        if single <= 0x7F800000:
+            yield struct.unpack("<Q", struct.pack("<d", struct.unpack("<f", struct.pack("<I", single))[0]))[0]
+
+
+# The smallest single and half of it, the largest that is no infinity, and the one halfway to what would be the next.
+SMALLEST, LARGEST = 0x36A0000000000000, 0x47EFFFFFE0000000
+TIES = [SMALLEST - 2**52, SMALLEST + 2**51, LARGEST + 2**28, 0x3FF0000010000000, 0x3FF0000030000000, 0x3810000000000000 - 2**29]
+
+
+def hard_narrowings():
+    """Doubles that a single holds, those beside them, ties, and NaNs."""
+    exact = sorted(set(doubles_of_singles()))
+    near = {size + step for size in exact for step in (-2**29, -2**28, -1, 0, 1, 2**28, 2**29)}
+    return sorted(size for size in near | set(TIES) | {tie + step for tie in TIES for step in (-1, 1)} | set(HARD_DOUBLES)
+                  | {0x7FF8000000000000 + step for step in (-1, 1, 2**29)} | {0x7FF0000020000000, 0x7FF4000000000000}
+                  if 0 <= size < 2**63)
+
+
+def write_float_boundaries(rng):
+    sizes = hard_narrowings()
+    for data_type, sign, bit_offset, size in itertools.product((4, 5), (0, 2**63), (0, 1, 4, 7), sizes):
+        channel = placed_channel(rng, data_type, 32, bit_offset)
+        yield write_case(rng, channel, Number(DOUBLE_KIND, sign | size))
+        if bit_offset in (0, 7):
+            yield write_case(rng, channel._replace(bit_count=64), Number(DOUBLE_KIND, sign | size))
+
+
+def write_kind_boundaries(rng):
+    """Every code of a type with every kind that is a number, and some that are none."""
+    for code in range(256):
+        for kind in NUMBER_KINDS + (rng.choice(OTHER_KINDS),):
+            for bit_count in (32, 64, 8):
+                channel = placed_channel(rng, code, bit_count, 0)
+                number = rng.choice([0, 1, 2**bit_count % 2**64, U64, 0x3FF0000000000000, NAN])
+                yield write_case(rng, channel, Number(kind, number), room=rng.choice([None, 8]))
+    for code, kind in itertools.product(range(18), OTHER_KINDS):
+        yield write_case(rng, placed_channel(rng, code, 32, 0), Number(kind, rng.choice([0, U64])))
+
+
+def write_refusal_boundaries(rng):
+    """What decoding refuses comes first, then another kind, then what does not fit: each beside each other one, in a record
+    that is empty, a byte short or long enough, behind an id with which the bytes needed pass 2^64, and in a payload."""
+    widths = (0, 1, 16, 31, 32, 33, 63, 64, 65, 128, U32)
+    for data_type, bit_offset, bit_count in itertools.product(TYPE_CODES, (0, 1, 7, 8, 9, 255), widths):
+        id_size, byte_offset = rng.choice(ID_SIZES), rng.randint(0, 9)
+        channel = Channel(data_type, rng.choice([0, 2]), bit_offset, byte_offset, bit_count)
+        span = span_size(channel)
+        needed = id_size + byte_offset + span
+        for kind in (kind_of_type(min(data_type, 5)), rng.choice(NUMBER_KINDS + OTHER_KINDS)):
+            number = Number(kind, rng.choice([0, 1, 2**63, U64, 0x3FF0000000000001]))
+            for length in (0, max(0, needed - 1), needed):
+                yield "write_value", (id_size, channel, number, some_bytes(rng, length))
+            far = channel._replace(byte_offset=rng.choice([0, byte_offset, U32]))
+            yield "write_value", (rng.choice(HUGE_ID_SIZES), far, number, some_bytes(rng, needed))
+            payload = some_bytes(rng, rng.choice([0, max(0, span - 1), span]))
+            yield "write_value", (edge_number(rng, U64), as_payload(rng, channel), number, payload)
+
+
+def write_place_boundaries(rng):
+    """Records that end with the field or one byte before it, with every id size and sums that pass 2^64."""
+    for data_type, id_size in itertools.product((0, 1, 2, 3, 4, 5, 7, 10, 13, 17), ID_SIZES + HUGE_ID_SIZES):
+        for bit_count, bit_offset, record_size in ((8, 0, 12), (64, 4, 18), (32, 7, 14), (32, 0, 0)):
+            channel = Channel(data_type, 0, bit_offset, 0, bit_count)
+            at_end = record_size - id_size - span_size(channel)
+            at_most = U64 - id_size - span_size(channel)
+            for byte_offset in {at_end - 1, at_end, at_end + 1, at_most - 1, at_most, at_most + 1, 2**64 - id_size, U32}:
+                if 0 <= byte_offset <= U32:
+                    number = Number(kind_of_type(min(data_type, 5)), rng.choice([0, 1, 127]))
+                    yield "write_value", (id_size, channel._replace(byte_offset=byte_offset), number,
+                                          some_bytes(rng, record_size))
+
+
+def write_payload_boundaries(rng):
+    """Channel types and data links that do and do not make a channel one of variable length."""
+    for data_type, channel_type, data in itertools.product(TYPE_CODES, (0, 1, 2, 255), (0, 1, 2**32, U64)):
+        for length in (0, 1, 4, 8, 9):
+            channel = Channel(data_type, channel_type, rng.choice([0, 0, 4, 8]), rng.choice([0, 0, 1, U32]),
+                              rng.choice([0, 8, 16, 32, 32, 64, 65]), data=data)
+            number = Number(rng.choice([kind_of_type(min(data_type, 5)), rng.choice(NUMBER_KINDS)]), rng.choice([0, 1, U64]))
+            yield "write_value", (rng.choice([0, 0, 1, U64]), channel, number, some_bytes(rng, length))
+
+
+def random_number_given(rng, channel):
+    """Mostly of the channel's kind, and mostly one that fits or nearly so."""
+    kind = kind_of_type(channel.data_type) if channel.data_type < 6 and rng.random() < 0.9 else rng.choice(
+        NUMBER_KINDS + OTHER_KINDS)
+    bit_count = min(max(channel.bit_count, 1), 64)
+    if kind == DOUBLE_KIND:
+        return Number(kind, rng.choice([rng.getrandbits(64), rng.getrandbits(35) << 29, rng.choice(hard_narrowings()),
+                                        rng.getrandbits(1) << 63 | rng.randint(0x369, 0x381) << 52 | rng.getrandbits(23) << 29,
+                                        hard_float(rng, 64)]))
+    field = hard_integer(rng, bit_count)
+    if kind == SIGNED_KIND and field >= 2**(bit_count - 1):
+        field -= 2**bit_count
+    return Number(kind, rng.choice([field] * 6 + [field + 2**bit_count, edge_number(rng, U64)]) % 2**64)
+
+
+def random_write_case(rng):
+    if rng.random() < 0.6:
+        data_type = rng.choice(list(NUMBER_TYPES))
+        bit_count = rng.choice([32, 32, 64]) if data_type > 3 else rng.choice([rng.randint(1, 64), 64])
+        channel = placed_channel(rng, data_type, bit_count, rng.randint(0, 7))
+        return write_case(rng, channel, random_number_given(rng, channel), rng.choice([0, 0, 1, 2, 8]))
+    record = some_bytes(rng, rng.choice([0, 1, 2, 8, 9, rng.randint(0, 24)]))
+    id_size = rng.choice([0, 0, 0, 1, 2, 8, rng.choice(ID_SIZES), rng.choice(HUGE_ID_SIZES)])
+    channel = random_channel(rng, len(record), id_size)
+    return "write_value", (id_size, channel, random_number_given(rng, channel), record)
+
+
+# ---- fields that overlap -----------------------------------------------------------------------------------------------
+
+
+def fixed_channel(rng, byte_offset, data_type=None, bit_offset=None, bit_count=None):
+    """A fixed number there; what plays no part in its place is anything."""
+    data_type = rng.choice(list(NUMBER_TYPES)) if data_type is None else data_type
+    if bit_count is None:
+        bit_count = rng.choice([32, 64]) if data_type > 3 else rng.choice([1, 1, 2, 4, 7, 8, 9, 12, 16, rng.randint(1, 64), 64])
+    channel_type, data = rng.choice([(0, 0), (0, 0), (1, 0), (2, 7), (255, U64), (0, 1)])
+    return Channel(data_type, channel_type, rng.randint(0, 7) if bit_offset is None else bit_offset, byte_offset, bit_count,
+                   rng.choice([0, 1, 2, 3, U32]), edge_number(rng, U32), data)
+
+
+def no_fixed_numbers(rng):
+    """One of each cause for which an entry is no fixed number."""
+    fixed = fixed_channel(rng, 0, data_type=rng.randint(0, 3))
+    floating = fixed_channel(rng, 0, data_type=rng.choice([4, 5]))
+    return [fixed._replace(bit_count=0), floating._replace(bit_count=0), fixed._replace(bit_offset=rng.choice([8, 9, 255])),
+            floating._replace(bit_offset=8), fixed._replace(bit_count=65), fixed._replace(bit_count=U32),
+            *(floating._replace(bit_count=width) for width in (1, 16, 31, 33, 63, 65, 128, U32)),
+            fixed._replace(channel_type=1, data=rng.choice([1, U64])), floating._replace(channel_type=1, data=8),
+            *(fixed._replace(data_type=code, bit_count=rng.choice([8, 32, 64])) for code in TYPE_CODES if code > 5)]
+
+
+def side_by_side(count, byte_offset=0):
+    """Single bits, one behind the other, so that no two share one."""
+    return [Channel(k % 4, 0, k % 8, byte_offset + k // 8, 1) for k in range(count)]
+
+
+def overlap_pair_boundaries(rng):
+    """Two fields of every order and bit offset, up to nine bytes apart."""
+    for types in itertools.product((0, 1), repeat=2):
+        for first_offset, second_offset, apart in itertools.product(range(8), range(8), range(-9, 10)):
+            at = rng.choice([9, 9, 100, U32 - 9])
+            first = fixed_channel(rng, at, rng.choice([types[0], types[0] + 2]), first_offset)
+            second = fixed_channel(rng, at + apart, rng.choice([types[1], types[1] + 2]), second_offset)
+            yield "first_overlap", ([first, second],)
+    for data_type, other_type in itertools.product(range(6), repeat=2):
+        for apart in range(-9, 10):  # floats beside all others
+            yield "first_overlap", ([fixed_channel(rng, 20, data_type), fixed_channel(rng, 20 + apart, other_type)],)
+
+
+def overlap_bit_boundaries(rng):
+    """A field beside a single bit, at each bit of the bytes around it: the field's bits, and no others, are a pair."""
+    for data_type, bit_offset, bit_count in itertools.product(range(6), (0, 1, 4, 7), (1, 4, 8, 12, 23, 32, 57, 60, 64)):
+        if data_type < 4 or bit_count in (32, 64):
+            field = Channel(data_type, 0, bit_offset, 1, bit_count)
+            for bit in range(8 * (span_size(field) + 2)):
+                single = Channel(rng.choice([0, 1, 2, 3]), 0, bit % 8, bit // 8, 1)
+                yield "first_overlap", (rng.choice([[field, single], [single, field]]),)
+
+
+def overlap_list_boundaries(rng):
+    """Which pair is told where there are several, and how long a list may be."""
+    same = fixed_channel(rng, 3, 0, 0, 8)
+    for count in (*range(9), 255, 256, 257, 258, 300):
+        yield "first_overlap", ([same] * count,)
+        apart = side_by_side(count)
+        yield "first_overlap", (apart,)
+        yield "first_overlap", (apart[::-1],)
+        for bad in no_fixed_numbers(rng)[:: 9 if count > 8 else 1]:
+            for place in {0, 1, count // 2, count - 1} & set(range(count)):
+                for entries in (apart, [same] * count):
+                    yield "first_overlap", (entries[:place] + [bad] + entries[place + 1:],)
+    for count in (2, 3, 5, 256):
+        for first, second in {(0, 1), (0, count - 1), (count - 2, count - 1), (count // 2 - 1, count - 1)}:
+            if first < second:
+                entries = side_by_side(count)
+                entries[second] = entries[first]
+                yield "first_overlap", (entries,)
+
+
+def overlap_order_boundaries(rng):
+    """Of several pairs that with the smallest first, and of these that with the smallest second."""
+    for count in range(3, 8):
+        pairs = list(itertools.combinations(range(count), 2))
+        for _ in range(120):
+            chosen = rng.sample(pairs, rng.randint(1, min(5, len(pairs))))
+            entries = []
+            for entry in range(count):  # byte k is in both fields of pair k; a field runs from its first byte to its last
+                shared = [k for k, pair in enumerate(chosen) if entry in pair] or [20 + entry]
+                entries.append(Channel(rng.choice([0, 1]), 0, 0, shared[0], 8 * (shared[-1] - shared[0] + 1)))
+            yield "first_overlap", (entries,)
+
+
+def overlap_place_boundaries(rng):
+    """Fields at the last byte offsets, whose bytes go on behind 2^32, beside those there and those at the front."""
+    for apart, data_type, other_type in itertools.product(range(10), range(6), range(6)):
+        last = fixed_channel(rng, U32 - rng.randint(0, 9), data_type)
+        yield "first_overlap", ([last, fixed_channel(rng, apart, other_type)],)
+        yield "first_overlap", ([fixed_channel(rng, apart, other_type), last],)
+        yield "first_overlap", ([last, fixed_channel(rng, U32 - apart, other_type)],)
+    for entries in (side_by_side(256, U32 - 31), side_by_side(256, U32 - 31)[::-1]):
+        yield "first_overlap", (entries,)
+
+
+def random_overlap_case(rng):
+    room = rng.choice([3, 10, 40, 200])
+    start = rng.choice([0, 0, 0, 7, 2**16, U32 - 200])
+    entries = [fixed_channel(rng, start + rng.randint(0, room)) for _ in range(rng.choice([2, 2, 3, 4, rng.randint(0, 20)]))]
+    if rng.random() < 0.3:
+        entries = side_by_side(rng.randint(0, 260), start)[:256 + rng.choice([0, 0, 4])]
+        if entries and rng.random() < 0.5:
+            entries[rng.randrange(len(entries))] = fixed_channel(rng, start + rng.randint(0, 32))
+    if entries and rng.random() < 0.15:
+        entries[rng.randrange(len(entries))] = rng.choice(no_fixed_numbers(rng))
+    return "first_overlap", (entries,)
 
 
 # ---- channel blocks ----------------------------------------------------------------------------------------------------
@@ -1567,7 +1844,10 @@ BOUNDARIES = (header_boundaries, type_boundaries, list_read_boundaries, list_id_
               channel_read_boundaries, channel_id_and_link_boundaries, channel_type_boundaries, channel_limit_boundaries,
               channel_write_boundaries, field_boundaries, type_field_boundaries, place_boundaries, refusal_boundaries,
               payload_boundaries, text_field_boundaries, validity_boundaries, number_boundaries, text_boundaries,
-              text_helper_boundaries)
+              text_helper_boundaries, write_width_boundaries, write_bit_boundaries, write_float_boundaries,
+              write_kind_boundaries, write_refusal_boundaries, write_place_boundaries, write_payload_boundaries,
+              overlap_pair_boundaries, overlap_bit_boundaries, overlap_list_boundaries, overlap_order_boundaries,
+              overlap_place_boundaries)
 
 CHAIN_BOUNDARIES = (cut_boundaries, query_boundaries, long_file_boundaries, loop_boundaries, order_boundaries,
                     limit_boundaries, form_boundaries, breach_boundaries, large_record_boundaries, record_value_boundaries,
@@ -1578,7 +1858,8 @@ PAYLOAD_BOUNDARIES = (payload_cut_boundaries, payload_place_boundaries, payload_
                       payload_buffer_boundaries, large_payload_boundaries, payload_order_boundaries)
 
 RANDOM_CASES = ([random_header_case] + [random_list_case] * 2 + [random_channel_block_case] * 2 + [random_value_case] * 6
-                + [random_text_case] * 4 + [random_chain_case] * 5 + [random_payload_case] * 4)
+                + [random_write_case] * 4 + [random_overlap_case] * 2 + [random_text_case] * 4 + [random_chain_case] * 5
+                + [random_payload_case] * 4)
 
 # The replies of each call that has any, which the boundary cases reach. Reply 14 has no case: 4,096 fragments of at most
 # 2^40 bytes never pass 2^63-1.
@@ -1594,6 +1875,8 @@ REPLIES = {
     "write_channel": {0, 6},
     "decode_value": FIELD_REPLIES,
     "decode_valid_value": FIELD_REPLIES,
+    "write_value": FIELD_REPLIES | {24, 25},
+    "first_overlap": {0, 26, 27},
     **{call: {0, 6} for call in TEXT_CALLS},
     "text_by_type": {0, 6, 256},
     "data_length": CHAIN_REPLIES,

@@ -272,6 +272,63 @@ static mf4_channel next_channel(void)
     return channel;
 }
 
+static mf4_number next_number_given(void)
+{
+    mf4_number number;
+    number.kind = next_u32();
+    number.number = next_u64();
+    return number;
+}
+
+/* A number up to the most, and the comma behind it where there is one. */
+static uint64_t next_of_row(const char **word, uint64_t most)
+{
+    uint64_t number = decimal(*word, word);
+    if (number > most)
+        is_malformed = 1;
+    if (**word == ',')
+        (*word)++;
+    return number;
+}
+
+static mf4_channel channel_of_row(const char **word)
+{
+    mf4_channel channel;
+    channel.data_type = (uint8_t)next_of_row(word, UINT8_MAX);
+    channel.channel_type = (uint8_t)next_of_row(word, UINT8_MAX);
+    channel.bit_offset = (uint8_t)next_of_row(word, UINT8_MAX);
+    channel.byte_offset = (uint32_t)next_of_row(word, UINT32_MAX);
+    channel.bit_count = (uint32_t)next_of_row(word, UINT32_MAX);
+    channel.flags = (uint32_t)next_of_row(word, UINT32_MAX);
+    channel.pos_invalidation_bit = (uint32_t)next_of_row(word, UINT32_MAX);
+    channel.data = next_of_row(word, UINT64_MAX);
+    return channel;
+}
+
+/* The slice's length stays in bytes, as that of numbers. */
+static slice *next_channels(void)
+{
+    const char *word = next_word();
+    size_t length = 0;
+    if (strcmp(word, "-") == 0)
+        return new_slice(NULL, 0, 0, 1);
+    if (*word == 'c')
+        word++;
+    else
+        is_malformed = 1;
+    while (*word >= '0' && *word <= '9') {
+        mf4_channel channel = channel_of_row(&word);
+        make_room(length + sizeof channel);
+        memcpy(scratch + length, &channel, sizeof channel);
+        length += sizeof channel;
+        if (*word == '/')
+            word++;
+    }
+    if (*word != '\0')
+        is_malformed = 1;
+    return new_slice(scratch, length, 0, 0);
+}
+
 static mf4_channel_block next_channel_block(void)
 {
     mf4_channel_block block;
@@ -555,6 +612,34 @@ static void decode_double(void)
     print_number("answer", mf4_decode_double(record->bytes, record->length, record_id_size, channel));
 }
 
+static void write_value(void)
+{
+    uint64_t record_id_size = next_u64();
+    mf4_channel channel = next_channel();
+    mf4_number value = next_number_given();
+    slice *record = next_output();
+    mf4_stored answer;
+    if (is_malformed)
+        return;
+    answer = mf4_write_value(record_id_size, channel, value, record->bytes, record->length);
+    print_reply(answer.reply, answer.told);
+    print_out(record);
+}
+
+static void first_overlap(void)
+{
+    slice *list = next_channels();
+    const mf4_channel *channels = (const mf4_channel *)(const void *)list->bytes;
+    mf4_overlap answer;
+    if (is_malformed)
+        return;
+    answer = mf4_first_overlap(channels, list->length / sizeof(mf4_channel));
+    print_reply(answer.reply, answer.told);
+    print_number("found", answer.found);
+    print_number("first", answer.first);
+    print_number("second", answer.second);
+}
+
 static void text(mf4_text (*call)(const uint8_t *, size_t, uint8_t *, size_t))
 {
     slice *bytes = next_input();
@@ -667,6 +752,8 @@ static const struct {
     {"check_validity", check_validity},
     {"decode_valid_value", decode_valid_value},
     {"decode_double", decode_double},
+    {"write_value", write_value},
+    {"first_overlap", first_overlap},
     {"text_latin1", text_latin1},
     {"text_utf8", text_utf8},
     {"text_utf16_le", text_utf16_le},

@@ -7,14 +7,16 @@ A case is a call's name and its arguments in the order of reference.py. As words
                 an empty slice is "x", or "-" for a NULL pointer with the count 0
     long file   z and a length: a file of that length, of which no byte may be looked at
     numbers     u and decimals with commas between:  u1,2,3   (empty: "u", or "-" for NULL)
-    header      4 numbers, channel: 8 numbers, channel block: 31 numbers, in the order of their C structs
+    header      4 numbers, channel: 8 numbers, number to be written: 2 numbers, channel block: 31 numbers, in the order of
+                their C structs
+    channels    c and the numbers of each channel, with commas between; channels with "/" between  (empty: "c", or "-")
 
 A result is the fields of the C struct as name=number words in the order of mf4.h, a plain answer as answer=number, and
 each output buffer afterwards, in turn, as out=x and hex digits.
 """
 
 import reference
-from reference import Channel, ChannelBlock, Header
+from reference import Channel, ChannelBlock, Header, Number
 
 SHORTEST_REPEAT = 16
 
@@ -32,10 +34,10 @@ class LongFile:
         return isinstance(other, LongFile) and self.length == other.length
 
 
-NUMBER, BYTES, NUMBERS = "number", "bytes", "numbers"
+NUMBER, BYTES, NUMBERS, CHANNELS = "number", "bytes", "numbers", "channels"
 
 # The form of a struct is an empty one, whose fields tell how many numbers it takes.
-HEADER, CHANNEL, CHANNEL_BLOCK = Header(), Channel(), ChannelBlock()
+HEADER, CHANNEL, CHANNEL_BLOCK, NUMBER_GIVEN = Header(), Channel(), ChannelBlock(), Number()
 
 ON_RECORD = (BYTES, NUMBER, CHANNEL)
 ON_RECORD_WITH_VALIDITY = (BYTES, NUMBER, NUMBER, CHANNEL)
@@ -55,6 +57,8 @@ CALLS = {
     "check_validity": (reference.check_validity, ON_RECORD_WITH_VALIDITY),
     "decode_valid_value": (reference.decode_valid_value, ON_RECORD_WITH_VALIDITY),
     "decode_double": (reference.decode_double, ON_RECORD),
+    "write_value": (reference.write_value, (NUMBER, CHANNEL, NUMBER_GIVEN, BYTES)),
+    "first_overlap": (reference.first_overlap, (CHANNELS,)),
     "text_latin1": (reference.text_latin1, ON_TEXT),
     "text_utf8": (reference.text_utf8, ON_TEXT),
     "text_utf16_le": (reference.text_utf16_le, ON_TEXT),
@@ -104,6 +108,16 @@ def numbers_of_word(word):
     return [int(digits) for digits in word[1:].split(",") if digits]
 
 
+def channels_word(channels, null_if_empty):
+    if not channels and null_if_empty:
+        return "-"
+    return "c" + "/".join(",".join(map(str, channel)) for channel in channels)
+
+
+def channels_of_word(word):
+    return [Channel(*map(int, channel.split(","))) for channel in word[1:].split("/") if channel]
+
+
 def struct_words(struct):
     return [word for field in struct for word in (struct_words(field) if isinstance(field, tuple) else [str(field)])]
 
@@ -120,6 +134,8 @@ def case_line(call, arguments, null_if_empty=False):
             words.append(bytes_word(argument, null_if_empty))
         elif form == NUMBERS:
             words.append(numbers_word(argument, null_if_empty))
+        elif form == CHANNELS:
+            words.append(channels_word(argument, null_if_empty))
         elif isinstance(form, tuple):
             words.extend(struct_words(argument))
         else:
@@ -137,6 +153,8 @@ def case_of_line(line):
             arguments.append(bytes_of_word(words.pop(0)))
         elif form == NUMBERS:
             arguments.append(numbers_of_word(words.pop(0)))
+        elif form == CHANNELS:
+            arguments.append(channels_of_word(words.pop(0)))
         else:
             arguments.append(int(words.pop(0)))
     if words:

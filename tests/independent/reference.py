@@ -7,6 +7,7 @@ A call that can refuse returns a tuple with the fields of its C struct; reply is
 buffers returns that tuple and each buffer as it stands afterwards.
 """
 
+import bisect
 from typing import NamedTuple
 
 LARGEST = 2**64 - 1
@@ -22,6 +23,7 @@ MOST_LISTS = 256
 MOST_FRAGMENTS = 4096
 MOST_JOINED_BYTES = 2**63 - 1
 MOST_RECORD_BYTES = 16384
+MOST_CHANNELS = 256
 
 # ---- replies -----------------------------------------------------------------------------------------------------------
 
@@ -48,6 +50,10 @@ INTEGER_TOO_WIDE = 20
 FIELD_OUTSIDE = 21
 BAD_FLOAT_WIDTH = 22
 PAYLOAD_OUTSIDE = 23
+DOES_NOT_FIT = 24
+OTHER_KIND = 25
+TOO_MANY_CHANNELS = 26
+NO_FIXED_NUMBER = 27
 NO_POSITION = 35
 NO_TEXT_TYPE = 256  # of a helper of mf4.h, not of the library
 
@@ -163,6 +169,25 @@ class ValidValue(NamedTuple):
     at: int = 0
     length: int = 0
     is_valid: int = 0
+
+
+class Number(NamedTuple):
+    """What is to be written, as Value has it."""
+    kind: int = 0
+    number: int = 0
+
+
+class Stored(NamedTuple):
+    reply: int = ANSWER
+    told: int = 0
+
+
+class Overlap(NamedTuple):
+    reply: int = ANSWER
+    told: int = 0
+    found: int = 0
+    first: int = 0
+    second: int = 0
 
 
 class Payload(NamedTuple):
@@ -431,6 +456,20 @@ def widened(single):
     return sign << 63 | (top - 149 + 1023) << 52 | ((fraction << (52 - top)) - 2**52)
 
 
+INFINITE_SINGLE = 0x7F800000
+NAN_SINGLE = 0x7FC00000
+
+
+def narrowed(double):
+    """The 32-bit float that widens to a double's bits, or None. Those from 0 to infinity widen in their own order, so it is
+    looked for among them."""
+    if double == NAN:
+        return NAN_SINGLE
+    sign, size = double >> 63, double % 2**63
+    single = bisect.bisect_left(range(INFINITE_SINGLE), size, key=widened)
+    return sign << 31 | single if widened(single) == size else None
+
+
 # ---- a value from a record ---------------------------------------------------------------------------------------------
 
 UNSIGNED_KIND, SIGNED_KIND, DOUBLE_KIND, TEXT_KIND, BYTES_KIND, SAMPLE_KIND, STREAM_KIND, UNKNOWN_KIND = range(1, 9)
@@ -540,6 +579,88 @@ def decode_double(record, id_size, channel):
     if value.kind == DOUBLE_KIND:
         return value.number
     return NAN
+
+
+# ---- a number written into a record ------------------------------------------------------------------------------------
+
+KIND_OF_NUMBER = {UNSIGNED_LE: UNSIGNED_KIND, UNSIGNED_BE: UNSIGNED_KIND, SIGNED_LE: SIGNED_KIND, SIGNED_BE: SIGNED_KIND,
+                  FLOAT_LE: DOUBLE_KIND, FLOAT_BE: DOUBLE_KIND}
+
+
+def bit_places(channel):
+    """Where the bits of a number's field stand behind the record id, the lowest first, as pairs of a byte and its bit."""
+    span = span_of(channel)
+    places = []
+    for k in range(channel.bit_offset, channel.bit_offset + channel.bit_count):
+        byte = span - 1 - k // 8 if channel.data_type in BIG_ENDIAN_NUMBERS else k // 8
+        places.append((channel.byte_offset + byte, k % 8))
+    return places
+
+
+def signed_field(number, bit_count):
+    """The two's complement of so many bits."""
+    half = 2**(bit_count - 1)
+    refuse_if(not -half <= number < half, DOES_NOT_FIT)
+    return number if number >= 0 else number + 2 * half
+
+
+def field_given(channel, number):
+    """The field's bits, as one number, that stand for the number given."""
+    refuse_if(is_variable_length(channel) or number.kind != KIND_OF_NUMBER.get(channel.data_type), OTHER_KIND)
+    if number.kind == SIGNED_KIND:
+        return signed_field(signed_of(number.number), channel.bit_count)
+    field = number.number
+    if number.kind == DOUBLE_KIND and channel.bit_count == 32:
+        field = narrowed(number.number)
+    refuse_if(field is None or field >= 2**channel.bit_count, DOES_NOT_FIT)
+    return field
+
+
+def record_with(record, id_size, channel, field):
+    """The record with the field's bits set one by one."""
+    after = bytearray(record)
+    for k, (byte, bit) in enumerate(bit_places(channel)):
+        without = after[id_size + byte] & ~(1 << bit)
+        after[id_size + byte] = without | (field >> k & 1) << bit
+    return bytes(after)
+
+
+def write_value(id_size, channel, number, record):
+    try:
+        value_of(record, id_size, channel)  # whatever decoding refuses is refused here
+        return Stored(), record_with(record, id_size, channel, field_given(channel, number))
+    except Refusal as refusal:
+        return Stored(refusal.number, refusal.told), record
+
+
+# ---- fields that overlap -----------------------------------------------------------------------------------------------
+
+
+def is_fixed_number(channel):
+    if channel.data_type not in NUMBERS or is_variable_length(channel):
+        return False
+    if channel.bit_count == 0 or channel.bit_offset > 7:
+        return False
+    return channel.bit_count in (32, 64) if channel.data_type in FLOATS else channel.bit_count <= 64
+
+
+def overlap_of(channels):
+    refuse_if(len(channels) > MOST_CHANNELS, TOO_MANY_CHANNELS)
+    for place, channel in enumerate(channels):
+        refuse_if(not is_fixed_number(channel), NO_FIXED_NUMBER, place)
+    bits = [set(bit_places(channel)) for channel in channels]
+    for first in range(len(bits)):
+        for second in range(first + 1, len(bits)):
+            if bits[first] & bits[second]:
+                return Overlap(found=1, first=first, second=second)
+    return Overlap()
+
+
+def first_overlap(channels):
+    try:
+        return overlap_of(channels)
+    except Refusal as refusal:
+        return Overlap(refusal.number, refusal.told)
 
 
 # ---- texts -------------------------------------------------------------------------------------------------------------

@@ -11,7 +11,7 @@ from fractions import Fraction
 import cases
 import protocol
 import reference as r
-from reference import Channel, Header, Value
+from reference import Channel, Header, Number, Value
 
 failures = 0
 
@@ -249,6 +249,71 @@ def example_payloads():
     check("no such record", payload(3), (r.Payload(16), b"." * 9, b"." * 9))
     check("no room for the record", payload(0, record=b"." * 8), (r.Payload(15), b"." * 8, b"." * 9))
     check("no position", payload(0, POSITION._replace(bit_count=32)), (r.Payload(35), b"." * 9, b"." * 9))
+
+
+def written(number, record, channel, id_size=0):
+    """The record after a write, which is answered."""
+    reply, after = r.write_value(id_size, channel, number, record)
+    check(f"{channel} is written", reply, r.Stored())
+    return after
+
+
+def unwritten(reply, number, record, channel, told=0, id_size=0):
+    check(f"{number} in {channel}", r.write_value(id_size, channel, number, record), (r.Stored(reply, told), record))
+
+
+UNSIGNED, SIGNED, DOUBLE = (lambda number, kind=kind: Number(kind, number % 2**64) for kind in (1, 2, 3))
+
+
+def example_written():
+    check("16 bits LE", written(UNSIGNED(4660), b"...", field(r.UNSIGNED_LE, 16)), hexed("34 12") + b".")
+    check("16 bits BE", written(UNSIGNED(4660), b"...", field(r.UNSIGNED_BE, 16, 0, 1)), b"." + hexed("12 34"))
+    check("8 bits from bit 4 LE", written(UNSIGNED(0xAB), hexed("12 34"), field(r.UNSIGNED_LE, 8, 4)), hexed("B2 3A"))
+    check("8 bits from bit 4 BE", written(UNSIGNED(0xAB), hexed("12 34"), field(r.UNSIGNED_BE, 8, 4)), hexed("1A B4"))
+    check("-1 in 4 bits", written(SIGNED(-1), hexed("0F"), field(r.SIGNED_LE, 4, 4)), hexed("FF"))
+    check("-8 in 4 bits", written(SIGNED(-8), hexed("7F"), field(r.SIGNED_BE, 4, 4)), hexed("8F"))
+    check("64 bits in 9 bytes", written(UNSIGNED(2**64 - 1), hexed("05") + bytes(7) + hexed("A0"), field(0, 64, 4)),
+          hexed("F5") + b"\xff" * 7 + hexed("AF"))
+    check("1.0", written(DOUBLE(bits_of(1.0)), bytes(4), field(r.FLOAT_BE, 32)), hexed("3F 80 00 00"))
+    check("-0", written(DOUBLE(2**63), bytes(4), field(r.FLOAT_LE, 32)), hexed("00 00 00 80"))
+    check("the NaN", written(DOUBLE(r.NAN), bytes(4), field(r.FLOAT_LE, 32)), hexed("00 00 C0 7F"))
+    check("smallest single", written(DOUBLE(0x36A0000000000000), bytes(4), field(r.FLOAT_LE, 32)), hexed("01 00 00 00"))
+    for bits in (0x3690000000000000, 0x3FF0000010000000, 0x7FF8000000000001, r.NAN + 2**63, 0x47F0000000000000, 1):
+        unwritten(24, DOUBLE(bits), bytes(4), field(r.FLOAT_LE, 32))
+        check("as 64 bits", written(DOUBLE(bits), bytes(8), field(r.FLOAT_LE, 64)), bits.to_bytes(8, "little"))
+    unwritten(24, UNSIGNED(256), b".", field(r.UNSIGNED_LE, 8))
+    unwritten(24, SIGNED(8), b".", field(r.SIGNED_LE, 4))
+    unwritten(24, SIGNED(-9), b".", field(r.SIGNED_LE, 4))
+    unwritten(25, SIGNED(1), b".", field(r.UNSIGNED_LE, 8))
+    unwritten(25, UNSIGNED(1), bytes(4), field(r.FLOAT_LE, 32))
+    unwritten(22, UNSIGNED(1), bytes(4), field(r.FLOAT_LE, 16))
+    unwritten(21, Number(0), b"..", field(r.UTF8, 24), told=3)
+    unwritten(25, Number(1), b"...", field(r.UTF8, 24))
+    unwritten(25, UNSIGNED(1), b".", Channel(r.UNSIGNED_LE, 1, 0, 99, 8, data=7), id_size=5)
+    unwritten(21, UNSIGNED(1), b"", Channel(r.UNSIGNED_LE, 1, 0, 99, 8, data=7), told=1, id_size=5)
+    check("no data link", written(UNSIGNED(7), b".", Channel(r.UNSIGNED_LE, 1, 0, 0, 8)), b"\7")
+
+
+def overlap(*channels):
+    return r.first_overlap(list(channels))
+
+
+def example_overlaps():
+    twelve = field(r.UNSIGNED_BE, 12)
+    check("12 bits BE beside the upper half of byte 0", overlap(twelve, field(0, 4, 4)), r.Overlap())
+    check("12 bits BE on the upper half of byte 1", overlap(twelve, field(0, 4, 4, 1)), r.Overlap(found=1, second=1))
+    check("12 bits LE on the upper half of byte 0", overlap(field(0, 12), field(0, 4, 4)), r.Overlap(found=1, second=1))
+    check("12 bits LE beside the upper half of byte 1", overlap(field(0, 12), field(0, 4, 4, 1)), r.Overlap())
+    byte = field(r.UNSIGNED_LE, 8)
+    check("none", overlap(), r.Overlap())
+    check("one", overlap(byte), r.Overlap())
+    check("the second of several", overlap(field(0, 8, 0, 5), byte, field(0, 8, 0, 9), byte, byte),
+          r.Overlap(found=1, first=1, second=3))
+    check("behind 2^32", overlap(field(0, 64, 0, 2**32 - 1), field(0, 8)), r.Overlap())
+    check("256", overlap(*(field(0, 1, k % 8, k // 8) for k in range(256))), r.Overlap())
+    check("257", overlap(*[field(0, 0)] * 257), r.Overlap(26))
+    for bad in (field(0, 0), field(0, 8, 8), field(2, 65), field(4, 16), field(r.UTF8, 8), Channel(0, 1, 0, 0, 8, data=1)):
+        check(f"{bad} is no fixed number", overlap(byte, byte, bad, bad), r.Overlap(27, 2))
 
 
 # ---- rules without an example ------------------------------------------------------------------------------------------
@@ -730,6 +795,60 @@ def python_integers():
               wanted)
 
 
+def python_written():
+    """What was written reads back, and a string of the record's bits has changed in the field alone."""
+    rng = random.Random(21)
+    answered = 0
+    for _ in range(6000):
+        _, (id_size, channel, number, record) = cases.random_write_case(rng)
+        reply, after = r.write_value(id_size, channel, number, record)
+        if reply.reply != 0:
+            check("refused", after, record)
+            continue
+        answered += 1
+        read = r.decode_value(after, id_size, channel)
+        check(f"{number} in {channel}", (read.kind, read.number), (number.kind, number.number))
+        span, at = r.span_of(channel), id_size + channel.byte_offset
+        order = "big" if channel.data_type % 2 else "little"
+        check("in front and behind", (after[:at], after[at + span:]), (record[:at], record[at + span:]))
+        kept = ~((2**channel.bit_count - 1) << channel.bit_offset)
+        check("beside", *(int.from_bytes(bytes_of[at:at + span], order) & kept for bytes_of in (after, record)))
+    check("mostly answered", answered > 2000, True)
+
+
+def python_narrowed():
+    """A double goes into 32 bits where packing it there and unpacking it gives the same bits back."""
+    rng = random.Random(22)
+    for bits in itertools.chain(cases.hard_narrowings(), (rng.getrandbits(64) for _ in range(2000)),
+                                (rng.getrandbits(35) << 29 for _ in range(4000))):
+        for pattern in (bits, bits ^ 2**63):
+            value = double_of(pattern)
+            try:
+                packed = struct.pack("<f", value)
+                wanted = struct.unpack("<I", packed)[0] if bits_of(struct.unpack("<f", packed)[0]) == pattern else None
+            except OverflowError:
+                wanted = None
+            if value != value:
+                wanted = 0x7FC00000 if pattern == r.NAN else None
+            check(f"{pattern:#x} narrowed", r.narrowed(pattern), wanted)
+
+
+def spread(channel):
+    """The field's bits as one number with a bit for each of the record's, by shifts and byte orders."""
+    span = r.span_of(channel)
+    ones = ((2**channel.bit_count - 1) << channel.bit_offset).to_bytes(span, "big" if channel.data_type % 2 else "little")
+    return int.from_bytes(ones, "little") << 8 * channel.byte_offset
+
+
+def python_overlaps():
+    rng = random.Random(23)
+    for _ in range(3000):
+        channels = [cases.fixed_channel(rng, rng.randint(0, 30)) for _ in range(rng.randint(0, 7))]
+        fields = [spread(channel) for channel in channels]
+        pairs = [pair for pair in itertools.combinations(range(len(fields)), 2) if fields[pair[0]] & fields[pair[1]]]
+        check(f"{channels}", r.first_overlap(channels), r.Overlap(0, 0, 1, *min(pairs)) if pairs else r.Overlap())
+
+
 def python_structs():
     """Channel blocks as the struct module packs them, and packs them again from what was read."""
     rng = random.Random(11)
@@ -837,6 +956,8 @@ def main():
     section("example: channels", example_channels)
     section("example: chain", example_chain)
     section("example: payloads", example_payloads)
+    section("example: numbers written", example_written)
+    section("example: fields that overlap", example_overlaps)
     section("rules of types", rules_of_types)
     section("cases of types", cases_of_types)
     section("rules of headers", rules_of_headers)
@@ -862,6 +983,9 @@ def main():
     section("Unicode vectors", outside_unicode)
     section("against float() and struct", python_floats)
     section("against bit strings", python_integers)
+    section("against what reads back", python_written)
+    section("against packed floats", python_narrowed)
+    section("against shifted masks", python_overlaps)
     section("against packed structs", python_structs)
     section("against Python's codecs", python_codecs)
     section("chains with the same joined bytes", joined_equal_chains)
