@@ -47,6 +47,18 @@ static void check_numbers(void)
     CHECK(mf4_double_of(NAN_BITS) != mf4_double_of(NAN_BITS));
 }
 
+/* A number to be written is what a value of its kind tells. */
+static void check_numbers_given(void)
+{
+    name_case("numbers to be written");
+    CHECK(mf4_unsigned(MOST).kind == MF4_KIND_UNSIGNED && mf4_unsigned(MOST).number == MOST);
+    CHECK(mf4_signed(-1).kind == MF4_KIND_SIGNED && mf4_signed(-1).number == MOST);
+    CHECK(mf4_signed(INT64_MIN).number == UINT64_C(0x8000000000000000) && mf4_signed(INT64_MAX).number == INT64_MAX);
+    CHECK(mf4_double(1.0).kind == MF4_KIND_DOUBLE && mf4_double(1.0).number == UINT64_C(0x3FF0000000000000));
+    CHECK(mf4_double(-0.0).number == UINT64_C(0x8000000000000000));
+    CHECK(mf4_signed_of(mf4_signed(-7).number) == -7 && mf4_double_of(mf4_double(-2.5).number) == -2.5);
+}
+
 static void check_text_room(void)
 {
     name_case("room for a text");
@@ -82,6 +94,19 @@ static void check_names_of_refused_payloads(void)
     CHECK(MF4_NO_POSITION == 35 && strcmp(mf4_reply_text(35), "the channel holds no position of a payload") == 0);
 }
 
+static void check_names_of_refused_numbers(void)
+{
+    name_case("names of the refusals of a number and of a list of channels");
+    CHECK(MF4_DOES_NOT_FIT == 24 && strcmp(mf4_reply_text(24), "the number does not fit the field") == 0);
+    CHECK(MF4_OTHER_KIND == 25
+          && strcmp(mf4_reply_text(25),
+                    "the number is of another kind than the channel's, or the channel is no fixed number") == 0);
+    CHECK(MF4_TOO_MANY_CHANNELS == 26 && strcmp(mf4_reply_text(26), "the list has over 256 descriptions") == 0);
+    CHECK(MF4_NO_FIXED_NUMBER == 27
+          && strcmp(mf4_reply_text(27), "a description in the list is that of no fixed number") == 0);
+    CHECK(MF4_MAX_CHANNELS == 256);
+}
+
 static void check_reply_of_helpers(void)
 {
     name_case("the helpers' own reply");
@@ -93,9 +118,11 @@ void check_helpers(void)
     check_version();
     check_ids();
     check_numbers();
+    check_numbers_given();
     check_text_room();
     check_channel_names();
     check_names_of_refused_fields();
     check_names_of_refused_payloads();
+    check_names_of_refused_numbers();
     check_reply_of_helpers();
 }

@@ -104,6 +104,8 @@ static void check_everything(void)
     check_values();
     check_refused_fields();
     check_doubles();
+    check_written_values();
+    check_overlaps();
     check_texts();
     check_records();
     check_damages();

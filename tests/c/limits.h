@@ -45,6 +45,8 @@ void check_channel_writing(void);
 void check_values(void);
 void check_refused_fields(void);
 void check_doubles(void);
+void check_written_values(void);
+void check_overlaps(void);
 void check_texts(void);
 void check_records(void);
 void check_damages(void);
