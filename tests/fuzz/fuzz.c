@@ -40,7 +40,8 @@ void check_reply(enum call call, uint32_t reply, uint64_t told, uint64_t allowed
 {
     note(call, reply);
     MUST(reply <= MF4_NO_POSITION && (allowed >> reply & 1) == 1);
-    MUST(told == 0 || reply == MF4_TOO_FEW_BYTES || reply == MF4_NO_ROOM || reply == MF4_FIELD_OUTSIDE);
+    MUST(told == 0 || reply == MF4_TOO_FEW_BYTES || reply == MF4_NO_ROOM || reply == MF4_FIELD_OUTSIDE
+         || reply == MF4_NO_FIXED_NUMBER);
     MUST(strcmp(mf4_reply_text(reply), "no reply of this library") != 0);
 }
 
@@ -61,6 +62,22 @@ static void exercise_part(const log_file *log, reading how)
     exercise_texts(part);
 }
 
+/* A record of a few bytes, and a field that mostly lies inside it. */
+static void exercise_record(void)
+{
+    uint8_t bytes[24];
+    const size_t length = choose_byte() % (sizeof bytes + 1);
+    reading how = choose_reading();
+    size_t i;
+    for (i = 0; i < length; i++)
+        bytes[i] = choose_byte();
+    if (choose_byte() % 8 != 7) {
+        how.id_size %= 3;
+        how.channel.byte_offset %= 8;
+    }
+    exercise_written(lend_copy(INPUT, bytes, length), how);
+}
+
 int LLVMFuzzerTestOneInput(const uint8_t *data, size_t size);
 
 int LLVMFuzzerTestOneInput(const uint8_t *data, size_t size)
@@ -74,6 +91,8 @@ int LLVMFuzzerTestOneInput(const uint8_t *data, size_t size)
     exercise_types(choose_byte());
     exercise_chain(&log, how);
     exercise_payload(&log, how);
+    exercise_record();
+    exercise_overlap(how);
     exercise_part(&log, how);
     exercise_writer(0);
     exercise_writer(1);

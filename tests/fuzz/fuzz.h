@@ -12,8 +12,8 @@ void fail(const char *claim, const char *file, int line);
 
 enum call {
     READ_HEADER, WRITE_HEADER, READ_LIST, WRITE_EQUAL, WRITE_VARIABLE, READ_CHANNEL, WRITE_CHANNEL, DECODE, VALIDITY,
-    DECODE_VALID, DECODE_DOUBLE, TEXT_LATIN1, TEXT_UTF8, TEXT_UTF16_LE, TEXT_UTF16_BE, DATA_LENGTH, READ_RECORD,
-    RECORD_VALUE, RECORD_PAYLOAD, CALLS
+    DECODE_VALID, DECODE_DOUBLE, WRITE_VALUE, FIRST_OVERLAP, TEXT_LATIN1, TEXT_UTF8, TEXT_UTF16_LE, TEXT_UTF16_BE,
+    DATA_LENGTH, READ_RECORD, RECORD_VALUE, RECORD_PAYLOAD, CALLS
 };
 
 /* Counts what a call answered, so that an input with a new answer is kept. */
@@ -69,6 +69,8 @@ void exercise_channel(lent input, reading how);
 void exercise_channel_writer(mf4_channel channel);
 lent choose_channel_block(void);
 void exercise_value(lent record, reading how);
+void exercise_written(lent record, reading how);
+void exercise_overlap(reading how);
 void exercise_texts(lent input);
 lent choose_text(void);
 
