@@ -20,6 +20,9 @@
  * The sites stand in three blocks of payloads, and the remarks in three others: for each record four bytes of length and so
  * many of text, with its NUL, or none. The sites' list declares one length, 28 bytes; that of the remarks has an offset for
  * each block. Two of the cuts fall inside a length, one inside a remark and one inside a letter.
+ *
+ * The library is first asked whether two fields of the record share a bit, and then writes what it can: the numbers of the
+ * records, the channels, the lists, and the header of every block.
  */
 #include <stdio.h>
 #include <stdlib.h>
@@ -32,17 +35,11 @@ enum {
     RECORD_SIZE = 36,
     DATA_BYTES = 35,
     SERIAL_SIZE = 6,
-    HOURS_AT = 6,
-    HOURS_BIT_OFFSET = 4,
-    TEMPERATURE_AT = 15,
-    SITE_AT = 19,
-    REMARK_AT = 27,
     TEMPERATURE_INVALID = 1, /* bit 0 */
     SITE_INVALID = 2,        /* bit 1 */
 
     RECORDS = 6,
     TAIL = 7,
-    CHANNELS = 5,
     BLOCK_DATA = 41,
     SITE_BLOCK_DATA = 28,
     REMARK_BLOCKS = 3,
@@ -70,6 +67,62 @@ typedef struct pump_entry {
     const char *site, *remark;
 } pump_entry;
 
+/* ---- the layout of a record ------------------------------------------------------------------------------------- */
+
+enum { SERIAL, HOURS, TEMPERATURE, SITE, REMARK, CHANNELS };
+
+/* The channels of the file, but for the links to their payloads. */
+static const struct {
+    const char *name, *unit;
+    mf4_channel channel;
+} channels[CHANNELS] = {
+    { "serial", NULL, { .data_type = MF4_LATIN1, .bit_count = 8 * SERIAL_SIZE } },
+    { "hours", "h", { .data_type = MF4_UNSIGNED_LE, .bit_offset = 4, .byte_offset = 6, .bit_count = 64 } },
+    { "temperature", "\xC2\xB0" "C", { .data_type = MF4_FLOAT_LE, .byte_offset = 15, .bit_count = 32,
+                                       .flags = MF4_CHANNEL_INVALIDATION_BIT } },
+    { "site", NULL, { .data_type = MF4_UTF8, .channel_type = MF4_CHANNEL_VARIABLE_LENGTH, .byte_offset = 19,
+                      .bit_count = 64, .flags = MF4_CHANNEL_INVALIDATION_BIT, .pos_invalidation_bit = 1 } },
+    { "remark", NULL, { .data_type = MF4_LATIN1, .channel_type = MF4_CHANNEL_VARIABLE_LENGTH, .byte_offset = 27,
+                        .bit_count = 64 } },
+};
+
+/* The invalidation bits, behind the data bytes. */
+static const mf4_channel invalidation = { .data_type = MF4_UNSIGNED_LE, .byte_offset = DATA_BYTES, .bit_count = 8 };
+
+/* What of a channel stands in the record itself, as a number: of a payload its position, of the serial its bytes. */
+static mf4_channel number_in_record(int channel)
+{
+    mf4_channel number = channels[channel].channel;
+    number.channel_type = MF4_CHANNEL_FIXED_LENGTH;
+    if (number.data_type != MF4_FLOAT_LE)
+        number.data_type = MF4_UNSIGNED_LE;
+    return number;
+}
+
+static const char *name_of(uint64_t place)
+{
+    return place < CHANNELS ? channels[place].name : "the invalidation bits";
+}
+
+/* No bit of the record may belong to two channels, or to a channel and to the invalidation bits. */
+static void check_layout(void)
+{
+    mf4_channel list[CHANNELS + 1];
+    mf4_overlap overlap;
+    int i;
+    for (i = 0; i < CHANNELS; i++)
+        list[i] = number_in_record(i);
+    list[CHANNELS] = invalidation;
+    overlap = mf4_first_overlap(list, CHANNELS + 1);
+    if (overlap.reply == MF4_ANSWER && !overlap.found)
+        return;
+    if (overlap.found)
+        fprintf(stderr, "make_log: %s and %s share a bit of the record\n", name_of(overlap.first), name_of(overlap.second));
+    else
+        fprintf(stderr, "make_log: %s\n", mf4_reply_text(overlap.reply));
+    exit(1);
+}
+
 /* ---- the records ------------------------------------------------------------------------------------------------ */
 
 static void append(joined_data *data, const void *bytes, size_t size)
@@ -94,29 +147,20 @@ static uint64_t append_payload(joined_data *payloads, const char *text)
     return position;
 }
 
-/* The counter begins in the upper half of its first byte and ends in the lower half of its ninth. */
-static void put_hours(uint8_t *record, uint64_t hours)
+static void put_number(uint8_t *record, int channel, mf4_number number)
 {
-    put_little(record + HOURS_AT, hours << HOURS_BIT_OFFSET, 8);
-    record[HOURS_AT + 8] = (uint8_t)(hours >> (64 - HOURS_BIT_OFFSET));
-}
-
-static void put_temperature(uint8_t *record, float degrees)
-{
-    uint32_t bits;
-    memcpy(&bits, &degrees, sizeof bits);
-    put_little(record + TEMPERATURE_AT, bits, 4);
+    must_store(mf4_write_value(0, number_in_record(channel), number, record, RECORD_SIZE));
 }
 
 static void append_record(pump_data *data, const pump_entry *entry)
 {
     uint8_t record[RECORD_SIZE] = { 0 };
-    memcpy(record, entry->serial, SERIAL_SIZE);
-    put_hours(record, entry->hours);
-    put_temperature(record, entry->degrees);
-    put_little(record + SITE_AT, append_payload(&data->sites, entry->site), 8);
-    put_little(record + REMARK_AT, append_payload(&data->remarks, entry->remark), 8);
-    record[DATA_BYTES] = entry->invalidation_bits;
+    memcpy(record + channels[SERIAL].channel.byte_offset, entry->serial, SERIAL_SIZE);
+    put_number(record, HOURS, mf4_unsigned(entry->hours));
+    put_number(record, TEMPERATURE, mf4_double(entry->degrees));
+    put_number(record, SITE, mf4_unsigned(append_payload(&data->sites, entry->site)));
+    put_number(record, REMARK, mf4_unsigned(append_payload(&data->remarks, entry->remark)));
+    must_store(mf4_write_value(0, invalidation, mf4_unsigned(entry->invalidation_bits), record, RECORD_SIZE));
     append(&data->records, record, RECORD_SIZE);
 }
 
@@ -168,29 +212,16 @@ static uint64_t add_history(new_file *file)
 /* The channels stand one behind the other, and their texts behind them; gives the first one's address. */
 static uint64_t add_channels(new_file *file, uint64_t sites, uint64_t remarks)
 {
-    const struct {
-        const char *name, *unit;
-        mf4_channel channel;
-    } entries[CHANNELS] = {
-        { "serial", NULL, { .data_type = MF4_LATIN1, .bit_count = 8 * SERIAL_SIZE } },
-        { "hours", "h", { .data_type = MF4_UNSIGNED_LE, .bit_offset = HOURS_BIT_OFFSET, .byte_offset = HOURS_AT,
-                          .bit_count = 64 } },
-        { "temperature", "\xC2\xB0" "C", { .data_type = MF4_FLOAT_LE, .byte_offset = TEMPERATURE_AT, .bit_count = 32,
-                                           .flags = MF4_CHANNEL_INVALIDATION_BIT } },
-        { "site", NULL, { .data_type = MF4_UTF8, .channel_type = MF4_CHANNEL_VARIABLE_LENGTH, .byte_offset = SITE_AT,
-                          .bit_count = 64, .flags = MF4_CHANNEL_INVALIDATION_BIT, .pos_invalidation_bit = 1,
-                          .data = sites } },
-        { "remark", NULL, { .data_type = MF4_LATIN1, .channel_type = MF4_CHANNEL_VARIABLE_LENGTH, .byte_offset = REMARK_AT,
-                            .bit_count = 64, .data = remarks } },
-    };
+    const uint64_t payloads[CHANNELS] = { [SITE] = sites, [REMARK] = remarks };
     uint64_t places[CHANNELS + 1] = { 0 };
     int i;
     for (i = 0; i < CHANNELS; i++)
         places[i] = keep_room(file, MF4_CHANNEL_BLOCK_SIZE);
     for (i = 0; i < CHANNELS; i++) {
-        mf4_channel_block block = { .next_ch_addr = places[i + 1], .channel = entries[i].channel };
-        block.name_addr = add_text(file, MF4_ID_TX, entries[i].name);
-        block.unit_addr = entries[i].unit != NULL ? add_text(file, MF4_ID_TX, entries[i].unit) : 0;
+        mf4_channel_block block = { .next_ch_addr = places[i + 1], .channel = channels[i].channel };
+        block.channel.data = payloads[i];
+        block.name_addr = add_text(file, MF4_ID_TX, channels[i].name);
+        block.unit_addr = channels[i].unit != NULL ? add_text(file, MF4_ID_TX, channels[i].unit) : 0;
         must_write(mf4_write_channel(block, file->bytes + places[i], MF4_CHANNEL_BLOCK_SIZE));
     }
     return places[0];
@@ -280,6 +311,7 @@ int main(int count, char **words)
         fputs("use: make_log FILE\n", stderr);
         return 2;
     }
+    check_layout();
     make_records(&data);
     make_log(&file, &data);
     if (!save_file(&file, words[1]))

@@ -10,13 +10,17 @@ void put_little(uint8_t *place, uint64_t number, int size)
         *place++ = (uint8_t)number;
 }
 
-void must_write(mf4_written written)
+static void must_answer(uint32_t reply)
 {
-    if (written.reply == MF4_ANSWER)
+    if (reply == MF4_ANSWER)
         return;
-    fprintf(stderr, "make_log: %s\n", mf4_reply_text(written.reply));
+    fprintf(stderr, "make_log: %s\n", mf4_reply_text(reply));
     exit(1);
 }
+
+void must_write(mf4_written written) { must_answer(written.reply); }
+
+void must_store(mf4_stored stored) { must_answer(stored.reply); }
 
 uint64_t keep_room(new_file *file, size_t size)
 {

@@ -15,8 +15,10 @@ typedef struct new_file {
 
 void put_little(uint8_t *place, uint64_t number, int size);
 
-/* A call of the library that refused to write ends the program: the sizes are ours, so it would be our mistake. */
+/* A call of the library that refused to write ends the program: the sizes and the numbers are ours, so it would be our
+ * mistake. */
 void must_write(mf4_written written);
+void must_store(mf4_stored stored);
 
 /* Keeps room for a block at the next multiple of 8, where MDF 4.1 wants it; gives its address. */
 uint64_t keep_room(new_file *file, size_t size);

@@ -1,10 +1,10 @@
 """Checks that a log is a legal MDF 4.1 file, by the block tables of ASAM MDF 4.1 and by nothing of the library's.
 
-    legal.py LOG
+    legal.py LOG RECORDS
 
 Every block stands at a multiple of 8, has the links and the length of its kind, and follows the one before it with zeros
-between; every link leads to a block of the kind that it should; what the standard demands is there. Exit status: 0 if so, 1
-if not.
+between; every link leads to a block of the kind that it should; what the standard demands is there; and the records are, byte by
+byte, those that the file RECORDS has in hex, one to a line. Exit status: 0 if so, 1 if not.
 """
 
 import struct
@@ -185,14 +185,23 @@ def check_data(log):
             check_payloads(joined_data(log, links[5], "SD"), positions, ENCODINGS[data_type])
 
 
+def check_records(log, expected):
+    for number, (found, wanted) in enumerate(zip(records_of(log), expected)):
+        demand(found == wanted, f"record {number} as {wanted.hex(' ')}, not {found.hex(' ')}")
+    demand(len(records_of(log)) == len(expected), f"{len(expected)} records")
+
+
 def main():
     with open(sys.argv[1], "rb") as file:
         log = Log(file.read())
+    with open(sys.argv[2], encoding="ascii") as file:
+        expected = [bytes.fromhex(line) for line in file]
     try:
         check_identification(log)
         log.visit(64, "HD")
         for check in (check_places, check_texts, check_channels, check_data):
             check(log)
+        check_records(log, expected)
     except (Illegal, UnicodeDecodeError, xml.etree.ElementTree.ParseError) as problem:
         print(f"demo: FAILED: the log is no legal file, which would have {problem}")
         return 1
