@@ -51,6 +51,22 @@ fn word_of(record: &[u8], answer: &c::Value) -> u64 {
     }
 }
 
+/// Gives the sum of the replies, which are 0 where all is written.
+pub fn numbers_written(records: &mut [u8], size: usize, channel: c::Channel, kind: u32, numbers: &[u64]) -> u64 {
+    let (size, channel, kind, id_size) = black_box((size, channel, kind, 0));
+    let replies = records.chunks_exact_mut(size).zip(numbers).map(|(record, number)| {
+        let value = c::Number { kind, number: *number };
+        let answer = unsafe { c::mf4_write_value(id_size, channel, value, record.as_mut_ptr(), record.len()) };
+        u64::from(answer.reply)
+    });
+    digest::sum(replies)
+}
+
+pub fn overlaps(list: &[c::Channel]) -> u64 {
+    let answer = unsafe { c::mf4_first_overlap(list.as_ptr(), list.len()) };
+    u64::from(answer.reply) + u64::from(answer.found)
+}
+
 pub type TextCall = unsafe extern "C" fn(*const u8, usize, *mut u8, usize) -> c::Text;
 
 /// No text takes more bytes than twice its own as UTF-8.

@@ -6,7 +6,9 @@
 //!
 //! A row has up to four sides: the library through its archive; the crate at the same kind of border, where each call is
 //! that of a function compiled apart; the crate inlined, compiled together with its loop; and a copy of the bytes that
-//! the row reads. Before a row is measured, the answers of the first three must be the same.
+//! the row reads. Where a number is written, which the crate does only with a whole file, a plain store in C, compiled apart,
+//! stands in the crate's place, in a table of its own. Before a row is measured, the answers of all sides but the copy must
+//! be the same.
 
 mod border;
 #[path = "../../compare/src/c.rs"]
@@ -19,6 +21,7 @@ mod inlined;
 mod library;
 mod measure;
 mod pieces;
+mod plain;
 mod row;
 mod rows;
 mod table;
@@ -32,8 +35,8 @@ fn main() -> ExitCode {
     let words: Vec<String> = std::env::args().skip(1).collect();
     let done = match words.iter().map(String::as_str).collect::<Vec<_>>()[..] {
         ["count"] => measure::count(&rows::all()),
-        ["table", counts] => table::print(&rows::all(), counts, measure::times),
-        ["untimed", counts] => table::print(&rows::all(), counts, |_| Ok(Vec::new())),
+        ["table", counts] => table::print(counts, measure::times),
+        ["untimed", counts] => table::print(counts, |_| Ok(Vec::new())),
         _ => Err("usage: bench count | bench table COUNTS | bench untimed COUNTS".to_string()),
     };
     if let Err(said) = done {

@@ -10,6 +10,8 @@ pub struct Row {
     /// Where the crate has such a call.
     pub border: Option<Pass>,
     pub inlined: Option<Pass>,
+    /// Where a plain store does the same.
+    pub plain: Option<Pass>,
     pub copy: Pass,
 }
 
@@ -33,9 +35,9 @@ impl Plan {
 impl Row {
     /// The sides whose answers must be the same, with their names.
     pub fn sides(&self) -> Vec<(&'static str, &Pass)> {
-        let crates = [("border", &self.border), ("inlined", &self.inlined)];
-        let crates = crates.into_iter().filter_map(|(name, pass)| pass.as_ref().map(|pass| (name, pass)));
-        [("ours", &self.ours)].into_iter().chain(crates).collect()
+        let others = [("border", &self.border), ("inlined", &self.inlined), ("plain", &self.plain)];
+        let others = others.into_iter().filter_map(|(name, pass)| pass.as_ref().map(|pass| (name, pass)));
+        [("ours", &self.ours)].into_iter().chain(others).collect()
     }
 
     pub fn check(&self, items: usize) -> Result<(), String> {

@@ -7,6 +7,7 @@ mod mixes;
 mod numbers;
 mod remarks;
 mod texts;
+mod written;
 
 use std::cell::RefCell;
 use std::hint::black_box;
@@ -17,9 +18,19 @@ use crate::c;
 use crate::pieces::Pieces;
 use crate::row::{Pass, Plan, Row};
 
-pub fn all() -> Vec<Plan> {
+/// Those beside the crate.
+pub fn of_crate() -> Vec<Plan> {
     let rows = [numbers::plans(), mixes::plans(), texts::plans(), lists::plans(), channels::plans()];
     rows.into_iter().chain([chains::plans(), remarks::plans()]).flatten().collect()
+}
+
+/// Those beside plain stores.
+pub fn of_stores() -> Vec<Plan> {
+    written::plans()
+}
+
+pub fn all() -> Vec<Plan> {
+    of_crate().into_iter().chain(of_stores()).collect()
 }
 
 /// A field that starts with a byte, of records that say nothing of validity.
@@ -36,7 +47,7 @@ fn over_pieces(bytes: Vec<u8>, size: usize, sides: [impl Fn(Pieces) -> u64 + 'st
         Box::new(move |items| side(Pieces { bytes: &bytes, size }.part(items))) as Pass
     });
     let copy = copying(bytes.to_vec(), move |items| items.start * size..items.end * size);
-    Row { ours, border: Some(border), inlined: Some(inlined), copy }
+    Row { ours, border: Some(border), inlined: Some(inlined), plain: None, copy }
 }
 
 /// Copies the bytes that the items have.

@@ -4,20 +4,30 @@ use std::collections::HashMap;
 use std::fs;
 
 use crate::row::Plan;
+use crate::rows;
 
-const HEAD: &str = "\
+const OF_CRATE: &str = "\
 | What | ours ns | crate ns | inlined ns | copy ns | ours / crate | ours / inlined | ours instr. | crate instr. | inlined instr. |
 |---|--:|--:|--:|--:|--:|--:|--:|--:|--:|";
+
+const OF_STORES: &str = "\
+| What | ours ns | plain C ns | copy ns | ours / plain C | ours instr. | plain C instr. |
+|---|--:|--:|--:|--:|--:|--:|";
 
 /// The instructions an item takes, by row and side.
 type Counts = HashMap<(String, String), f64>;
 
-pub fn print(plans: &[Plan], counts: &str, times: impl Fn(&Plan) -> Result<Vec<f64>, String>) -> Result<(), String> {
+/// A table of the rows beside the crate, and one of those beside plain stores.
+pub fn print(counts: &str, times: impl Fn(&Plan) -> Result<Vec<f64>, String>) -> Result<(), String> {
     let text = fs::read_to_string(counts).map_err(|said| format!("{counts}: {said}"))?;
     let counts = text.lines().map(counted).collect::<Option<Counts>>().ok_or(format!("{counts}: a strange line"))?;
-    println!("{HEAD}");
-    for plan in plans {
-        println!("{}", line(plan, &counts, &times(plan)?));
+    println!("{OF_CRATE}");
+    for plan in rows::of_crate() {
+        println!("{}", line(&plan, &counts, &times(&plan)?));
+    }
+    println!("\n{OF_STORES}");
+    for plan in rows::of_stores() {
+        println!("{}", line_of_stores(&plan, &counts, &times(&plan)?));
     }
     Ok(())
 }
@@ -50,6 +60,25 @@ fn line(plan: &Plan, counts: &Counts, times: &[f64]) -> String {
         whole(instructions("ours")),
         whole(instructions("border")),
         whole(instructions("inlined")),
+    ];
+    format!("| {} | {} |", plan.name, cells.join(" | "))
+}
+
+fn line_of_stores(plan: &Plan, counts: &Counts, times: &[f64]) -> String {
+    let instructions = |side: &str| counts.get(&(plan.name.clone(), side.to_string())).copied();
+    let (ours, plain, copy) = match *times {
+        [ours, plain, copy] => (Some(ours), Some(plain), Some(copy)),
+        [ours, copy] => (Some(ours), None, Some(copy)),
+        [] => (None, None, None),
+        _ => panic!("a row with another number of sides"),
+    };
+    let cells = [
+        number(ours),
+        number(plain),
+        number(copy),
+        ratio(ours, plain),
+        whole(instructions("ours")),
+        whole(instructions("plain")),
     ];
     format!("| {} | {} |", plan.name, cells.join(" | "))
 }

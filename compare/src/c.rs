@@ -146,6 +146,31 @@ pub mod kind {
     pub const UNKNOWN: u32 = 8;
 }
 
+/// What is to be written, as `Value` has it.
+#[repr(C)]
+#[derive(Clone, Copy)]
+pub struct Number {
+    pub kind: u32,
+    pub number: u64,
+}
+
+#[repr(C)]
+#[derive(Clone, Copy)]
+pub struct Stored {
+    pub reply: u32,
+    pub told: u64,
+}
+
+#[repr(C)]
+#[derive(Clone, Copy)]
+pub struct Overlap {
+    pub reply: u32,
+    pub told: u64,
+    pub found: u8,
+    pub first: u64,
+    pub second: u64,
+}
+
 #[repr(C)]
 #[derive(Clone, Copy)]
 pub struct Text {
@@ -224,6 +249,14 @@ extern "C" {
         channel: Channel,
     ) -> ValidValue;
     pub fn mf4_decode_double(record: *const u8, record_len: usize, record_id_size: u64, channel: Channel) -> u64;
+    pub fn mf4_write_value(
+        record_id_size: u64,
+        channel: Channel,
+        value: Number,
+        record: *mut u8,
+        record_len: usize,
+    ) -> Stored;
+    pub fn mf4_first_overlap(list: *const Channel, list_len: usize) -> Overlap;
     pub fn mf4_text_latin1(bytes: *const u8, bytes_len: usize, out: *mut u8, out_len: usize) -> Text;
     pub fn mf4_text_utf8(bytes: *const u8, bytes_len: usize, out: *mut u8, out_len: usize) -> Text;
     pub fn mf4_text_utf16_le(bytes: *const u8, bytes_len: usize, out: *mut u8, out_len: usize) -> Text;

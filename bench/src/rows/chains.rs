@@ -67,7 +67,7 @@ where
         }) as Pass
     });
     assert_eq!(ours(0..10), copy(0..10), "what is fetched is not that of the joined data");
-    Row { ours, border: None, inlined: None, copy }
+    Row { ours, border: None, inlined: None, plain: None, copy }
 }
 
 fn fetched(chain: &Chain, number: u64, buffer: &mut [u8]) -> u64 {
@@ -100,7 +100,7 @@ fn length_row(fragments: usize) -> Row {
     let chain = chain(1, fragments);
     let ours: Pass = Box::new(move |items| digest::sum(items.map(|_| data_length(black_box(&chain)))));
     assert_eq!(ours(0..1), DATA as u64, "the length is not that of the joined data");
-    Row { ours, border: None, inlined: None, copy }
+    Row { ours, border: None, inlined: None, plain: None, copy }
 }
 
 fn data_length(chain: &Chain) -> u64 {

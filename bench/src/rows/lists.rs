@@ -51,7 +51,7 @@ pub fn writing<T: 'static>(given: T, sides: [fn(&T, usize) -> u64; 3], copy: Pas
         let given = given.clone();
         Box::new(move |items: Range<usize>| side(&given, items.len())) as Pass
     });
-    Row { ours, border: Some(border), inlined: Some(inlined), copy }
+    Row { ours, border: Some(border), inlined: Some(inlined), plain: None, copy }
 }
 
 fn headers(count: usize) -> Vec<c::BlockHeader> {

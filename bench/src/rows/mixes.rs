@@ -50,9 +50,18 @@ fn plan(name: &str, size: usize, sides: Sides) -> Plan {
     })
 }
 
+/// So many of them, each with bits of its own.
+pub fn side_by_side(count: usize) -> Vec<c::Channel> {
+    channels_in(count, 4 * count)
+}
+
+fn channels(size: usize) -> Vec<c::Channel> {
+    channels_in(CHANNELS, size)
+}
+
 /// One behind the other, small ones together in a byte. Where the record is full they start again, as multiplexed signals
 /// do.
-fn channels(size: usize) -> Vec<c::Channel> {
+fn channels_in(count: usize, size: usize) -> Vec<c::Channel> {
     let mut bit = 0;
     let next = |&(data_type, bit_count): &(u8, u32)| {
         let fits_its_byte = bit % 8 + bit_count <= 8;
@@ -61,7 +70,7 @@ fn channels(size: usize) -> Vec<c::Channel> {
         bit = at + bit_count;
         c::Channel { bit_offset: (at % 8) as u8, ..channel(data_type, at / 8, bit_count) }
     };
-    USUAL.iter().cycle().take(CHANNELS).map(next).collect()
+    USUAL.iter().cycle().take(count).map(next).collect()
 }
 
 /// Random bytes but for those that a NaN begins with: the sides keep different bits of one.
