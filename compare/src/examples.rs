@@ -3,10 +3,14 @@
 use crate::cases::Case;
 use crate::check::{ask_library, judge, Verdict};
 
-/// What `replay` holds the library to. The crate reads no chains, so records are not for it.
+/// Kinds of lines that are not for the crate: it reads no chains, and writes no number by itself.
+const OTHERS: [&str; 2] = ["record", "write "];
+
+/// What `replay` holds the library to.
 fn lines() -> impl Iterator<Item = &'static str> {
     let stored = include_str!("../../crates/replay/data/vectors.txt").lines();
-    stored.filter(|line| !line.is_empty() && !line.starts_with('#') && !line.starts_with("record"))
+    let is_other = |line: &str| OTHERS.iter().any(|kind| line.starts_with(kind));
+    stored.filter(move |line| !line.is_empty() && !line.starts_with('#') && !is_other(line))
 }
 
 /// Where the answer is another one: why.

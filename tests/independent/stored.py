@@ -41,6 +41,9 @@ class Words:
     def channel(self):
         return reference.Channel(*(self.number() for _ in reference.Channel._fields))
 
+    def given_number(self):
+        return reference.Number(*(self.number() for _ in reference.Number._fields))
+
     def channel_block(self):
         parts = {"header": self.header, "channel": self.channel}
         return reference.ChannelBlock(*(parts.get(name, self.number)() for name in reference.ChannelBlock._fields))
@@ -141,6 +144,12 @@ def double_answer(words):
     return number_words(reference.decode_double(record, id_size, channel))
 
 
+def write_answer(words):
+    record, id_size, channel = words.bytes(), words.number(), words.channel()
+    reply, after = reference.write_value(id_size, channel, words.given_number(), record)
+    return number_words(reply.reply, reply.told) + [bytes_word(after)]
+
+
 def text_answer(words):
     encoding, text = words.number(), words.bytes()
     reply, out = reference.text_as_utf8(text, encoding, words.buffer())
@@ -195,6 +204,7 @@ ANSWERS = {
     "record": record_answer,
     "record-value": record_value_answer,
     "record-payload": record_payload_answer,
+    "write": write_answer,
 }
 
 

@@ -14,6 +14,7 @@ use crate::types::replay_type;
 use crate::words::WRONG;
 use crate::words::byte_at;
 use crate::words::past_blank;
+use crate::written::replay_write;
 use libc::STDOUT_FILENO;
 
 pub(crate) const TYPE: usize = 0;
@@ -48,11 +49,13 @@ pub(crate) const CHANNEL_WRITE: usize = 14;
 
 pub(crate) const RECORD_PAYLOAD: usize = 15;
 
-pub(crate) const UNKNOWN: usize = 16;
+pub(crate) const WRITE: usize = 16;
+
+pub(crate) const UNKNOWN: usize = 17;
 
 // One string, each name with a blank behind it: checking a string for each name takes far longer
-const NAMES: [u8; 179] =
-    *b"type header-read header-write list-read list-write-equal list-write-variable value validity both double text record record-value channel-read channel-write record-payload unknown ";
+const NAMES: [u8; 185] =
+    *b"type header-read header-write list-read list-write-equal list-write-variable value validity both double text record record-value channel-read channel-write record-payload write unknown ";
 
 // Whether the line's first word is the name that begins at `from`
 fn begins(line: &[u8], names: &[u8], from: usize) -> bool {
@@ -134,6 +137,7 @@ pub(crate) fn replay(line: &[u8], kind: usize, at: usize) -> usize {
         CHANNEL_READ => replay_channel_read(line, at),
         CHANNEL_WRITE => replay_channel_write(line, at),
         RECORD_PAYLOAD => replay_record_payload(line, at),
+        WRITE => replay_write(line, at),
         _ => WRONG,
     }
 }
