@@ -75,6 +75,11 @@ pub struct Field {
 }
 
 impl Field {
+    /// The same field of another record.
+    pub fn with_record(&self, record: &[u8]) -> Field {
+        Field { record: record.to_vec(), ..self.clone() }
+    }
+
     /// A payload does not depend on places in a record, which may lie where the crate's sums stop it.
     pub fn without_places(&self) -> Field {
         let mut field = self.clone();
@@ -137,9 +142,10 @@ pub enum Case {
     Both(Field),
     Double(Field),
     Text { encoding: Encoding, bytes: Vec<u8>, room: usize },
+    Carried { field: Field, into: Vec<u8> },
 }
 
-pub const KINDS: [&str; 13] = [
+pub const KINDS: [&str; 14] = [
     "type",
     "header-read",
     "header-write",
@@ -153,6 +159,7 @@ pub const KINDS: [&str; 13] = [
     "both",
     "double",
     "text",
+    "carried",
 ];
 
 impl Case {
@@ -171,11 +178,13 @@ impl Case {
             Case::Both(_) => "both",
             Case::Double(_) => "double",
             Case::Text { .. } => "text",
+            Case::Carried { .. } => "carried",
         }
     }
 
-    pub fn is_channel_block(&self) -> bool {
-        matches!(self, Case::ChannelRead { .. } | Case::ChannelWrite { .. })
+    /// Of a sample are the kinds for which the crate alone is the measure.
+    pub fn is_of_sample(&self) -> bool {
+        !matches!(self, Case::ChannelRead { .. } | Case::ChannelWrite { .. } | Case::Carried { .. })
     }
 
     pub fn line(&self) -> String {
@@ -205,6 +214,10 @@ impl Case {
                 line.number(u64::from(encoding.type_code()));
                 line.bytes(bytes);
                 line.number(*room as u64);
+            }
+            Case::Carried { field, into } => {
+                line.field(field);
+                line.bytes(into);
             }
         }
         line.0
@@ -240,6 +253,7 @@ impl Case {
             "text" => {
                 Case::Text { encoding: Encoding::of_type(words.small()?)?, bytes: words.bytes()?, room: words.small()? }
             }
+            "carried" => Case::Carried { field: words.field()?, into: words.bytes()? },
             _ => return None,
         };
         words.word().is_none().then_some(case)

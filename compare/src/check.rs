@@ -1,6 +1,6 @@
 //! One input, asked of both sides.
 
-use crate::answers::{Answer, Place, Said, Text, Value};
+use crate::answers::{Answer, Place, Said, Text, Value, NAN_BITS};
 use crate::cases::{Case, Encoding, Field};
 use crate::library::{self, Owed};
 use crate::original::{self, Stopped};
@@ -39,7 +39,7 @@ fn contradiction(case: &Case, ours: &Owed<Answer>, due: &Result<Said, Stopped>) 
         (Err(why), _) => Some(format!("the library gives {why}")),
         (Ok(ours), Err(stopped)) => Some(format!("the library gives {ours:x?}; the crate stops: {}", stopped.0)),
         (Ok(ours), Ok(due)) if !due.allows(ours) => Some(format!("the library gives {ours:x?}; due is {due:x?}")),
-        _ => wrong_text(case, ours.as_ref().ok()?),
+        (Ok(ours), _) => wrong_text(case, ours).or_else(|| wrong_record(case, ours)),
     }
 }
 
@@ -64,7 +64,27 @@ pub fn ask_library(case: &Case) -> Owed<Answer> {
         Case::Both(field) => Answer::Both(library::decode_valid_value(field)?),
         Case::Double(field) => Answer::Double(library::decode_double(field)),
         Case::Text { encoding, bytes, room } => Answer::Text(library::text(*encoding, bytes, *room)?),
+        Case::Carried { field, into } => Answer::Value(library::carried(field, into)?.map(|(value, _)| value)),
     })
+}
+
+/// A value that was written must come back: from the crate, and where that differs as it is due there. And the value that
+/// stood there before, written again, must give the whole record back, since no other bit has changed.
+fn wrong_record(case: &Case, answer: &Answer) -> Option<String> {
+    let (Case::Carried { field, into }, Answer::Value(Ok(value))) = (case, answer) else {
+        return None;
+    };
+    let (_, written) = library::carried(field, into).ok()?.ok()?;
+    let (written, before) = (field.with_record(&written?), field.with_record(into));
+    let read = outside::decoded(&written);
+    if read != Some(Ok(*value)) {
+        return Some(format!("{value:x?} is written as {:x?}; there stands {read:x?}", written.record));
+    }
+    match library::carried(&before, &written.record) {
+        Ok(Ok((Value::Double(NAN_BITS), _))) if field.channel.bit_count == 32 => None, // any NaN is read as the one
+        Ok(Ok((_, Some(back)))) if back == *into => None,
+        other => Some(format!("the record was {into:x?}, and is then {other:x?}")),
+    }
 }
 
 /// A text is told by its place, so the string must come out of the bytes there.

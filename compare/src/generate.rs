@@ -11,11 +11,13 @@ use crate::dice::Dice;
 pub struct Generator {
     dice: Dice,
     channel_dice: Dice,
+    carried_dice: Dice,
     values: u64,
     validities: u64,
     boths: u64,
     doubles: u64,
     texts: u64,
+    carried: u64,
 }
 
 impl Generator {
@@ -24,7 +26,9 @@ impl Generator {
         // Where the counting starts hangs on the seed, so that short runs with different seeds see different shapes.
         let mut start = || dice.below(1 << 32);
         let (values, validities, boths, doubles, texts) = (start(), start(), start(), start(), start());
-        Generator { dice, channel_dice: Dice::new(!seed), values, validities, boths, doubles, texts }
+        let (channel_dice, mut carried_dice) = (Dice::new(!seed), Dice::new(seed.rotate_left(32)));
+        let carried = carried_dice.below(1 << 32);
+        Generator { dice, channel_dice, carried_dice, values, validities, boths, doubles, texts, carried }
     }
 
     /// All inputs of a run: each type code once, then the other kinds by the dice.
@@ -33,8 +37,12 @@ impl Generator {
         types.chain(std::iter::repeat_with(move || self.next_case()))
     }
 
-    /// Channel blocks have dice of their own, so that the others are the same with them and without.
+    /// Values that are carried have dice of their own, and so have channel blocks, so that the others are the same with them
+    /// and without.
     fn next_case(&mut self) -> Case {
+        if self.carried_dice.one_in(20) {
+            return fields::carried(&mut self.carried_dice, turn(&mut self.carried));
+        }
         match self.channel_dice.below(40) {
             0..=2 => channels::channel_read(&mut self.channel_dice),
             3 => channels::channel_write(&mut self.channel_dice),

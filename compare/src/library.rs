@@ -214,6 +214,35 @@ pub fn decode_value(field: &Field) -> Owed<Reply<Value>> {
     value_reply(&answer)
 }
 
+/// The field's value; and another record with that value in the same field, where it is a number of a record. Else nothing
+/// may be written, and the refusal must be that of the field, or 25.
+pub fn carried(field: &Field, into: &[u8]) -> Owed<Reply<(Value, Option<Vec<u8>>)>> {
+    const OTHER_KIND: (u32, u64) = (25, 0);
+    let value = decode_value(field)?;
+    let is_number = field.channel.is_number() && !field.channel.is_payload();
+    let (due, [kind, number, _]) = match &value {
+        Err(refusal) => ((refusal.number, refusal.told), [u64::from(c::kind::UNSIGNED), 0, 0]),
+        Ok(value) => (if is_number { (0, 0) } else { OTHER_KIND }, value.words()),
+    };
+    let (answer, record) = store(field, c::Number { kind: kind as u32, number }, into)?;
+    if (answer.reply, answer.told) != due {
+        return Err(format!("the reply {} and {} to a write, where {due:?} is due", answer.reply, answer.told));
+    }
+    Ok(value.map(|value| (value, is_number.then_some(record))))
+}
+
+fn store(field: &Field, number: c::Number, into: &[u8]) -> Owed<(c::Stored, Vec<u8>)> {
+    let mut record = [into, &[0xA5; FENCE]].concat();
+    let lent = if into.is_empty() { std::ptr::null_mut() } else { record.as_mut_ptr() };
+    let channel = channel_to(&field.channel);
+    let answer = unsafe { c::mf4_write_value(field.id_size, channel, number, lent, into.len()) };
+    let behind = record.split_off(into.len());
+    if behind != [0xA5; FENCE] || (answer.reply != 0 && record != into) {
+        return Err("bytes changed that are not the record's, or by a refusal".to_string());
+    }
+    Ok((answer, record))
+}
+
 pub fn check_validity(field: &Field) -> Owed<bool> {
     let record = &field.record;
     flag(unsafe {

@@ -29,6 +29,7 @@
 //!     both FIELD = REPLY TOLD [VALUE VALID]
 //!     double FIELD = DOUBLE
 //!     text TYPE BYTES ROOM = REPLY TOLD [DAMAGED BYTES]
+//!     carried FIELD RECORD = REPLY TOLD [VALUE]
 //!
 //! HEADER is ID RESERVED0 BLOCK_LEN LINKS_NR, the id's first byte the lowest. CHANNEL is DATA_TYPE CHANNEL_TYPE
 //! BIT_OFFSET BYTE_OFFSET BIT_COUNT FLAGS POS_INVALIDATION_BIT DATA. BLOCK is the numbers of mf4_channel_block in their
@@ -36,10 +37,12 @@
 //! the six limits. FIELD is RECORD ID_SIZE DATA_BYTES CHANNEL, where RECORD is bytes; `value` and `double` do not use
 //! DATA_BYTES. VALUE is three numbers, the kind as in mf4.h and then the value and 0, or place and length, or 0 and 0.
 //! TYPE is the type code of the text's encoding. REPLY is 0 or the number of the refusal; what stands in brackets is
-//! there only where it is 0. VALID and DAMAGED are 0 or 1.
+//! there only where it is 0. VALID and DAMAGED are 0 or 1. `carried` is `value`, and then the library writes the value into
+//! the same field of another RECORD of that length, where the crate must read it; the crate's own writer makes whole files,
+//! and is not asked.
 //!
 //! The answers in a sample are the crate's, so inputs outside the domain are left out, codes of unknown types among
-//! them, and so are channel blocks, whose measure is the standard alone. Where the crate has no such notion they are
+//! them, and so are values that are carried, and channel blocks, whose measure is the standard alone. Where the crate has no such notion they are
 //! put into the library's terms: its errors as numbers, 6 where ROOM is too small for the bytes that it gives, places
 //! instead of copies, the one NaN for every NaN but those of 64-bit fields, and for an unknown type in a channel block
 //! 0, the code that the crate itself gives for it. Where it has no value, the whole answer of `value` and `both` is the
@@ -171,7 +174,7 @@ const LONGEST_LINE: usize = 400;
 fn write_sample(count: u64, file: &str) -> io::Result<()> {
     let mut file = BufWriter::new(File::create(file)?);
     writeln!(file, "# {count} answers of mf4-rs 3.8.0; compare/src/main.rs describes the lines.")?;
-    let measured = Generator::new(DEFAULT_SEED).cases().filter(|case| !case.is_channel_block());
+    let measured = Generator::new(DEFAULT_SEED).cases().filter(Case::is_of_sample);
     let inside = measured.filter(|case| outside::due(case).is_none());
     let lines = inside.map(|case| sample_line(&case));
     let is_short = |line: &io::Result<String>| line.as_ref().map_or(true, |line| line.len() <= LONGEST_LINE);

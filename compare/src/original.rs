@@ -37,7 +37,7 @@ pub fn answer(case: &Case) -> Result<Said, Stopped> {
         }
         Case::ChannelRead { bytes } => Answer::Channel(read_channel(bytes)?),
         Case::ChannelWrite { block, room } => write_channel(block, *room)?,
-        Case::Value(field) => return Ok(said(value(field)?, Answer::Value)),
+        Case::Value(field) | Case::Carried { field, .. } => return Ok(said(value(field)?, Answer::Value)),
         Case::Validity(field) => Answer::Validity(validity(field)?),
         Case::Both(field) => return Ok(said(both(field)?, Answer::Both)),
         Case::Double(field) => Answer::Double(double(field)?),

@@ -54,7 +54,7 @@ pub fn due(case: &Case) -> Due<Answer> {
         Case::ListWriteVariable { links, offsets, .. } => unwritable(links.len(), offsets.len()),
         Case::ChannelRead { bytes } => answering(read_channel(bytes), Answer::Channel),
         Case::ChannelWrite { block, room } => plain_channel(block, *room),
-        Case::Value(field) => answering(value(field), Answer::Value),
+        Case::Value(field) | Case::Carried { field, .. } => answering(value(field), Answer::Value),
         Case::Validity(field) => answering(validity(field), Answer::Validity),
         Case::Double(field) => answering(double(field), Answer::Double),
         Case::Both(field) => answering(both(field), Answer::Both),
@@ -194,7 +194,7 @@ fn value_difference(field: &Field) -> Option<Difference> {
 }
 
 /// The value, or the cause for which there is none; inside the domain too, where the crate tells none.
-fn decoded(field: &Field) -> Option<Reply<Value>> {
+pub fn decoded(field: &Field) -> Option<Reply<Value>> {
     if let Some(refusal) = field_refusal(field) {
         return Some(Err(refusal));
     }

@@ -1,7 +1,7 @@
 //! Fields and what they are read from.
 
 use super::{number, texts, Shape};
-use crate::cases::{Channel, Field};
+use crate::cases::{Case, Channel, Field};
 use crate::dice::Dice;
 
 /// The codes that have their turn; the last stands for every unknown one.
@@ -31,6 +31,14 @@ pub fn mostly_number(dice: &mut Dice, turn: u64) -> Field {
     let code = shape.choose(TYPES);
     let data_type = if dice.one_in(8) { code } else { code % NUMBERS };
     field_of_type(dice, shape, data_type as u8)
+}
+
+/// A field, mostly a number, and another record of the same length.
+pub fn carried(dice: &mut Dice, turn: u64) -> Case {
+    let field = mostly_number(dice, turn);
+    let mut into = background(dice, field.record.len());
+    fill_field(dice, &field.channel, field.id_size, &mut into);
+    Case::Carried { field, into }
 }
 
 fn field_of_type(dice: &mut Dice, mut shape: Shape, data_type: u8) -> Field {
