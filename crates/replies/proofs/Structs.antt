@@ -77,5 +77,6 @@ mf4-number-fields s = refl
 
 pub mf4-stored-fields : (s : Mf4Stored) → mf4-stored.struct .as-values s ≡ (s .reply, (s .told, tt))
 mf4-stored-fields s = refl
+
 pub mf4-overlap-fields : (s : Mf4Overlap) → mf4-overlap.struct .as-values s ≡ (s .reply, (s .told, (s .found, (s .first, (s .second, tt)))))
 mf4-overlap-fields s = refl
