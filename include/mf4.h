@@ -26,9 +26,9 @@
 #include <string.h>
 
 #define MF4_VERSION_MAJOR 0
-#define MF4_VERSION_MINOR 4
-#define MF4_VERSION_PATCH 0
-#define MF4_VERSION "0.4.0"
+#define MF4_VERSION_MINOR 3
+#define MF4_VERSION_PATCH 1
+#define MF4_VERSION "0.3.1"
 
 #ifdef __cplusplus
 extern "C" {
