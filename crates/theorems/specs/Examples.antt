@@ -11,6 +11,7 @@ use Rattle.definitions.specs.Bytes.{little, big, le, les}
 use Rattle.definitions.specs.Unicode.{latin1}
 use Rattle.definitions.specs.DataType.{DataType, unsignedInteger, signedInteger, float, complex, string, byteArray, canOpenDate, unknown, typeOf, codeOf}
 use Rattle.definitions.specs.Channel.{Channel, Value, unsigned, signed, double, text, bytes, unknownValue, valueOf, recordDouble, validOf}
+use Rattle.definitions.specs.WrittenValue.{Given, givenUnsigned, givenSigned, givenDouble, givenOther, valueWritten}
 use Rattle.definitions.specs.DataList.{DataList, idDL, listOf, listBytes}
 use Rattle.definitions.specs.ChannelBlock.{ChannelBlock, idCN, channelBlockOf, described}
 use Rattle.definitions.specs.Chain.{idDT, fetched}
@@ -154,6 +155,17 @@ remarkLeft position invalid = le 8 position ++ (invalid ∷ 255 ∷ [])
 abbrev pub untouched : List ℕ
 untouched = 255 ∷ 255 ∷ 255 ∷ 255 ∷ 255 ∷ 255 ∷ 255 ∷ 255 ∷ 255 ∷ 255 ∷ []
 
+-- the record that a number leaves, and the one that a refusal does
+abbrev pub leaves : List ℕ → Outcome (Unit {0})
+leaves s = record { reply = answer tt; buffer = s }
+
+abbrev pub refuses : ℕ → ℕ → List ℕ → Outcome (Unit {0})
+refuses n t s = record { reply = refusal n t; buffer = s }
+
+-- four bytes 0, where a float goes
+abbrev pub four : List ℕ
+four = 0 ∷ 0 ∷ 0 ∷ 0 ∷ []
+
 -- a call, and what it replies
 pub data Row : Type 0 where
   value : List ℕ → Channel → Reply Value → Row
@@ -171,6 +183,8 @@ pub data Row : Type 0 where
   code : DataType → ℕ → Row
   -- record k of size 2 from the chain at 8, into a buffer of 2 bytes FF
   fetch : List ℕ → ℕ → Outcome (Unit {0}) → Row
+  -- a number written into a record, and the record then
+  write : List ℕ → Channel → Given → Outcome (Unit {0}) → Row
   -- the payload of record 0 of size 9 from the chain at 8, with id size 0 and 8 data bytes, into buffers of 10 bytes FF and of
   -- the given number
   follow : List ℕ → Channel → ℕ → Reply PayloadValue → List ℕ → List ℕ → Row
@@ -199,6 +213,7 @@ given (description b r) = aChannel (described b)
 given (type n r) = aType (typeOf n)
 given (code t r) = aNumber (codeOf t)
 given (fetch f k r) = aRecord (fetched f 8 k 2 (255 ∷ 255 ∷ []))
+given (write s c v o) = aRecord (valueWritten s 0 c v)
 given (follow f c n r a b) = aPayload (payloadFetched f 8 0 9 0 8 c untouched (copies n 255))
 
 abbrev pub stated : Row → Said
@@ -212,6 +227,7 @@ stated (description b r) = aChannel r
 stated (type n r) = aType r
 stated (code t r) = aNumber r
 stated (fetch f k r) = aRecord r
+stated (write s c v o) = aRecord o
 stated (follow f c n r a b) = aPayload (record { reply = r; recordBuffer = a; payloadBuffer = b })
 
 abbrev pub table : List Row
@@ -307,6 +323,35 @@ table =
     ∷ fetch (twoLists 1 4 (1 ∷ 2 ∷ 3 ∷ 4 ∷ []) 1 0 4 (5 ∷ 6 ∷ [])) 0 (record { reply = refusal 13 0; buffer = 255 ∷ 255 ∷ [] })
     ∷ fetch (twoLists 0 0 (1 ∷ 2 ∷ 3 ∷ 4 ∷ []) 1 1 2 (5 ∷ 6 ∷ [])) 0 (record { reply = refusal 13 0; buffer = 255 ∷ 255 ∷ [] })
     ∷ fetch (twoLists 0 0 (1 ∷ 2 ∷ []) 1 0 2 (3 ∷ 4 ∷ 5 ∷ 6 ∷ [])) 2 (record { reply = answer tt; buffer = 5 ∷ 6 ∷ [] })
+    -- numbers written beside other bits, in either order, and over nine bytes
+    ∷ write (0x12 ∷ 0x34 ∷ []) (channel (unsignedInteger little) 4 8) (givenUnsigned 0xAB) (leaves (0xB2 ∷ 0x3A ∷ []))
+    ∷ write (0x12 ∷ 0x34 ∷ []) (channel (unsignedInteger big) 4 8) (givenUnsigned 0xAB) (leaves (0x1A ∷ 0xB4 ∷ []))
+    ∷ write (0x7F ∷ []) (channel (signedInteger little) 4 4) (givenSigned (negsuc 7)) (leaves (0x8F ∷ []))
+    ∷ write (0x05 ∷ 0 ∷ 0 ∷ 0 ∷ 0 ∷ 0 ∷ 0 ∷ 0 ∷ 0xA0 ∷ []) (channel (unsignedInteger little) 4 64) (givenUnsigned 18446744073709551615)
+    (leaves (0xF5 ∷ 255 ∷ 255 ∷ 255 ∷ 255 ∷ 255 ∷ 255 ∷ 255 ∷ 0xAF ∷ []))
+    -- floats of 32 bits: 1, -0, the least above 0, an infinity and the one NaN; of 64 bits another NaN too
+    ∷ write four (channel (float little) 0 32) (givenDouble 0x3FF0000000000000) (leaves (0 ∷ 0 ∷ 0x80 ∷ 0x3F ∷ []))
+    ∷ write four (channel (float big) 0 32) (givenDouble 0x8000000000000000) (leaves (0x80 ∷ 0 ∷ 0 ∷ 0 ∷ []))
+    ∷ write four (channel (float little) 0 32) (givenDouble 0x36A0000000000000) (leaves (1 ∷ 0 ∷ 0 ∷ 0 ∷ []))
+    ∷ write four (channel (float big) 0 32) (givenDouble 0xFFF0000000000000) (leaves (0xFF ∷ 0x80 ∷ 0 ∷ 0 ∷ []))
+    ∷ write four (channel (float big) 0 32) (givenDouble 0x7FF8000000000000) (leaves (0x7F ∷ 0xC0 ∷ 0 ∷ 0 ∷ []))
+    ∷ write (le 8 0) (channel (float little) 0 64) (givenDouble 0xFFF8000000000001) (leaves (le 8 0xFFF8000000000001))
+    -- 24: too large, too small, half-way between two floats, half the least, and that NaN with its sign
+    ∷ write (0 ∷ []) (channel (unsignedInteger little) 0 7) (givenUnsigned 128) (refuses 24 0 (0 ∷ []))
+    ∷ write (0 ∷ []) (channel (signedInteger little) 4 4) (givenSigned (pos 8)) (refuses 24 0 (0 ∷ []))
+    ∷ write (0 ∷ []) (channel (signedInteger little) 4 4) (givenSigned (negsuc 8)) (refuses 24 0 (0 ∷ []))
+    ∷ write four (channel (float little) 0 32) (givenDouble 0x3FF0000010000000) (refuses 24 0 four)
+    ∷ write four (channel (float little) 0 32) (givenDouble 0x3690000000000000) (refuses 24 0 four)
+    ∷ write four (channel (float little) 0 32) (givenDouble 0xFFF8000000000000) (refuses 24 0 four)
+    -- 25: another kind, no number, no field of the record; and first what decoding refuses
+    ∷ write (0 ∷ []) (channel (signedInteger little) 0 8) (givenUnsigned 256) (refuses 25 0 (0 ∷ []))
+    ∷ write four (channel (float little) 0 32) (givenSigned (pos 1)) (refuses 25 0 four)
+    ∷ write (0 ∷ []) (channel (unsignedInteger little) 0 8) givenOther (refuses 25 0 (0 ∷ []))
+    ∷ write (0 ∷ []) (channel (string latin1) 0 8) (givenUnsigned 1) (refuses 25 0 (0 ∷ []))
+    ∷ write (0 ∷ []) (channel (string latin1) 0 16) (givenUnsigned 1) (refuses 21 2 (0 ∷ []))
+    ∷ write (0 ∷ []) (payload (unsignedInteger little) 0 8) (givenUnsigned 1) (refuses 25 0 (0 ∷ []))
+    ∷ write [] (payload (unsignedInteger little) 0 8) (givenUnsigned 1) (refuses 21 1 [])
+    ∷ write four (channel (float little) 0 16) (givenUnsigned 1) (refuses 22 0 four)
     -- a payload whose length is cut by a block's end, and its validity by the record
     ∷ follow (remarks 0 0) (remark (string latin1) 0 97) 3 (answer (record { value = text 0 2; valid = true; size = 2 })) (remarkLeft 0 0) (0x50 ∷ 0x58 ∷ 255 ∷ [])
     ∷ follow (remarks 0 1) (remark byteArray 0 97) 2 (answer (record { value = bytes 0 2; valid = false; size = 2 })) (remarkLeft 0 1) (0x50 ∷ 0x58 ∷ [])
