@@ -4,6 +4,7 @@ use mathlib.Core.Bool.{Bool, true, false}
 use Prim.Native.Nat.{ℕ}
 use Rattle.definitions.specs.Reply.{Reply, answer, refusal, if_then_else_, andThen}
 use Rattle.definitions.proofs.Replies.{not-answered}
+pub use Rattle.definitions.proofs.Replies.{answered}
 
 -- no refusal came before
 pub passed : {A : Type 0} (t : Bool) (n m : ℕ) (r : Reply A) (a : A) → (if t then refusal n m else r) ≡ answer a → (t ≡ false) × (r ≡ answer a)
@@ -18,6 +19,3 @@ followed (refusal n m) g b h = not-answered b n m h
 pub unfollowed : {A B : Type 0} (r : Reply A) (g : A → B) (n m : ℕ) → andThen r (λ a. answer (g a)) ≡ refusal n m → r ≡ refusal n m
 unfollowed (answer a) g n m h = not-answered (g a) n m (sym h)
 unfollowed (refusal k t) g n m h = cc
-
-pub answered : {A : Type 0} {a b : A} → answer a ≡ answer b → a ≡ b
-answered h = cc

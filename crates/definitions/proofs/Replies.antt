@@ -1,16 +1,30 @@
--- The two ways through a test of a size, and when a meaning is one-to-one.
+-- The two ways through a test of a size, what an answer is, and when a meaning is one-to-one.
 use mathlib.Core.Path.{_≡_, refl, sym, ap, _∙_}
+use mathlib.Core.Logic.{_⊎_, inl, inr}
 use mathlib.Core.Bool.{Bool, true, false, _&&_}
 use mathlib.Core.List.{List, _++_}
 use Prim.Native.Nat.{ℕ, _≤_, _<_}
 use native.Mathlib.Omega.{arith}
 use lib.ListN.{length, drop}
 use lib.Seq.{sets}
-use borrow.Author.Tests.{lt-ltb, le-ltb}
+use lib.Dec.{leb}
+use borrow.Author.Tests.{lt-ltb, le-ltb, leb-true, leb-false}
 use Rattle.definitions.specs.Reply.{Reply, answer, refusal, told, needing, writing}
 use Rattle.definitions.proofs.Stores.{sets-front}
 
--- an answer is no refusal
+-- one of two orders holds
+pub le-or-lt : (a b : ℕ) → (a ≤ b) ⊎ (b < a)
+le-or-lt a b = go (leb a b) refl
+  where
+    go : (t : Bool) → leb a b ≡ t → (a ≤ b) ⊎ (b < a)
+    go true e = inl (leb-true a b e)
+    go false e = inr (leb-false a b e)
+
+-- an answer is one answer
+pub answered : {A : Type 0} {a b : A} → answer a ≡ answer b → a ≡ b
+answered h = cc
+
+-- and no refusal
 pub not-answered : {A B : Type 0} (a : A) (n t : ℕ) → refusal n t ≡ answer a → B
 not-answered a n t h = let z : _≡_ {A = ℕ} 0 1 = cc in let no : ⊥ = omega arith in absurd no
 

@@ -8,7 +8,7 @@ use lib.Count.{leading-top}
 use lib.Pow.{shl-shr, shr-shr, shr-le}
 use Rattle.definitions.specs.Ieee754.{widened}
 use Rattle.doubles.specs.Meaning.{OnlyOne}
-use Rattle.doubles.proofs.Ties.{le-or-lt}
+use Rattle.definitions.proofs.Replies.{le-or-lt}
 use Rattle.doubles.proofs.WidenedCases.{zero-widened, infinity-widened, subnormal-shifted, normal-widened}
 
 -- m is what a pattern x below the normal ones widens to

@@ -17,7 +17,7 @@ use Rattle.doubles.specs.Meaning.{narrowMeant, OnlyOne}
 use Rattle.doubles.specs.declared.narrowing.Narrowed.{Narrowed}
 use Rattle.doubles.specs.declared.narrowing.Narrowed.the-variants.{Single, Wider}
 use Rattle.doubles.proofs.Pattern.{signBit}
-use Rattle.doubles.proofs.Ties.{le-or-lt}
+use Rattle.definitions.proofs.Replies.{le-or-lt, one-by}
 use Rattle.doubles.proofs.Nan.{nan-above, no-nan-below}
 use Rattle.doubles.proofs.Widened.{widening-exact, nan-widened, sign-widened, widened-clear}
 
@@ -81,7 +81,7 @@ again Wider = refl
 
 -- the meaning is one-to-one
 pub narrow-one : (r q : Narrowed) → narrowMeant r ≡ narrowMeant q → r ≡ q
-narrow-one r q e = sym (again r) ∙ ap narrowAgain e ∙ again q
+narrow-one = one-by narrowMeant narrowAgain again
 
 pub nan-way : answer 0x7fc0_0000 ≡ fitting (narrows nanPattern) (narrowed nanPattern)
 unfolding toBits ofBits

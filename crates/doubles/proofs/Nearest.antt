@@ -16,7 +16,8 @@ use lib.Ieee.Exact.{HasValue, odd-sign}
 use lib.Ieee.Nearest.{closest}
 use Rattle.definitions.specs.Ieee754.{unit, signedDistance, doubleOfSign, Nearest}
 use Rattle.doubles.proofs.Pattern.{signBit, one-size}
-use Rattle.doubles.proofs.Ties.{Compared, compared, le-or-lt}
+use Rattle.definitions.proofs.Replies.{le-or-lt}
+use Rattle.doubles.proofs.Ties.{Compared, compared}
 use Rattle.doubles.proofs.Whole.{dropped, kept, reaches, value-kept, pattern-kept, read-back}
 
 -- ---- among the multiples of u

@@ -1,15 +1,14 @@
 -- A number to the nearest, as a program decides it by the 11 bits that it drops: `by-half`.
 use mathlib.Core.Path.{_≡_}
-use mathlib.Core.Logic.{_⊎_, inl, inr}
-use mathlib.Core.Bool.{Bool, true, false, not}
+use mathlib.Core.Bool.{not}
 use Prim.Native.Nat.{ℕ, _+_, _*_, _%_, _^_, _≤_, _<_, compare, Ordering, Ordering·lt, Ordering·eq, Ordering·gt}
 use native.Mathlib.Omega.{arith}
-use lib.Dec.{T, leb, isLe, isEq, leb→le, nleb→lt, eqb→eq}
+use lib.Dec.{T, isLe, isEq, leb→le, nleb→lt, eqb→eq}
 use lib.Arith.{lt-of-le-ne}
 use lib.Ieee.{nearest}
 use lib.Ieee.Fits.{eq→eqb}
 
--- ---- two numbers compared
+-- ---- what `compare` found
 abbrev pub Compared : Ordering → ℕ → ℕ → Type 0
 Compared Ordering·lt a b = a < b
 Compared Ordering·eq a b = a ≡ b
@@ -23,13 +22,6 @@ compared a b = go (compare a b) (leb→le a b) (nleb→lt a b) (eqb→eq a b) eq
     go Ordering·lt h k e n = lt-of-le-ne (h tt) n
     go Ordering·eq h k e n = e tt
     go Ordering·gt h k e n = k tt
-
-pub le-or-lt : (a b : ℕ) → (a ≤ b) ⊎ (b < a)
-le-or-lt a b = go (leb a b) (leb→le a b) (nleb→lt a b)
-  where
-    go : (t : Bool) → (T t → a ≤ b) → (T (not t) → b < a) → (a ≤ b) ⊎ (b < a)
-    go true y n = inl (y tt)
-    go false y n = inr (n tt)
 
 -- ---- the bits dropped, against their half
 -- Over half goes up, under half stays, and half goes to the even one.

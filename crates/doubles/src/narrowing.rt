@@ -26,7 +26,7 @@ pub enum Narrowed {
     Wider,
 }
 
-// The least normal 32-bit float as a double, and the least double above all of them.
+// The least normal 32-bit float as a double, and 2^128, which is above every finite one.
 const LEAST_NORMAL: u64 = ((LEAST_NORMAL_32 as u64) << MORE_FRACTION_BITS) + MORE_BIAS;
 
 const ABOVE_NORMAL: u64 = ((INFINITY_32 as u64) << MORE_FRACTION_BITS) + MORE_BIAS;

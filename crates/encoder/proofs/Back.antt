@@ -1,7 +1,7 @@
 -- The meaning of an answer is one-to-one.
-use mathlib.Core.Path.{_≡_, refl, sym, ap, _∙_}
-use mathlib.Core.Bool.{Bool, true, false}
+use mathlib.Core.Path.{_≡_, refl, ap}
 use Rattle.definitions.specs.Reply.{Reply, answer, refusal}
+use Rattle.definitions.proofs.Replies.{one-by}
 use Rattle.refusals.proofs.Back.{refusalOf, back}
 use Rattle.encoder.specs.Meaning.{writtenReply}
 use Rattle.encoder.specs.declared.encode.ValueWritten.{ValueWritten}
@@ -16,4 +16,4 @@ again Done = refl
 again (Refused r) = ap Refused (back r)
 
 pub written-one : (y z : ValueWritten) → writtenReply y ≡ writtenReply z → y ≡ z
-written-one y z e = sym (again y) ∙ ap writtenAgain e ∙ again z
+written-one = one-by writtenReply writtenAgain again

@@ -3,12 +3,11 @@ use mathlib.Core.Path.{_≡_, refl, sym, ap, ap₂, _∙_, subst}
 use mathlib.Core.Bool.{Bool, true, false}
 use mathlib.Core.List.{List}
 use Prim.Native.Nat.{ℕ, _+_, _^_, _<_}
-use lib.ListN.{length}
-use Rattle.definitions.specs.Reply.{Reply, Outcome, answer, refusal, if_then_else_, onAnswer}
+use Rattle.definitions.specs.Reply.{Reply, answer, refusal, if_then_else_}
 use Rattle.definitions.specs.Bytes.{Order, little, big, fieldSet}
 use Rattle.definitions.specs.Unicode.{latin1, utf8, utf16}
 use Rattle.definitions.specs.DataType.{DataType, unsignedInteger, signedInteger, float, complex, string, byteArray, mimeSample, mimeStream, canOpenDate, canOpenTime, unknown, orderOf}
-use Rattle.definitions.specs.Channel.{Channel, Value, variableLength, startOf, valueOf}
+use Rattle.definitions.specs.Channel.{Channel, Value, variableLength, valueOf}
 use Rattle.definitions.specs.WrittenValue.{Given, otherKind, typeField, fieldGiven, valueWritten}
 use Rattle.refusals.specs.Meaning.{refused}
 use Rattle.refusals.specs.declared.Refusal.{Refusal}

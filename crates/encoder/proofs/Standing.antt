@@ -1,17 +1,17 @@
 -- The bits that are made of a number stand for it, and they are the only ones: made of what some bits stand for, they are these.
 use mathlib.Core.Path.{_≡_, refl, sym, ap, _∙_, subst}
-use mathlib.Core.Bool.{Bool, true, false, true≢false}
+use mathlib.Core.Bool.{Bool, true, false}
 use Prim.Native.Nat.{ℕ, suc, _-_, _^_, _≤_, _<_}
 use native.Mathlib.Omega.{arith}
 use lib.IntN.{ℤ, pos, negsuc}
 use lib.Dec.{ltb, eqb}
-use borrow.Author.Tests.{ltb-true, ltb-false, lt-ltb, le-ltb, eqb-true, eqb-false, eq-eqb, ne-eqb}
+use borrow.Author.Tests.{ltb-true, ltb-false, lt-ltb, le-ltb, eqb-true, eqb-false}
 use Rattle.definitions.specs.Reply.{Reply, answer, refusal, if_then_else_}
 use Rattle.definitions.specs.Bytes.{twosComplement}
 use Rattle.definitions.specs.Ieee754.{widened, narrowed, narrows}
 use Rattle.definitions.specs.Channel.{Value, unsigned, signed, double, text, bytes, sample, stream, unknownValue, doubleValue, floatBits, isFloating}
 use Rattle.definitions.specs.WrittenValue.{Given, givenUnsigned, givenSigned, givenDouble, givenOther, fitting, complementOf}
-use Rattle.definitions.proofs.Replies.{not-answered}
+use Rattle.definitions.proofs.Replies.{answered, not-answered}
 use Rattle.doubles.proofs.Narrowed.{narrowed-back, narrowed-lt, widened-narrows, ComesBack, comes-back}
 use Rattle.fields.specs.Form.{numberKind, numberValue}
 use Rattle.fields.specs.declared.form.Number.{Number}
@@ -19,16 +19,9 @@ use Rattle.fields.specs.declared.form.Number.the-variants.{Unsigned, Signed, Fl
 use Rattle.encoder.specs.Meaning.{valueGiven, numberField}
 use Rattle.encoder.proofs.Digits.{twice}
 
-answer-back : {A : Type 0} {a b : A} → answer a ≡ answer b → a ≡ b
-answer-back {A} {a} e = ap from e
-  where
-    from : Reply A → A
-    from (answer x) = x
-    from (refusal n t) = a
-
 -- what fits was tested
 fitted : (t : Bool) (x : ℕ) {y : ℕ} → fitting t x ≡ answer y → (t ≡ true) × (x ≡ y)
-fitted true x e = (refl, answer-back e)
+fitted true x e = (refl, answered e)
 fitted false x {y} e = absurd (not-answered y 24 0 e)
 
 -- ---- the bits stand for the number
@@ -57,7 +50,7 @@ module _ (count x : ℕ) (width : (count ≡ 64 → ⊥) → count ≡ 32) where
       go : (t : Bool) → eqb count 64 ≡ t → (if t then answer b else fitting (narrows b) (narrowed b)) ≡ answer x → (x < 2 ^ count) × (floatBits count x ≡ b)
       go true et e =
           let n : count ≡ 64 = eqb-true count 64 et in
-          (subst (λ (k : ℕ). x < 2 ^ k) (sym n) l, rw et (sym (answer-back e)))
+          (subst (λ (k : ℕ). x < 2 ^ k) (sym n) l, rw et (sym (answered e)))
       go false et e =
           let n : count ≡ 32 = width (eqb-false count 64 et) in
           let f = fitted (narrows b) (narrowed b) e in

@@ -8,10 +8,15 @@ use Rattle.definitions.specs.DataType.{orderOf}
 use Rattle.definitions.specs.Channel.{Channel, startOf}
 use Rattle.definitions.specs.WrittenValue.{Given, fieldGiven}
 use Rattle.refusals.specs.Meaning.{refused}
+use Rattle.refusals.specs.declared.Refusal.{Refusal}
 use Rattle.fields.specs.Form.{orderMeant}
 use Rattle.fields.specs.Known.{FieldBounds}
 use Rattle.encoder.specs.declared.encode.FieldChosen.{FieldChosen}
 use Rattle.encoder.specs.declared.encode.FieldChosen.the-variants.{Field, Refused}
+
+-- whatever is given, and whatever the size of a record id, which a payload has not
+abbrev pub AlwaysRefused : List ℕ → Channel → Refusal → Type 0
+AlwaysRefused s c r = (idSize : ℕ) (v : Given) → fieldGiven s idSize c v ≡ refused r
 
 -- the field lies at `at` in the order b, and x fits into it
 pub record Placed (s : List ℕ) (idSize : ℕ) (c : Channel) (v : Given) (at : ℕ) (b : Bool) (x : ℕ) : Type 0 where

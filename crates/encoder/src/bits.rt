@@ -1,7 +1,7 @@
 // The bits that stand for a number in a field.
 ghost use mathlib.Core.Path.{_≡_};
 ghost use Prim.Native.Nat.{_-_, _^_, _≤_, _<_, suc};
-ghost use lib.IntN.{pos, negsuc};
+ghost use lib.IntN.{negsuc};
 ghost use lib.Dec.{ltb};
 ghost use Rattle.definitions.specs.WrittenValue.{givenDouble, fitting, complementOf, unsignedField, signedField, floatField};
 ghost use Rattle.encoder.specs.Meaning.{givenMeant, bitsReply, numberField};
@@ -39,19 +39,20 @@ fn if_fits(fits: bool, bits: u64) -> FieldBits
     FieldBits::Refused(Refusal::DoesNotFit)
 }
 
-fn has_digits(n: u64, count: u32) -> bool
+// Whether n has at most count digits
+fn has_at_most(n: u64, count: u32) -> bool
     requires { ⌜ count < 64 ⌝ }
     ensures { λ r. ⌜ r ≡ ltb n (2 ^ count) ⌝ }
 {
     n >> count == 0
 }
 
-// Of 64 digits no shift can tell, so its half is asked.
+// A shift by 64 is none, so half of n is asked for one digit less.
 fn unsigned_bits(n: u64, count: u32) -> FieldBits
     requires { ⌜ (1 ≤ count) × (count ≤ 64) ⌝ }
     ensures { λ r. ⌜ bitsReply r ≡ fitting (ltb n (2 ^ count)) n ⌝ }
 {
-    if_fits(has_digits(n / 2, count - 1), n)
+    if_fits(has_at_most(n / 2, count - 1), n)
 }
 
 // All count digits set
@@ -62,12 +63,12 @@ fn ones(count: u32) -> u64
     0xffff_ffff_ffff_ffff >> (64 - count)
 }
 
-// The integer -(n + 1): the digits of n turned
+// The integer -(n + 1): the bits of n inverted
 fn negative_bits(n: u64, count: u32) -> FieldBits
     requires { ⌜ (1 ≤ count) × (count ≤ 64) ⌝ }
     ensures { λ r. ⌜ bitsReply r ≡ complementOf count (negsuc n) ⌝ }
 {
-    if has_digits(n, count - 1) {
+    if has_at_most(n, count - 1) {
         return FieldBits::Bits(ones(count) - n);
     }
     FieldBits::Refused(Refusal::DoesNotFit)
@@ -82,7 +83,7 @@ fn signed_bits(n: i64, count: u32) -> FieldBits
         return negative_bits(magnitude_less_one(n), count);
     }
     let digits = n as u64;
-    if_fits(has_digits(digits, count - 1), digits)
+    if_fits(has_at_most(digits, count - 1), digits)
 }
 
 fn double_bits(pattern: u64, count: u32) -> FieldBits

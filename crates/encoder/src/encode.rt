@@ -4,13 +4,12 @@ ghost use mathlib.Core.Bool.{true};
 ghost use Prim.Native.Nat.{_^_, _<_};
 ghost use Rattle.definitions.specs.Bytes.{fieldSet};
 ghost use Rattle.definitions.specs.Channel.{variableLength};
-ghost use Rattle.definitions.specs.WrittenValue.{fieldGiven, valueWritten};
-ghost use Rattle.refusals.specs.Meaning.{refused};
+ghost use Rattle.definitions.specs.WrittenValue.{valueWritten};
 ghost use Rattle.fields.specs.Meaning.{channelMeant};
 ghost use Rattle.fields.specs.Form.{orderMeant};
 ghost use Rattle.fields.specs.Known.{FieldBounds};
 ghost use Rattle.encoder.specs.Meaning.{givenMeant, outcome};
-ghost use Rattle.encoder.specs.Known.{Chosen};
+ghost use Rattle.encoder.specs.Known.{AlwaysRefused, Chosen};
 use crate::bits::FieldBits;
 use crate::bits::number_bits;
 use crate::number::NumberGiven;
@@ -65,14 +64,9 @@ impl FieldChosen {
 }
 
 // A payload is tested as it would be decoded, and is then no field of a record.
-fn payload_refusal(
-    payload: &[u8],
-    record_id_size: usize,
-    channel: Channel,
-    given: NumberGiven,
-) -> Refusal
+fn payload_refusal(payload: &[u8], channel: Channel) -> Refusal
     requires { ⌜ variableLength (channelMeant channel) ≡ true ⌝ }
-    ensures { λ r. ⌜ fieldGiven (now (payload .entry)) «record_id_size» (channelMeant channel) (givenMeant given) ≡ refused r ⌝ }
+    ensures { λ r. ⌜ AlwaysRefused (now (payload .entry)) (channelMeant channel) r ⌝ }
 {
     let data_type = channel.data_type;
     let form = form_of(data_type);
@@ -93,7 +87,7 @@ fn choose_field(
     ensures { λ r. ⌜ Chosen (now («record» .entry)) «record_id_size» (channelMeant channel) (givenMeant given) r ⌝ }
 {
     if channel.is_variable_length() {
-        return FieldChosen::Refused(payload_refusal(record, record_id_size, channel, given));
+        return FieldChosen::Refused(payload_refusal(record, channel));
     }
     let data_type = channel.data_type;
     let form = form_of(data_type);

@@ -12,17 +12,10 @@ use lib.ListN.{length, take, drop, length-append, length-take, length-drop, take
 use lib.Seq.{take-all, take-nil, drop-drop, paste, take-append-seam, take-append-le, drop-append-le, take-append-add, drop-append-add}
 use Rattle.definitions.specs.Bytes.{span}
 use Rattle.definitions.specs.Chain.{Block, dataOf, joined, total}
+use Rattle.definitions.proofs.Replies.{le-or-lt}
 use Rattle.records.specs.Window.{overwritten, laid}
 use Rattle.chain.specs.Walk.{Inside}
 use Rattle.chain.proofs.Chains.{joined-length, joined-more}
-
-split-by : (a b : ℕ) (t : Bool) → leb a b ≡ t → (a ≤ b) ⊎ (b < a)
-split-by a b true e = inl (leb-true a b e)
-split-by a b false e = inr (leb-false a b e)
-
--- one of two orders holds
-which : (a b : ℕ) → (a ≤ b) ⊎ (b < a)
-which a b = split-by a b (leb a b) refl
 
 -- nothing is laid over d
 overwritten-none : (d : List ℕ) (g : ℕ) → overwritten d g [] ≡ d
@@ -46,7 +39,7 @@ overwritten-paste d g c n h e = ⊎-elim
     (λ (l : length d - g < length c).
     let m : n ≡ length d - g = omega arith in
     rw (m, drop-of-length-le d {i = g + (length d - g)} (omega arith), drop-of-length-le d {i = g + length c} (omega arith)))
-    (which (length c) (length d - g))
+    (le-or-lt (length c) (length d - g))
 
 length-overwritten : (d : List ℕ) (g : ℕ) (c : List ℕ) → length (overwritten d g c) ≡ length d
 unfolding overwritten
@@ -107,7 +100,7 @@ overwritten-twice d a b = ⊎-elim
     λ c h. overwritten-front d c ∙ ap (λ (e : List ℕ). take (length d) c ++ e) (drop-of-length-le d h) ∙ append-nil _ in
     overwritten-past (overwritten d 0 a) (length a) b (omega (arith, length-overwritten d 0 a))
     ∙ f a (omega arith) ∙ sym (take-append-le (length d) a b (omega arith)) ∙ sym (f (a ++ b) (omega (arith, length-append a b))))
-    (which (length a) (length d))
+    (le-or-lt (length a) (length d))
 
 -- the window on what stands at the front
 laid-front : (d : List ℕ) (from : ℕ) (j : List ℕ) → laid d from 0 j ≡ overwritten d 0 (drop from j)
@@ -136,7 +129,7 @@ laid-more d from j b = ⊎-elim
     ap (λ (e : List ℕ). overwritten e (length j - from) (drop (from - length j) b)) (laid-before d from 0 j (omega arith))
     ∙ ap₂ (λ (x : ℕ) (y : List ℕ). overwritten d x y) g (sym t)
     ∙ sym (laid-front d from (j ++ b)))
-    (which from (length j))
+    (le-or-lt from (length j))
 
 -- b without the bytes before the window, from its place in the window on
 pub laid-part : (d : List ℕ) (from p : ℕ) (b : List ℕ) (g k : ℕ) → g ≡ p - from → k ≡ from - p → overwritten d g (take (length b - k) (drop k b)) ≡ laid d from p b

@@ -2,28 +2,18 @@
 use mathlib.Core.Path.{_≡_, refl, sym, ap, ap₂, _∙_}
 use mathlib.Core.List.{List, [], _∷_, _++_, append-assoc, reverse, reverse-reverse}
 use mathlib.Core.Logic.{_⊎_, inl, inr}
-use mathlib.Core.Bool.{Bool, true, false}
 use Prim.Native.Nat.{ℕ, zero, suc, _+_, _-_, _*_, _/_, _%_, _^_, _≤_, _<_}
 use native.Mathlib.Omega.{arith}
 use lib.ListN.{length, getD, set, take, drop, length-reverse, take-append-drop}
 use lib.Seq.{sets, sets-eq, length-sets, getD-set-other, drop-drop}
-use lib.Dec.{leb}
-use borrow.Author.Tests.{leb-true, leb-false}
 use Rattle.definitions.specs.Bytes.{Order, little, big, leOf, numberOf, le, bytesOf, span, bits, bit, bytesFor, fieldAt, withBits, fieldSet, byteWith}
+use Rattle.definitions.proofs.Replies.{le-or-lt}
 use Rattle.words.proofs.Numbers.{Bytes, bytes-reverse, back-le}
 use Rattle.words.proofs.Spans.{bytes-span, length-span, span-below}
 use Rattle.words.proofs.Stores.{span-sets}
-use Rattle.words.proofs.Locality.{recordBit, span-bit, locality}
+use Rattle.words.proofs.Locality.{recordBit, span-bit}
 use Rattle.words.proofs.Replaced.{field-inside, back, bit-below, bit-above, stays-below}
 use Rattle.words.proofs.BytesOf.{length-of, bytes-of, number-back}
-
--- one of two orders holds
-which : (a b : ℕ) → (a ≤ b) ⊎ (b < a)
-which a b = go (leb a b) refl
-  where
-    go : (t : Bool) → leb a b ≡ t → (a ≤ b) ⊎ (b < a)
-    go true e = inl (leb-true a b e)
-    go false e = inr (leb-false a b e)
 
 -- ---- runs of stores
 
@@ -111,7 +101,7 @@ module _ (o : Order) (s : List ℕ) (at offset count x : ℕ) where
     -- no bit is changed that is not the field's
     pub untouched : (p : ℕ) → ((k : ℕ) → offset ≤ k → k < offset + count → placeOf o at (bytesFor offset count) k ≡ p → ⊥)
         → bitThere (fieldSet o s at offset count x) p ≡ bitThere s p
-    untouched p out = go (which at (p / 8)) (which (at + n) (p / 8))
+    untouched p out = go (le-or-lt at (p / 8)) (le-or-lt (at + n) (p / 8))
       where
         k : ℕ
         k = numberBit o at n p
@@ -125,25 +115,13 @@ module _ (o : Order) (s : List ℕ) (at offset count x : ℕ) where
         inside lo hi =
             let f = found o at n p lo hi in
             let same : bitThere (fieldSet o s at offset count x) (placeOf o at n k) ≡ bitThere s (placeOf o at n k) =
-            there o (fieldSet o s at offset count x) at n k ∙ same-bit k (f .0) (off (which offset k) (which (offset + count) k) (f .1)) ∙ sym (there o s at n k) in
+            there o (fieldSet o s at offset count x) at n k ∙ same-bit k (f .0) (off (le-or-lt offset k) (le-or-lt (offset + count) k) (f .1)) ∙ sym (there o s at n k) in
             rw (f .1) at same
 
         go : (at ≤ p / 8) ⊎ (p / 8 < at) → (at + n ≤ p / 8) ⊎ (p / 8 < at + n) → bitThere (fieldSet o s at offset count x) p ≡ bitThere s p
         go (inr h) t = ap (λ (y : ℕ). bit y (p % 8)) (outside-run (bytesOf o n new) s at (p / 8) (inl h))
         go (inl h) (inl g) = ap (λ (y : ℕ). bit y (p % 8)) (outside-run (bytesOf o n new) s at (p / 8) (inr (omega (arith, length-of o n new))))
         go (inl h) (inr g) = inside h g
-
-    -- a field that shares no bit with it reads as before
-    pub undisturbed : (p : Order) (from low width : ℕ) → from + bytesFor low width ≤ length s
-        → ((k l : ℕ) → offset ≤ k → k < offset + count → low ≤ l → l < low + width
-        → placeOf o at (bytesFor offset count) k ≡ placeOf p from (bytesFor low width) l → ⊥)
-        → fieldAt p (fieldSet o s at offset count x) from low width ≡ fieldAt p s from low width
-    undisturbed p from low width room′ apart =
-        let m : ℕ = bytesFor low width in
-        locality p (fieldSet o s at offset count x) s from low width bytes-stored b (rw length-stored room′) room′
-        (λ l lo hi.
-        sym (there p (fieldSet o s at offset count x) from m l)
-        ∙ untouched (placeOf p from m l) (λ k lo′ hi′ e. apart k l lo′ hi′ lo hi e) ∙ there p s from m l)
 
 -- ---- the field that is there already
 

@@ -12,7 +12,6 @@ use Rattle.definitions.specs.Bytes.{Order, little, big, le, numberOf, bytesOf, 
 use Rattle.definitions.proofs.Stores.{sets-then}
 use Rattle.words.proofs.Numbers.{Bytes, lower, upper, length-le}
 use Rattle.words.proofs.Spans.{more, span-below}
-use Rattle.words.proofs.Bits.{field-below}
 use Rattle.words.proofs.Replaced.{stays-below, in-two}
 use Rattle.words.proofs.BytesOf.{nine-bytes, withTop}
 

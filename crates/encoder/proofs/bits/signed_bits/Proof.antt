@@ -28,7 +28,7 @@ returns-2 : tie.Need-returns-2
 returns-2 c =
     let s = c .before .before .before in
     let k = not-negative (s .args .n) (s .fits .n) (c .before .before .if1 .left) in
-    rw (c .before .has-digits .ensures) at (c .if-fits .ensures)
+    rw (c .before .has-at-most .ensures) at (c .if-fits .ensures)
     ∙ ap (complementOf (s .args .count)) (ap (λ (z : ℤ). pos (natAbs z)) (k .3) ∙ sym (k .1))
 
 pub signed-bits-spec : {M : Type 1} → statement M

@@ -11,7 +11,7 @@ returns : tie.Need-returns
 returns c =
     let start = c .before .before in
     let a = start .args in
-    c .if-fits .ensures ∙ ap (λ (t : Bool). fitting t (a .n)) (c .before .has-digits .ensures ∙ half (a .n) (a .count) (start .pre .0))
+    c .if-fits .ensures ∙ ap (λ (t : Bool). fitting t (a .n)) (c .before .has-at-most .ensures ∙ half (a .n) (a .count) (start .pre .0))
 
 pub unsigned-bits-spec : {M : Type 1} → statement M
 unsigned-bits-spec =

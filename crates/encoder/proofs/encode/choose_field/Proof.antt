@@ -17,6 +17,9 @@ fixed c = sym (c .before .is-variable-length .ensures) ∙ c .if1 .left
 payload-refusal-requires : tie.Need-payload-refusal-requires
 payload-refusal-requires c κs = sym (c .before .is-variable-length .ensures) ∙ c .if1 .taken
 
+returns : tie.Need-returns
+returns c = record { case = c .payload-refusal .ensures _ _ }
+
 returns-2 : tie.Need-returns-2
 returns-2 c =
     let found = c .before .before .before in
@@ -76,7 +79,7 @@ choose-field-spec =
     (tie.spec
     (λ c κs. search needs)
     payload-refusal-requires
-    (λ c. search needs)
+    returns
     (λ c κs. search needs)
     (λ c. search needs)
     (λ c κs. search needs)

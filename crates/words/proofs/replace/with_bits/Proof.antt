@@ -1,6 +1,4 @@
 -- The field is there to be taken off, and the word with x in it fits.
-use mathlib.Core.Path.{_≡_}
-use native.Mathlib.Omega.{arith}
 use borrow.Author.Needs.{needs}
 use Rattle.words.proofs.Replaced.{machine}
 use Rattle.words.proofs.replace.with_bits.Statement.{statement}
