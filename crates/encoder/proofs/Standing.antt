@@ -141,7 +141,7 @@ patternIn (sample at n) = 0
 patternIn (stream at n) = 0
 patternIn unknownValue = 0
 
-abbrev kindIn : Value → ℕ
+abbrev pub kindIn : Value → ℕ
 kindIn (unsigned n) = 1
 kindIn (signed z) = 2
 kindIn (double x pattern) = 3

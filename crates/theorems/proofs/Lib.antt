@@ -22,6 +22,7 @@ pub mod RefusalNumbers
 pub mod Causes
 pub mod LeftAlone
 pub mod PayloadEnds
+pub mod WrittenEnds
 pub mod WrittenValues
 pub mod Overlaps
 pub mod FixedNumbers

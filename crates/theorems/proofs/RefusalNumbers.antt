@@ -1,11 +1,11 @@
--- Which numbers refusals have: a field's are 18 to 22, of a number that is written also 24 and 25, those of blocks, chains and
--- records 2 to 17, and a payload's also 21, 23 and 35. So a reply of 0 is an answer, and of a value one from 18 on is about a field.
+-- Which numbers refusals have: a field's are 18 to 22, those of blocks, chains and records 2 to 17, and a payload's also 21, 23
+-- and 35; of a number that is written `WrittenEnds` has them, and of a list of channels `Overlaps`. So a reply of 0 is an answer,
+-- and of a value one from 18 on is about a field.
 use mathlib.Core.Path.{_≡_, refl, sym}
 use mathlib.Core.Bool.{Bool, true, false, not, _&&_, _||_}
 use mathlib.Core.List.{List, [], _∷_, _++_}
-use Prim.Native.Nat.{ℕ, zero, suc, _+_, _-_, _*_, _^_, _≤_, _<_}
+use Prim.Native.Nat.{ℕ, zero, suc, _+_, _*_, _≤_, _<_}
 use native.Mathlib.Omega.{arith}
-use lib.IntN.{pos, negsuc}
 use lib.ListN.{length, take, drop}
 use lib.Dec.{ltb, leb, eqb}
 use borrow.Author.Tests.{leb-true}
@@ -13,12 +13,10 @@ use Rattle.definitions.specs.Reply.{Reply, Outcome, answer, refusal, if_then_el
 use Rattle.definitions.specs.Bytes.{u32At, u64At, idAt}
 use Rattle.definitions.specs.Unicode.{Encoding, textOf, writtenText, textWritten}
 use Rattle.definitions.specs.Header.{Header, headerOf, headerBytes, headerWritten}
-use Rattle.definitions.specs.DataType.{DataType, unsignedInteger, signedInteger, float, complex, string, byteArray, mimeSample, mimeStream, canOpenDate, canOpenTime, unknown, Kind, kindOf}
+use Rattle.definitions.specs.DataType.{Kind, kindOf}
 use Rattle.definitions.specs.DataList.{DataList, Lengths, idDL, listOf, linksOf, restOf, restIn, flagsAt, listBytes, listSize, flagsFor, restFor, unwritable, listWritten}
 use Rattle.definitions.specs.ChannelBlock.{ChannelBlock, idCN, fieldsAt, fieldsOf, channelBlockOf, channelBytes, channelWritten}
-use Rattle.definitions.specs.Ieee754.{narrowed, narrows}
-use Rattle.definitions.specs.WrittenValue.{Given, givenUnsigned, givenSigned, givenDouble, givenOther, fitting, otherKind, unsignedField, signedField, floatField, typeField, fieldGiven, fieldWritten, valueWritten}
-use Rattle.definitions.specs.Channel.{Channel, ValidValue, variableLength, startOf, spanOf, isInteger, isFloating, isNumber, valueBy, valueOf, validValueOf}
+use Rattle.definitions.specs.Channel.{Channel, ValidValue, startOf, spanOf, isInteger, isFloating, isNumber, valueBy, valueOf, validValueOf}
 use Rattle.definitions.specs.Chain.{Block, idDT, dataLimit, fileLimit, fragmentLimit, hasHeader, blockAt, declared, judged, fragmentOf, fragments, agrees, admitted, listAt, Declaration, declarationOf, keepsTo, chainedAt, lists, listLimit, chainOf, totalOf, dataLength, joined, badSize, recordOf, fetched, valueFetched}
 use Rattle.definitions.specs.Payload.{idSD, positionOf, payloadAt, joinedOf, payloadOf}
 use Rattle.definitions.proofs.Replies.{not-answered, both}
@@ -222,65 +220,6 @@ module _ (s : List ℕ) (idSize : ℕ) (c : Channel) where
   pub valid-value-numbered : (dataBytes : ℕ) → Numbered OfFields (validValueOf s idSize dataBytes c)
   unfolding validValueOf
   valid-value-numbered dataBytes = of-following OfFields (valueOf s idSize c) _ value-numbered (λ v. of-answer OfFields _)
-
--- a number that is written is refused as a field is, or by its own kind and size
-abbrev pub OfWriting : ℕ → ℕ → Type 0
-OfWriting n t = leb 18 n && (leb n 22 || (leb 24 n && leb n 25)) ≡ true
-
-fields-too : (n t : ℕ) → OfFields n t → OfWriting n t
-fields-too n t h = let p = both (leb 18 n) (leb n 22) h in rw (p .0, p .1)
-
-fitting-numbered : (fits : Bool) (x : ℕ) → Numbered OfWriting (fitting fits x)
-fitting-numbered fits x = of-either OfWriting fits (answer x) (refusal 24 0) (of-answer OfWriting x) (of-refusal OfWriting 24 0 refl)
-
-other-numbered : Numbered OfWriting otherKind
-other-numbered = of-refusal OfWriting 25 0 refl
-
-unsigned-numbered : (count : ℕ) (v : Given) → Numbered OfWriting (unsignedField count v)
-unsigned-numbered count (givenUnsigned n) = fitting-numbered (ltb n (2 ^ count)) n
-unsigned-numbered count (givenSigned z) = other-numbered
-unsigned-numbered count (givenDouble b) = other-numbered
-unsigned-numbered count givenOther = other-numbered
-
-signed-numbered : (count : ℕ) (v : Given) → Numbered OfWriting (signedField count v)
-signed-numbered count (givenUnsigned n) = other-numbered
-signed-numbered count (givenSigned (pos n)) = fitting-numbered (ltb n (2 ^ (count - 1))) n
-signed-numbered count (givenSigned (negsuc k)) = fitting-numbered (ltb k (2 ^ (count - 1))) (2 ^ count - suc k)
-signed-numbered count (givenDouble b) = other-numbered
-signed-numbered count givenOther = other-numbered
-
-float-numbered : (count : ℕ) (v : Given) → Numbered OfWriting (floatField count v)
-float-numbered count (givenUnsigned n) = other-numbered
-float-numbered count (givenSigned z) = other-numbered
-float-numbered count (givenDouble b) = of-either OfWriting (eqb count 64) (answer b) _ (of-answer OfWriting b) (fitting-numbered (narrows b) (narrowed b))
-float-numbered count givenOther = other-numbered
-
-type-numbered : (t : DataType) (count : ℕ) (v : Given) → Numbered OfWriting (typeField t count v)
-type-numbered (unsignedInteger o) count v = unsigned-numbered count v
-type-numbered (signedInteger o) count v = signed-numbered count v
-type-numbered (float o) count v = float-numbered count v
-type-numbered (complex o) count v = other-numbered
-type-numbered (string e) count v = other-numbered
-type-numbered byteArray count v = other-numbered
-type-numbered mimeSample count v = other-numbered
-type-numbered mimeStream count v = other-numbered
-type-numbered canOpenDate count v = other-numbered
-type-numbered canOpenTime count v = other-numbered
-type-numbered (unknown code) count v = other-numbered
-
-field-given-numbered : (s : List ℕ) (idSize : ℕ) (c : Channel) (v : Given) → Numbered OfWriting (fieldGiven s idSize c v)
-unfolding fieldGiven
-field-given-numbered s idSize c v =
-    of-following OfWriting (valueOf s idSize c) _ (weaker (valueOf s idSize c) fields-too (value-numbered s idSize c))
-    (λ old. of-either OfWriting (variableLength c) otherKind _ other-numbered (type-numbered (c .dataType) (c .bitCount) v))
-
-pub value-written-numbered : (s : List ℕ) (idSize : ℕ) (c : Channel) (v : Given) → Numbered OfWriting (valueWritten s idSize c v .reply)
-unfolding valueWritten
-value-written-numbered s idSize c v = go (fieldGiven s idSize c v) (field-given-numbered s idSize c v)
-  where
-    go : (r : Reply ℕ) → Numbered OfWriting r → Numbered OfWriting (onAnswer {B = Unit {0}} r (λ x. record { reply = answer tt; buffer = fieldWritten s idSize c x }) s .reply)
-    go (answer x) h = of-answer OfWriting tt
-    go (refusal n t) h = of-refusal OfWriting n t (h n t refl)
 
 -- a value, or why the record has none
 abbrev pub OfField : Reply ValidValue → Type 0

@@ -46,7 +46,8 @@ use Rattle.theorems.specs.ClausesToC.{ReadsHeaderC, WritesHeaderC, Reads
 use Rattle.theorems.proofs.TypeCodes.{code-back, code-owned}
 use Rattle.theorems.proofs.ChannelAnswers.{channel-stands}
 use Rattle.theorems.proofs.TextClausesToC.{text-clause}
-use Rattle.theorems.proofs.RefusalNumbers.{Numbered, OfBlocks, OfWriting, between, value-written-numbered, header-numbered, list-numbered, channel-numbered, header-written-numbered, channel-written-numbered, list-written-numbered, text-written-numbered, length-numbered, fetched-numbered}
+use Rattle.theorems.proofs.WrittenEnds.{OfWriting, value-written-numbered}
+use Rattle.theorems.proofs.RefusalNumbers.{Numbered, OfBlocks, between, header-numbered, list-numbered, channel-numbered, header-written-numbered, channel-written-numbered, list-written-numbered, text-written-numbered, length-numbered, fetched-numbered}
 
 -- ---- the values of fields can be told
 

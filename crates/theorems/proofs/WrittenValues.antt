@@ -1,135 +1,45 @@
--- A number that was written: it is decoded again, and no bit outside its field is changed; a refusal changes nothing; what was
--- decoded is written over itself; and when a number is written, exactly.
+-- A number that was written: it is decoded again, and no bit outside its field is changed; and what was decoded is written over
+-- itself.
 use mathlib.Core.Path.{_≡_, refl, sym, ap, ap₂, _∙_, subst}
-use mathlib.Core.Logic.{_⊎_, inl, inr}
+use mathlib.Core.Logic.{inl, inr}
 use mathlib.Core.Bool.{Bool, true, false, not, _&&_, _||_, true≢false}
 use mathlib.Core.List.{List}
 use Prim.Native.Nat.{ℕ, _+_, _-_, _*_, _/_, _%_, _^_, _≤_, _<_}
 use native.Mathlib.Omega.{arith}
-use lib.IntN.{pos, negsuc}
 use lib.ListN.{length, getD}
 use lib.Dec.{ltb, eqb}
-use borrow.Author.Tests.{lt-ltb, ltb-true, eq-eqb, eqb-true, eqb-false}
-use Rattle.definitions.specs.Reply.{Reply, Outcome, answer, refusal, if_then_else_, andThen, onAnswer}
+use Rattle.definitions.specs.Reply.{Outcome, answer, refusal, if_then_else_}
 use Rattle.definitions.specs.Bytes.{Order, numberOf, span, bit, bytesFor}
 use Rattle.definitions.specs.Ieee754.{narrowed, narrows}
-use Rattle.definitions.specs.DataType.{DataType, unsignedInteger, signedInteger, float, complex, string, byteArray, mimeSample, mimeStream, canOpenDate, canOpenTime, unknown, Kind, integer, floating, whole, undecoded, kindOf, orderOf}
-use Rattle.definitions.specs.Channel.{Channel, Value, variableLength, startOf, bitSpan, spanIn, spanOf, numberIn, decoded, isInteger, isFloating, isNumber, valueBy, valueOf, doubleIn, recordDouble, validOf}
+use Rattle.definitions.specs.DataType.{DataType, Kind, integer, floating, whole, undecoded, kindOf, orderOf}
+use Rattle.definitions.specs.Channel.{Channel, Value, variableLength, startOf, spanIn, spanOf, numberIn, decoded, isInteger, isFloating, isNumber, valueOf, doubleIn}
 use Rattle.definitions.specs.Overlap.{bitPlace, shareABit}
-use Rattle.definitions.specs.WrittenValue.{Given, givenUnsigned, givenSigned, givenDouble, givenOther, fitting, otherKind, complementOf, unsignedField, signedField, floatField, typeField, fieldGiven, fieldWritten, valueWritten}
-use Rattle.definitions.proofs.Replies.{not-answered}
+use Rattle.definitions.specs.WrittenValue.{Given, givenUnsigned, givenSigned, givenDouble, givenOther, fitting, typeField, fieldGiven, fieldWritten, valueWritten}
+use Rattle.definitions.proofs.Replies.{answered, not-answered}
 use Rattle.definitions.proofs.Shared.{Within, apart}
 use Rattle.words.proofs.Numbers.{Bytes}
 use Rattle.words.proofs.Bits.{field-below}
-use Rattle.words.proofs.StoredFields.{placeOf, there, length-stored, bytes-stored, reads-back, untouched, stored-same}
+use Rattle.words.proofs.StoredFields.{placeOf, bitThere, there, length-stored, bytes-stored, reads-back, untouched, stored-same}
 use Rattle.doubles.proofs.Narrowed.{narrowed-lt, ComesBack}
-use Rattle.fields.specs.Form.{orderMeant, formOf, numberKind, contentKind, formKind, numberValue, formValue}
+use Rattle.fields.specs.Form.{orderMeant, formOf, numberKind, contentKind, formKind, numberValue, contentValue, formValue}
 use Rattle.fields.specs.Known.{FieldBounds}
 use Rattle.fields.specs.declared.form.Number as numbers
 use Rattle.fields.specs.declared.form.Form.{Form}
 use Rattle.fields.specs.declared.form.Form.the-variants.{Number, Other}
+use Rattle.fields.specs.declared.form.Content.{Content}
+use Rattle.fields.specs.declared.form.Content.the-variants.{Text, ByteArray, MimeSample, MimeStream, Undecoded}
 use Rattle.fields.proofs.Forms.{kind-form, value-form, is-number, other-number}
 use Rattle.fields.proofs.Fields.{inTurn, tested, value-tested}
 use Rattle.fields.proofs.Locality.{locality}
 use Rattle.fields.proofs.OneBit.{one-bit}
 use Rattle.decoder.proofs.Doubles.{double-fixed}
 use Rattle.encoder.specs.Meaning.{valueGiven, numberField}
-use Rattle.encoder.proofs.Standing.{stands, made-again}
+use Rattle.encoder.proofs.Standing.{kindIn, stands, made-again}
 use Rattle.encoder.proofs.Choosing.{formField, field-form, orderIn, order-form, fixed-given}
-use Rattle.theorems.specs.Exactly.{Exactly, Legal, FieldStands, TakesUnsigned, TakesSigned, TakesFloat, Takes, Writable}
-use Rattle.theorems.specs.WrittenValue.{Sized, recordPlace, bitAt, DecodesTo, SameOutside}
-use Rattle.theorems.proofs.Answers.{same, going-on, value-exactly}
-
--- ---- when a number is written
-
-fit-exactly : {P : Type 0} (t : Bool) (x : ℕ) → (P → t ≡ true) → (t ≡ true → P) → Exactly P (fitting t x)
-fit-exactly true x to from = record { answers = λ p. (x, refl); only = λ a e. from refl }
-fit-exactly false x to from = record { answers = λ p. absurd (true≢false (sym (to p))); only = λ a e. not-answered a 24 0 e }
-
-never : Exactly ⊥ otherKind
-never = record { answers = λ p. absurd p; only = λ a e. not-answered a 25 0 e }
-
-below-exactly : (n m x : ℕ) → Exactly (n < m) (fitting (ltb n m) x)
-below-exactly n m x = fit-exactly (ltb n m) x (lt-ltb n m) (ltb-true n m)
-
-unsigned-exactly : (count : ℕ) (v : Given) → Exactly (TakesUnsigned count v) (unsignedField count v)
-unsigned-exactly count (givenUnsigned n) = below-exactly n (2 ^ count) n
-unsigned-exactly count (givenSigned z) = never
-unsigned-exactly count (givenDouble b) = never
-unsigned-exactly count givenOther = never
-
-signed-exactly : (count : ℕ) (v : Given) → Exactly (TakesSigned count v) (signedField count v)
-signed-exactly count (givenUnsigned n) = never
-signed-exactly count (givenSigned (pos n)) = below-exactly n (2 ^ (count - 1)) n
-signed-exactly count (givenSigned (negsuc k)) = below-exactly k (2 ^ (count - 1)) _
-signed-exactly count (givenDouble b) = never
-signed-exactly count givenOther = never
-
-float-exactly : (count : ℕ) (v : Given) → Exactly (TakesFloat count v) (floatField count v)
-float-exactly count (givenUnsigned n) = never
-float-exactly count (givenSigned z) = never
-float-exactly count (givenDouble b) = go (eqb count 64) refl
-  where
-    go : (t : Bool) → eqb count 64 ≡ t → Exactly (TakesFloat count (givenDouble b)) (if t then answer b else fitting (narrows b) (narrowed b))
-    go true e = record { answers = λ p. (b, refl); only = λ a q. inl (eqb-true count 64 e) }
-    go false e = fit-exactly (narrows b) (narrowed b) to (λ h. inr (eqb-true _ _ h))
-      where
-        to : TakesFloat count (givenDouble b) → narrows b ≡ true
-        to (inl w) = absurd (eqb-false count 64 e w)
-        to (inr w) = eq-eqb _ _ w
-float-exactly count givenOther = never
-
-type-exactly : (t : DataType) (count : ℕ) (v : Given) → Exactly (Takes t count v) (typeField t count v)
-type-exactly (unsignedInteger o) count v = unsigned-exactly count v
-type-exactly (signedInteger o) count v = signed-exactly count v
-type-exactly (float o) count v = float-exactly count v
-type-exactly (complex o) count v = never
-type-exactly (string e) count v = never
-type-exactly byteArray count v = never
-type-exactly mimeSample count v = never
-type-exactly mimeStream count v = never
-type-exactly canOpenDate count v = never
-type-exactly canOpenTime count v = never
-type-exactly (unknown code) count v = never
-
-module _ (s : List ℕ) (idSize : ℕ) (c : Channel) (v : Given) where
-  record-exactly : (payload : Bool) → Exactly ((payload ≡ false) × Takes (c .dataType) (c .bitCount) v) (if payload then otherKind else typeField (c .dataType) (c .bitCount) v)
-  record-exactly true = record { answers = λ p. absurd (true≢false (p .0)); only = λ a e. not-answered a 25 0 e }
-  record-exactly false = same (λ p. p .1) (λ p. (refl, p)) (type-exactly (c .dataType) (c .bitCount) v)
-
-  field-exactly : Exactly (Writable s idSize c v) (fieldGiven s idSize c v)
-  unfolding fieldGiven
-  field-exactly =
-      same (λ h. (h .field, (h .fixed, h .takes))) (λ p. record { field = p .0; fixed = p .1 .0; takes = p .1 .1 })
-      (going-on (valueOf s idSize c) _ (value-exactly s idSize c) (λ old. record-exactly (variableLength c)))
-
-  -- where there are bits for it, they are written, and nothing is answered
-  pub written : {x : ℕ} → fieldGiven s idSize c v ≡ answer x → valueWritten s idSize c v ≡ record { reply = answer tt; buffer = fieldWritten s idSize c x }
-  unfolding valueWritten
-  written e = rw e
-
-  left : {n t : ℕ} → fieldGiven s idSize c v ≡ refusal n t → valueWritten s idSize c v ≡ record { reply = refusal n t; buffer = s }
-  unfolding valueWritten
-  left e = rw e
-
-  -- so there are either bits, or a refusal
-  either : (P : Outcome (Unit {0}) → Type 0) → ((x : ℕ) → fieldGiven s idSize c v ≡ answer x → P (record { reply = answer tt; buffer = fieldWritten s idSize c x }))
-      → ((n t : ℕ) → fieldGiven s idSize c v ≡ refusal n t → P (record { reply = refusal n t; buffer = s })) → P (valueWritten s idSize c v)
-  either P some none = go (fieldGiven s idSize c v) refl
-    where
-      go : (r : Reply ℕ) → fieldGiven s idSize c v ≡ r → P (valueWritten s idSize c v)
-      go (answer x) e = subst P (sym (written e)) (some x e)
-      go (refusal n t) e = subst P (sym (left e)) (none n t e)
-
-  pub written-exactly : Exactly (Writable s idSize c v) (valueWritten s idSize c v .reply)
-  written-exactly = record {
-    answers = λ h. let x = field-exactly .answers h in (tt, ap (λ (o : Outcome (Unit {0})). o .reply) (written (x .1)));
-    only = λ a. either (λ o. o .reply ≡ answer a → Writable s idSize c v) (λ x e q. field-exactly .only x e) (λ n t e q. not-answered a n t q);
-  }
-
-  -- a refusal changes nothing
-  pub refused-kept : (n t : ℕ) → valueWritten s idSize c v .reply ≡ refusal n t → valueWritten s idSize c v .buffer ≡ s
-  refused-kept n t = either (λ o. o .reply ≡ refusal n t → o .buffer ≡ s) (λ x e q. not-answered tt n t (sym q)) (λ m u e q. refl)
+use Rattle.theorems.specs.Exactly.{Legal, FieldStands, Writable}
+use Rattle.theorems.specs.WrittenValue.{WrittenEnds, not-decoded, other-kind, does-not-fit, is-written, IsNumber, Sized, recordPlace, DecodesTo, SameOutside}
+use Rattle.theorems.proofs.Answers.{value-exactly}
+use Rattle.theorems.proofs.WrittenEnds.{written, value-ends}
 
 -- ---- the field that is written
 
@@ -179,15 +89,12 @@ width-of undecoded c l h other = absurd (true≢false (sym h))
 pattern-below : (count b x : ℕ) → b < 2 ^ 64 → (if eqb count 64 then answer b else fitting (narrows b) (narrowed b)) ≡ answer x → x < 2 ^ 64
 pattern-below count b x l = go (eqb count 64)
   where
-    of-answer-is : {y : ℕ} → answer y ≡ answer x → y ≡ x
-    of-answer-is e = cc
-
     narrow : (t : Bool) → narrows b ≡ t → fitting t (narrowed b) ≡ answer x → x < 2 ^ 64
-    narrow true e h = let small : narrowed b < 2 ^ 32 = narrowed-lt b e in let i : narrowed b ≡ x = of-answer-is h in omega arith
+    narrow true e h = let small : narrowed b < 2 ^ 32 = narrowed-lt b e in let i : narrowed b ≡ x = answered h in omega arith
     narrow false e h = not-answered x 24 0 h
 
     go : (t : Bool) → (if t then answer b else fitting (narrows b) (narrowed b)) ≡ answer x → x < 2 ^ 64
-    go true e = let i : b ≡ x = of-answer-is e in omega arith
+    go true e = let i : b ≡ x = answered e in omega arith
     go false e = narrow (narrows b) refl e
 
 float-below : (number : numbers.Number) (count : ℕ) (v : Given) (x : ℕ) → Sized v → numberField number count v ≡ answer x → isFloating (numberKind number) ≡ true → x < 2 ^ 64
@@ -237,18 +144,15 @@ module _ (s : List ℕ) (idSize : ℕ) (c : Channel) (field : FieldStands s idSi
           let no-number : isNumber (contentKind content) ≡ true = sym (ap (λ (f : Form). isNumber (formKind f)) e) ∙ ap isNumber (kind-form (c .dataType)) ∙ is in
           absurd (true≢false (sym (ap (λ (b : Bool). b && true) no-number) ∙ other-number content true))
 
+form-number : (t : DataType) (number : numbers.Number) (b : Bool) → formOf t ≡ Number number b → isNumber (kindOf t) ≡ true
+form-number t number b e = ap isNumber (sym (kind-form t)) ∙ ap (λ (f : Form). isNumber (formKind f)) e ∙ is-number number
+
 number-type : (t : DataType) (count : ℕ) (v : Given) (x : ℕ) → typeField t count v ≡ answer x → isNumber (kindOf t) ≡ true
-number-type (unsignedInteger o) count v x e = refl
-number-type (signedInteger o) count v x e = refl
-number-type (float o) count v x e = refl
-number-type (complex o) count v x e = not-answered x 25 0 e
-number-type (string w) count v x e = not-answered x 25 0 e
-number-type byteArray count v x e = not-answered x 25 0 e
-number-type mimeSample count v x e = not-answered x 25 0 e
-number-type mimeStream count v x e = not-answered x 25 0 e
-number-type canOpenDate count v x e = not-answered x 25 0 e
-number-type canOpenTime count v x e = not-answered x 25 0 e
-number-type (unknown code) count v x e = not-answered x 25 0 e
+number-type t count v x e = go (formOf t) refl
+  where
+    go : (f : Form) → formOf t ≡ f → isNumber (kindOf t) ≡ true
+    go (Number number b) ef = form-number t number b ef
+    go (Other content) ef = not-answered x 25 0 (sym (field-form t count v ∙ ap (λ (f : Form). formField f count v) ef) ∙ e)
 
 -- x stands in the channel's field of the record
 record Laid (s : List ℕ) (idSize : ℕ) (c : Channel) (v : Given) (x : ℕ) : Type 0 where
@@ -258,9 +162,8 @@ record Laid (s : List ℕ) (idSize : ℕ) (c : Channel) (v : Given) (x : ℕ) : 
   pub decodes : DecodesTo (fieldWritten s idSize c x) idSize c v
 
 module _ (s : List ℕ) (idSize : ℕ) (c : Channel) (v : Given) (b : Bytes s) where
-  laid : Sized v → (x : ℕ) → fieldGiven s idSize c v ≡ answer x → Laid s idSize c v x
-  laid sized x e =
-      let can : Writable s idSize c v = field-exactly s idSize c v .only x e in
+  laid : Sized v → Writable s idSize c v → (x : ℕ) → fieldGiven s idSize c v ≡ answer x → Laid s idSize c v x
+  laid sized can x e =
       let there = value-exactly s idSize c .answers (can .field) in
       let made : typeField (c .dataType) (c .bitCount) v ≡ answer x = sym (fixed-given s idSize c v (there .1) (can .fixed)) ∙ e in
       by-form s idSize c (can .field) (number-type (c .dataType) (c .bitCount) v x made)
@@ -283,13 +186,21 @@ module _ (s : List ℕ) (idSize : ℕ) (c : Channel) (v : Given) (b : Bytes s) w
 
   -- what was written is decoded
   pub written-decoded : Sized v → valueWritten s idSize c v .reply ≡ answer tt → DecodesTo (valueWritten s idSize c v .buffer) idSize c v
-  written-decoded sized =
-      either s idSize c v (λ o. o .reply ≡ answer tt → DecodesTo (o .buffer) idSize c v) (λ x e q. laid sized x e .decodes) (λ n t e q. not-answered tt n t q)
+  written-decoded sized answer-is = go (value-ends s idSize c v)
+    where
+      refused : {n t : ℕ} → valueWritten s idSize c v ≡ record { reply = refusal n t; buffer = s } → DecodesTo (valueWritten s idSize c v .buffer) idSize c v
+      refused {n} {t} o = not-answered tt n t (sym (ap (λ (x : Outcome (Unit {0})). x .reply) o) ∙ answer-is)
+
+      go : WrittenEnds s idSize c v (valueWritten s idSize c v) → DecodesTo (valueWritten s idSize c v .buffer) idSize c v
+      go (not-decoded n t e o) = refused o
+      go (other-kind stand why o) = refused o
+      go (does-not-fit stand fixed k no-field o) = refused o
+      go (is-written can x e o) = subst (λ (t : Outcome (Unit {0})). DecodesTo (t .buffer) idSize c v) (sym o) (laid sized can x e .decodes)
 
 -- ---- what is kept
 
 module _ (s t : List ℕ) (idSize : ℕ) (c : Channel) (bs : Bytes s) (bt : Bytes t) (long : length t ≡ length s)
-    (kept : (p : ℕ) → ((k : ℕ) → Within c k → recordPlace idSize c k ≡ p → ⊥) → bitAt t p ≡ bitAt s p)
+    (kept : (p : ℕ) → ((k : ℕ) → Within c k → recordPlace idSize c k ≡ p → ⊥) → bitThere t p ≡ bitThere s p)
   where
     same-outside : SameOutside s t idSize c
     same-outside = record {
@@ -317,16 +228,14 @@ module _ (s t : List ℕ) (idSize : ℕ) (c : Channel) (bs : Bytes s) (bt : Byte
             let p : ℕ = (idSize + dataBytes) * 8 + d .invalidationBit in
             let byte : p / 8 ≡ idSize + dataBytes + d .invalidationBit / 8 = omega arith in
             let low : p % 8 ≡ d .invalidationBit % 8 = omega arith in
-            let as-place : (u : List ℕ) → bitAt u p ≡ bit (getD u (idSize + dataBytes + d .invalidationBit / 8) 0) (d .invalidationBit % 8) =
+            let as-place : (u : List ℕ) → bitThere u p ≡ bit (getD u (idSize + dataBytes + d .invalidationBit / 8) 0) (d .invalidationBit % 8) =
             λ u. ap₂ (λ (i j : ℕ). bit (getD u i 0) j) byte low in
             sym (as-place t) ∙ kept p (λ k w e. far k w (omega (arith, e))) ∙ as-place s
 
 module _ (s : List ℕ) (idSize : ℕ) (c : Channel) (v : Given) (b : Bytes s) (sized : Sized v) where
   -- whether it is written or refused
   pub outside-kept : SameOutside s (valueWritten s idSize c v .buffer) idSize c
-  outside-kept =
-      either s idSize c v (λ o. SameOutside s (o .buffer) idSize c) laid-outside
-      (λ n t e. same-outside s s idSize c b b refl (λ p out. refl))
+  outside-kept = go (value-ends s idSize c v)
     where
       o : Order
       o = orderOf (c .dataType)
@@ -334,9 +243,15 @@ module _ (s : List ℕ) (idSize : ℕ) (c : Channel) (v : Given) (b : Bytes s) (
       at : ℕ
       at = startOf idSize c
 
-      laid-outside : (x : ℕ) → fieldGiven s idSize c v ≡ answer x → SameOutside s (fieldWritten s idSize c x) idSize c
-      laid-outside x e =
-          let l = laid s idSize c v b sized x e in
+      as-left : {o : Outcome (Unit {0})} → valueWritten s idSize c v ≡ o → SameOutside s (o .buffer) idSize c → SameOutside s (valueWritten s idSize c v .buffer) idSize c
+      as-left e h = subst (λ (o : Outcome (Unit {0})). SameOutside s (o .buffer) idSize c) (sym e) h
+
+      unchanged : SameOutside s s idSize c
+      unchanged = same-outside s s idSize c b b refl (λ p out. refl)
+
+      laid-outside : Writable s idSize c v → (x : ℕ) → fieldGiven s idSize c v ≡ answer x → SameOutside s (fieldWritten s idSize c x) idSize c
+      laid-outside can x e =
+          let l = laid s idSize c v b sized can x e in
           let start : at ≡ idSize + c .byteOffset = ap (λ (t : Bool). if t then 0 else (idSize + c .byteOffset)) (l .fixed) in
           same-outside s (fieldWritten s idSize c x) idSize c b
           (bytes-stored o s at (c .bitOffset) (c .bitCount) x b (l .inside) (l .below))
@@ -345,25 +260,51 @@ module _ (s : List ℕ) (idSize : ℕ) (c : Channel) (v : Given) (b : Bytes s) (
           untouched o s at (c .bitOffset) (c .bitCount) x b (l .inside) (l .below) p
           (λ k lo hi q. out k (lo, hi) (omega (arith, q, start))))
 
+      go : WrittenEnds s idSize c v (valueWritten s idSize c v) → SameOutside s (valueWritten s idSize c v .buffer) idSize c
+      go (not-decoded n t e o) = as-left o unchanged
+      go (other-kind stand why o) = as-left o unchanged
+      go (does-not-fit stand fixed k no-field o) = as-left o unchanged
+      go (is-written can x e o) = as-left o (laid-outside can x e)
+
 -- ---- what was decoded, written over itself
 
-module _ (s : List ℕ) (idSize : ℕ) (c : Channel) (v : Given) (b : Bytes s) (fixed : variableLength c ≡ false) (number : isNumber (kindOf (c .dataType)) ≡ true) where
+-- what is no number's is decoded to no number
+content-kind : (content : Content) (s : List ℕ) (at n : ℕ) → kindIn (contentValue content s at n) ≡ 0
+content-kind (Text e) s at n = refl
+content-kind ByteArray s at n = refl
+content-kind MimeSample s at n = refl
+content-kind MimeStream s at n = refl
+content-kind Undecoded s at n = refl
+
+given-kind : (v : Given) → IsNumber v → kindIn (valueGiven v) ≡ 0 → ⊥
+given-kind (givenUnsigned n) h e = omega arith
+given-kind (givenSigned z) h e = omega arith
+given-kind (givenDouble b) h e = omega arith
+given-kind givenOther h e = h
+
+number-decoded : (t : DataType) (s : List ℕ) (at n : ℕ) (c : Channel) (v : Given) → IsNumber v → decoded t s at n c ≡ valueGiven v → isNumber (kindOf t) ≡ true
+number-decoded t s at n c v is e = go (formOf t) refl
+  where
+    go : (f : Form) → formOf t ≡ f → isNumber (kindOf t) ≡ true
+    go (Number number b) ef = form-number t number b ef
+    go (Other content) ef =
+        absurd (given-kind v is (sym (ap kindIn (value-form t s at n c ∙ e)) ∙ ap (λ (f : Form). kindIn (formValue f s at n c)) ef ∙ content-kind content s at n))
+
+module _ (s : List ℕ) (idSize : ℕ) (c : Channel) (v : Given) (b : Bytes s) (fixed : variableLength c ≡ false) (is-number : IsNumber v) where
   pub decoded-written : valueOf s idSize c ≡ answer (valueGiven v)
       → (isFloating (kindOf (c .dataType)) ≡ true → c .bitCount ≡ 32 → ComesBack (numberIn (orderOf (c .dataType)) s (startOf idSize c) c))
       → valueWritten s idSize c v ≡ record { reply = answer tt; buffer = s }
   decoded-written e comes =
       let stand : FieldStands s idSize c = value-exactly s idSize c .only (valueGiven v) e in
-      by-form s idSize c stand number
+      let here : decoded (c .dataType) s (startOf idSize c) (spanOf s c) c ≡ valueGiven v = answered (sym (stands-alike s s idSize c refl e) ∙ e) in
+      by-form s idSize c stand (number-decoded (c .dataType) s (startOf idSize c) (spanOf s c) c v is-number here)
       (λ kind l.
       let o : Order = orderOf (c .dataType) in
       let at : ℕ = startOf idSize c in
       let x : ℕ = numberIn o s at c in
       let below : x < 2 ^ (c .bitCount) = field-below (numberOf o (span s at (bytesFor (c .bitOffset) (c .bitCount)))) (c .bitOffset) (c .bitCount) in
-      let value : numberValue kind (c .bitCount) x ≡ valueGiven v = sym (l .stands s (spanOf s c)) ∙ one-answer (sym (stands-alike s s idSize c refl e) ∙ e) in
+      let value : numberValue kind (c .bitCount) x ≡ valueGiven v = sym (l .stands s (spanOf s c)) ∙ here in
       let made : numberField kind (c .bitCount) v ≡ answer x =
       made-again (c .bitCount) x (l .bounds .some) below kind v (l .width) (λ f. comes (l .floats f)) value in
       written s idSize c v (fixed-given s idSize c v e fixed ∙ l .bits v ∙ made)
       ∙ ap (λ (t : List ℕ). record { reply = answer tt; buffer = t }) (stored-same o s at (c .bitOffset) (c .bitCount) b (l .bounds .inside)))
-    where
-      one-answer : {A : Type 0} {a b : A} → answer a ≡ answer b → a ≡ b
-      one-answer e = cc

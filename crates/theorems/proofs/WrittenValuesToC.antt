@@ -2,21 +2,23 @@
 use mathlib.Core.Path.{_≡_, refl, sym, ap, ap₂, _∙_, subst}
 use mathlib.Core.Bool.{Bool, true, false}
 use mathlib.Core.List.{List}
-use Prim.Native.Nat.{ℕ, zero, suc, _-_, _^_, _≤_, _<_}
+use Prim.Native.Nat.{ℕ, zero, suc, _+_, _-_, _*_, _^_, _≤_, _<_}
 use native.Mathlib.Omega.{arith}
 use contract.Lifetimes.{Lfts}
 use lib.IntN.{pos, negsuc}
 use lib.Dec.{ltb, eqb}
-use borrow.Author.Tests.{ltb-true, ltb-false, eqb-true}
-use Rattle.definitions.specs.Reply.{Reply, answer, refusal, if_then_else_}
+use borrow.Author.Tests.{ltb-false, eqb-true}
+use Rattle.definitions.specs.Reply.{Outcome, answer, refusal, if_then_else_}
 use Rattle.definitions.specs.Bytes.{twosComplement}
 use Rattle.definitions.specs.DataType.{DataType, unsignedInteger, signedInteger, float, complex, string, byteArray, mimeSample, mimeStream, canOpenDate, canOpenTime, unknown, kindOf, orderOf}
-use Rattle.definitions.specs.Channel.{variableLength, startOf, numberIn, isNumber, isFloating, valueOf, doubleIn, recordDouble}
-use Rattle.definitions.specs.WrittenValue.{Given, givenUnsigned, givenSigned, givenDouble, givenOther, valueWritten}
+use Rattle.definitions.specs.Channel.{variableLength, startOf, numberIn, isNumber, isFloating, valueOf, doubleIn, recordDouble, validOf}
+use Rattle.definitions.specs.WrittenValue.{givenUnsigned, givenSigned, givenDouble, givenOther, valueWritten}
+use Rattle.definitions.specs.Overlap.{bitPlace, shareABit}
+use Rattle.definitions.proofs.Shared.{Within}
 use Rattle.words.proofs.Numbers.{Bytes}
 use Rattle.doubles.proofs.Narrowed.{ComesBack}
 use Rattle.encoder.specs.Meaning.{valueGiven}
-use Rattle.replies.specs.Replies.{Returned, returned, returnedBy}
+use Rattle.replies.specs.Replies.{Returned, returned, returnedBy, flagC}
 use Rattle.replies.specs.Values.{channelGiven, wordOf, numberC, decodedC, answerC, valueC}
 use Rattle.replies.specs.Stored.{givenBy, numberGiven, storedC}
 use Rattle.replies.proofs.ToldToC.{valueAgain}
@@ -25,10 +27,11 @@ use Rattle.replies.specs.declared.values.Mf4Value.{Mf4Value}
 use Rattle.replies.specs.declared.stored.Mf4Number.{Mf4Number}
 use Rattle.replies.specs.declared.stored.Mf4Stored.{Mf4Stored}
 use Rattle.mf4.specs.Clauses.{Slice}
-use Rattle.theorems.specs.ClausesToC.{ReadsValueC, ReadsDoubleC, WritesValueC}
+use Rattle.theorems.specs.ClausesToC.{ReadsValueC, ChecksValidityC, ReadsDoubleC, WritesValueC}
 use Rattle.theorems.specs.Exactly.{ExactlyZero, Takes, Writable}
-use Rattle.theorems.specs.WrittenValue.{Sized, DecodesTo, SameOutside}
-use Rattle.theorems.proofs.WrittenValues.{written-exactly, refused-kept, written-decoded, outside-kept, decoded-written}
+use Rattle.theorems.specs.WrittenValue.{WrittenEnds, IsNumber, Sized, DecodesTo, SameOutside}
+use Rattle.theorems.proofs.WrittenEnds.{value-ends, written-exactly}
+use Rattle.theorems.proofs.WrittenValues.{written-decoded, outside-kept, decoded-written}
 use Rattle.theorems.proofs.ToldToC.{mf4-decode-value-told, mf4-write-value-told}
 use Rattle.theorems.proofs.AnswersToC.{zero-exactly}
 
@@ -84,6 +87,13 @@ given-again (suc (suc zero)) number at n some few = refl
 given-again (suc (suc (suc zero))) number at n some few = refl
 given-again (suc (suc (suc (suc k)))) number at n some few = let no-kind : ⊥ = omega arith in absurd no-kind
 
+given-number : (kind number : ℕ) → 0 < kind → kind ≤ 3 → IsNumber (givenBy kind number)
+given-number zero number some few = let no-kind : ⊥ = omega arith in absurd no-kind
+given-number (suc zero) number some few = tt
+given-number (suc (suc zero)) number some few = tt
+given-number (suc (suc (suc zero))) number some few = tt
+given-number (suc (suc (suc (suc k)))) number some few = let no-kind : ⊥ = omega arith in absurd no-kind
+
 -- a number of 64 bits is the pattern of a double
 number-sized : (kind number : ℕ) → number < 2 ^ 64 → Sized (givenBy kind number)
 number-sized kind number l = go (eqb kind 1) (eqb kind 2) (eqb kind 3)
@@ -110,13 +120,11 @@ module _ (κs : Lfts 1) (idSize : ℕ) (channel : Mf4Channel) (value : Mf4Number
     replied : y .reply ≡ 0 → valueWritten (bytes .now) idSize (channelGiven channel) (numberGiven value) .reply ≡ answer tt
     replied e = written-exactly (bytes .now) idSize (channelGiven channel) (numberGiven value) .answers (value-write-zero .only e) .1
 
-    -- a reply other than 0 changes nothing
-    pub value-write-spares : (y .reply ≡ 0 → ⊥) → after ≡ bytes .now
-    value-write-spares some = go (valueWritten (bytes .now) idSize (channelGiven channel) (numberGiven value) .reply) refl
-      where
-        go : (r : Reply (Unit {0})) → valueWritten (bytes .now) idSize (channelGiven channel) (numberGiven value) .reply ≡ r → after ≡ bytes .now
-        go (answer u) e = absurd (some (ap (λ (x : Returned Mf4Stored). x .result .reply) p ∙ ap (λ (r : Reply (Unit {0})). storedC r .reply) e))
-        go (refusal n t) e = same-buffer ∙ refused-kept (bytes .now) idSize (channelGiven channel) (numberGiven value) n t e
+    -- the way in which it ends: a refusal changes nothing
+    pub mf4-write-value-ends : (o : Outcome (Unit {0})) × (WrittenEnds (bytes .now) idSize (channelGiven channel) (numberGiven value) o × (y ≡ storedC (o .reply)) × (after ≡ o .buffer))
+    mf4-write-value-ends =
+        (valueWritten (bytes .now) idSize (channelGiven channel) (numberGiven value),
+        (value-ends (bytes .now) idSize (channelGiven channel) (numberGiven value), ap (λ (x : Returned Mf4Stored). x .result) p, same-buffer))
 
     module _ (b : Bytes (bytes .now)) (sized : value .number < 2 ^ 64) where
       fits : Sized (numberGiven value)
@@ -127,6 +135,24 @@ module _ (κs : Lfts 1) (idSize : ℕ) (channel : Mf4Channel) (value : Mf4Number
       value-write-keeps =
           subst (λ (t : List ℕ). SameOutside (bytes .now) t idSize (channelGiven channel)) (sym same-buffer)
           (outside-kept (bytes .now) idSize (channelGiven channel) (numberGiven value) b fits)
+
+      -- so a fixed number that shares no bit with it keeps its value and its double
+      module _ (d : Mf4Channel) (fixed : variableLength (channelGiven d) ≡ false) (number : isNumber (kindOf (channelGiven d .dataType)) ≡ true)
+          (far : shareABit (channelGiven channel) (channelGiven d) ≡ false) (ρs σs : Lfts 1) (written : Slice) (same : written .now ≡ after)
+        where
+          pub write-keeps-value : (z w : Mf4Value) → ReadsValueC ρs bytes idSize d z → ReadsValueC σs written idSize d w → w ≡ z
+          write-keeps-value z w q r =
+              r ∙ ap (λ (t : List ℕ). valueC (valueOf t idSize (channelGiven d))) same ∙ ap valueC (value-write-keeps .others (channelGiven d) fixed number far .0) ∙ sym q
+
+          pub write-keeps-double : (z w : ℕ) → ReadsDoubleC ρs bytes idSize d z → ReadsDoubleC σs written idSize d w → w ≡ z
+          write-keeps-double z w q r =
+              r ∙ ap (λ (t : List ℕ). recordDouble t idSize (channelGiven d)) same ∙ value-write-keeps .others (channelGiven d) fixed number far .1 ∙ sym q
+
+      -- and a channel, this one or another, its validity, where the field has not its invalidation bit
+      pub write-keeps-validity : (dataBytes : ℕ) (d : Mf4Channel) → ((k : ℕ) → Within (channelGiven channel) k → bitPlace (channelGiven channel) k ≡ dataBytes * 8 + channelGiven d .invalidationBit → ⊥)
+          → (ρs σs : Lfts 1) (written : Slice) (z w : ℕ) → written .now ≡ after → ChecksValidityC ρs bytes idSize dataBytes d z → ChecksValidityC σs written idSize dataBytes d w → w ≡ z
+      write-keeps-validity dataBytes d far ρs σs written z w same q r =
+          r ∙ ap (λ (t : List ℕ). flagC (validOf t idSize dataBytes (channelGiven d))) same ∙ ap flagC (value-write-keeps .validity dataBytes (channelGiven d) far) ∙ sym q
 
       module _ (done : y .reply ≡ 0) where
         decodes : DecodesTo after idSize (channelGiven channel) (numberGiven value)
@@ -146,16 +172,17 @@ module _ (κs : Lfts 1) (idSize : ℕ) (channel : Mf4Channel) (value : Mf4Number
         write-then-double ρs written z e q = q ∙ ap (λ (t : List ℕ). recordDouble t idSize (channelGiven channel)) e ∙ decodes .double
 
     -- what mf4_decode_value answered is written over itself
-    pub decode-then-write : Bytes (bytes .now) → variableLength (channelGiven channel) ≡ false → isNumber (kindOf (channelGiven channel .dataType)) ≡ true
+    pub decode-then-write : Bytes (bytes .now) → variableLength (channelGiven channel) ≡ false
         → (isFloating (kindOf (channelGiven channel .dataType)) ≡ true → channelGiven channel .bitCount ≡ 32
         → ComesBack (numberIn (orderOf (channelGiven channel .dataType)) (bytes .now) (startOf idSize (channelGiven channel)) (channelGiven channel)))
         → (ρs : Lfts 1) (z : Mf4Value) → ReadsValueC ρs bytes idSize channel z → z .reply ≡ 0 → 0 < z .kind → z .kind ≤ 3
         → value .kind ≡ z .kind → value .number ≡ z .number → (y .reply ≡ 0) × (after ≡ bytes .now)
-    decode-then-write b fixed number comes ρs z q answered some few ek en =
+    decode-then-write b fixed comes ρs z q answered some few ek en =
         let told : valueOf (bytes .now) idSize (channelGiven channel) ≡ answer (valueAgain (z .kind) (z .number) (z .at) (z .length)) =
         sym (mf4-decode-value-told ρs bytes idSize channel z q)
         ∙ ap (λ (r : ℕ). if eqb r 0 then answer (valueAgain (z .kind) (z .number) (z .at) (z .length)) else refusal r (z .told)) answered in
-        let same = decoded-written (bytes .now) idSize (channelGiven channel) (numberGiven value) b fixed number
+        let is-number : IsNumber (numberGiven value) = subst (λ (k : ℕ). IsNumber (givenBy k (value .number))) (sym ek) (given-number (z .kind) (value .number) some few) in
+        let same = decoded-written (bytes .now) idSize (channelGiven channel) (numberGiven value) b fixed is-number
         (told ∙ ap answer (given-again (z .kind) (z .number) (z .at) (z .length) some few) ∙ ap₂ (λ (k n : ℕ). answer (valueGiven (givenBy k n))) (sym ek) (sym en)) comes in
         let after-is : returned y after ≡ returned (storedC (answer tt)) (bytes .now) = p ∙ ap (returnedBy storedC) same in
         (ap (λ (x : Returned Mf4Stored). x .result .reply) after-is, ap (λ (x : Returned Mf4Stored). x .buffer) after-is)
