@@ -395,9 +395,9 @@ typedef struct mf4_stored {
  * kind than the data type (MF4_UNSIGNED_.. takes an unsigned number alone, and so on: an integer is not made a float), or
  * where the type is no number or the channel one of variable length; then with 24 where the field does not hold the number:
  * an unsigned one of 2^bit_count or more, a signed one outside two's complement of bit_count bits, or, in a float of 32 bits,
- * a double that widening would not give back. So a double that would be rounded is refused, and round it as (float)value
- * first; -0, the infinities and what is subnormal as a float are stored. Of the NaNs a float of 32 bits takes
- * 0x7FF8000000000000 alone, as 0x7FC00000; one of 64 bits takes every pattern. */
+ * a double that widening would not give back. So a double that would be rounded is refused: round it first, as (float)value;
+ * -0, the infinities and what is subnormal as a float are stored. Of the NaNs a float of 32 bits takes 0x7FF8000000000000
+ * alone, as 0x7FC00000; one of 64 bits takes every pattern. */
 mf4_stored mf4_write_value(uint64_t record_id_size, mf4_channel channel, mf4_number value, uint8_t *record,
                            size_t record_len);
 
@@ -413,9 +413,9 @@ typedef struct mf4_overlap {
 } mf4_overlap;
 
 /* The first two descriptions whose fields share a bit: of all such pairs the one with the smallest first, and then the
- * smallest second. Bit k of a field's number, of bit_count bits from bit_offset on, is bit k % 8 of the byte k / 8 behind
- * byte_offset, in big-endian order counted from the field's last byte. Invalidation bits are no part of a field, and neither
- * is the record id, which stands in front of all.
+ * smallest second. Bit k of a field's value stands in bit (bit_offset + k) % 8 of byte byte_offset + (bit_offset + k) / 8; in
+ * big-endian order the bytes are counted back from the field's last. Invalidation bits are no part of a field, and neither is
+ * the record id, which stands in front of all.
  *
  * Refuses with 26 over MF4_MAX_CHANNELS descriptions, then with 27 where one is no fixed number: no number, a channel of
  * variable length, or what mf4_decode_value refuses in every record with 18, 19, 20 or 22. told is the first such place. */

@@ -42,11 +42,11 @@
 //! and is not asked.
 //!
 //! The answers in a sample are the crate's, so inputs outside the domain are left out, codes of unknown types among
-//! them, and so are values that are carried, and channel blocks, whose measure is the standard alone. Where the crate has no such notion they are
-//! put into the library's terms: its errors as numbers, 6 where ROOM is too small for the bytes that it gives, places
-//! instead of copies, the one NaN for every NaN but those of 64-bit fields, and for an unknown type in a channel block
-//! 0, the code that the crate itself gives for it. Where it has no value, the whole answer of `value` and `both` is the
-//! word `-`, which stands for any refusal from 18 to 22.
+//! them, and so are channel blocks, whose measure is the standard alone. Values that are carried are left out too, since
+//! the library writes them. Where the crate has no such notion, the answers are put into the library's terms: its errors
+//! as numbers, 6 where ROOM is too small for the bytes that it gives, places instead of copies, the one NaN for every NaN
+//! but those of 64-bit fields, and for an unknown type in a channel block 0, the code that the crate itself gives for it.
+//! Where it has no value, the whole answer of `value` and `both` is the word `-`, which stands for any refusal of 18 to 22.
 
 mod answers;
 mod c;
