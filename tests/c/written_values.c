@@ -81,16 +81,105 @@ static const stored_case floats[] = {
       "FF FF FF FF FF FF FF FF FF" },
 };
 
+static int reads_back(lent record, uint64_t id_size, mf4_channel channel, mf4_number value)
+{
+    const expected due = { MF4_ANSWER, value.kind, 0, value.number, 0, 0 };
+    return value_is(mf4_decode_value(record.bytes, record.length, id_size, channel), due);
+}
+
+/* What is decoded, written over itself, changes no byte. Not so of the NaNs of 32 bits, which all become the one. */
+static void check_written_over(lent record, uint64_t id_size, mf4_channel channel)
+{
+    const mf4_value read = mf4_decode_value(record.bytes, record.length, id_size, channel);
+    mf4_number same;
+    same.kind = read.kind, same.number = read.number;
+    CHECK(stored_is(written(id_size, channel, same, record), MF4_ANSWER, 0) && is_unchanged(record));
+}
+
 static void check_stored_case(stored_case a)
 {
     lent record = record_of(a.record);
     uint8_t after[256];
     const size_t count = from_hex(a.after, after);
-    mf4_value read;
     CHECK(stored_is(written(a.id_size, a.channel, a.value, record), MF4_ANSWER, 0));
     CHECK(count == record.length && same_bytes(record.bytes, after, count));
-    read = mf4_decode_value(record.bytes, record.length, a.id_size, a.channel);
-    CHECK(read.reply == MF4_ANSWER && read.kind == a.value.kind && read.number == a.value.number);
+    CHECK(reads_back(record, a.id_size, a.channel, a.value));
+    check_written_over(record_of(a.after), a.id_size, a.channel);
+}
+
+#define MARKED(type, bit_offset, byte_offset, bit_count, flags, position) \
+    { (type), 0, (bit_offset), (byte_offset), (bit_count), (flags), (position), 0 }
+
+typedef struct marked_case {
+    const char *record;
+    uint64_t id_size;
+    uint32_t data_bytes;
+    mf4_channel channel;
+    mf4_number value;
+    const char *after;
+    uint8_t was_valid, is_valid;
+} marked_case;
+
+/* Where the invalidation bit stands beside the field, validity stays; where it is one of the field's, it is as written. */
+static const marked_case validities[] = {
+    /* in a byte behind the field's, with and without an id in front, and beyond the record */
+    { "34 12 00", 0, 2, MARKED(MF4_UNSIGNED_LE, 0, 0, 16, 2, 0), UNSIGNED(0xFFFF), "FF FF 00", 1, 1 },
+    { "34 12 01", 0, 2, MARKED(MF4_UNSIGNED_LE, 0, 0, 16, 2, 0), UNSIGNED(0), "00 00 01", 0, 0 },
+    { "07 34 02", 1, 1, MARKED(MF4_UNSIGNED_BE, 0, 0, 8, 2, 1), UNSIGNED(0xFF), "07 FF 02", 0, 0 },
+    { "FF FF FD", 1, 1, MARKED(MF4_SIGNED_LE, 0, 0, 8, 2, 1), SIGNED(0), "FF 00 FD", 1, 1 },
+    { "34 12 FF", 0, 2, MARKED(MF4_UNSIGNED_LE, 0, 0, 16, 2, 8), UNSIGNED(0), "00 00 FF", 1, 1 },
+    /* in the field's own bytes: right above its highest bit, and right below its lowest */
+    { "34 12", 0, 1, MARKED(MF4_UNSIGNED_LE, 0, 0, 12, 2, 4), UNSIGNED(0), "00 10", 0, 0 },
+    { "34 E2", 0, 1, MARKED(MF4_UNSIGNED_LE, 0, 0, 12, 2, 4), UNSIGNED(0xFFF), "FF EF", 1, 1 },
+    { "12 34", 0, 0, MARKED(MF4_UNSIGNED_BE, 0, 0, 12, 2, 4), UNSIGNED(0), "10 00", 0, 0 },
+    { "E2 34", 0, 0, MARKED(MF4_UNSIGNED_BE, 0, 0, 12, 2, 4), UNSIGNED(0xFFF), "EF FF", 1, 1 },
+    { "08 00", 0, 0, MARKED(MF4_SIGNED_LE, 4, 0, 12, 2, 3), SIGNED(-1), "F8 FF", 0, 0 },
+    { "F7 FF", 0, 0, MARKED(MF4_SIGNED_LE, 4, 0, 12, 2, 3), SIGNED(0), "07 00", 1, 1 },
+    { "00 08", 0, 0, MARKED(MF4_SIGNED_BE, 4, 0, 12, 2, 11), SIGNED(-1), "FF F8", 0, 0 },
+    { "FF F7", 0, 0, MARKED(MF4_SIGNED_BE, 4, 0, 12, 2, 11), SIGNED(0), "00 07", 1, 1 },
+    /* one of the field's: its lowest, its highest, and one between */
+    { "00", 0, 0, MARKED(MF4_UNSIGNED_LE, 0, 0, 8, 2, 0), UNSIGNED(1), "01", 1, 0 },
+    { "FF", 0, 0, MARKED(MF4_UNSIGNED_LE, 0, 0, 8, 2, 0), UNSIGNED(0xFE), "FE", 0, 1 },
+    { "FF", 0, 0, MARKED(MF4_UNSIGNED_LE, 0, 0, 8, 2, 0), UNSIGNED(1), "01", 0, 0 },
+    { "00 00", 0, 1, MARKED(MF4_UNSIGNED_LE, 0, 0, 12, 2, 3), UNSIGNED(0x800), "00 08", 1, 0 },
+    { "FF FF", 0, 1, MARKED(MF4_UNSIGNED_LE, 0, 0, 12, 2, 3), UNSIGNED(0x7FF), "FF F7", 0, 1 },
+    { "00 00", 0, 0, MARKED(MF4_UNSIGNED_BE, 0, 0, 16, 2, 0), UNSIGNED(0x100), "01 00", 1, 0 },
+    { "FF FF", 0, 0, MARKED(MF4_UNSIGNED_BE, 0, 0, 16, 2, 0), UNSIGNED(0xFEFF), "FE FF", 0, 1 },
+    { "07 00 00", 1, 0, MARKED(MF4_UNSIGNED_LE, 7, 0, 2, 2, 8), UNSIGNED(2), "07 00 01", 1, 0 },
+    { "07 FF FF", 1, 0, MARKED(MF4_UNSIGNED_LE, 7, 0, 2, 2, 8), UNSIGNED(1), "07 FF FE", 0, 1 },
+    { "0F", 0, 0, MARKED(MF4_SIGNED_LE, 4, 0, 4, 2, 7), SIGNED(-8), "8F", 1, 0 },
+    { "8F", 0, 0, MARKED(MF4_SIGNED_BE, 4, 0, 4, 2, 7), SIGNED(7), "7F", 0, 1 },
+    { "00 00 80 3F", 0, 0, MARKED(MF4_FLOAT_LE, 0, 0, 32, 2, 31), DOUBLE(0xBFF0000000000000), "00 00 80 BF", 1, 0 },
+    { "BF 80 00 00", 0, 0, MARKED(MF4_FLOAT_BE, 0, 0, 32, 2, 7), DOUBLE(0x3FF0000000000000), "3F 80 00 00", 0, 1 },
+    /* the flags decide whether the bit counts */
+    { "00", 0, 0, MARKED(MF4_UNSIGNED_LE, 0, 0, 8, 0, 0), UNSIGNED(1), "01", 1, 1 },
+    { "01", 0, 0, MARKED(MF4_UNSIGNED_LE, 0, 0, 8, 1, 0), UNSIGNED(0), "00", 0, 0 },
+    { "01", 0, 0, MARKED(MF4_UNSIGNED_LE, 0, 0, 8, 3, 0), UNSIGNED(0), "00", 0, 0 },
+};
+
+static void check_marked_case(marked_case a)
+{
+    const expected value = { MF4_ANSWER, a.value.kind, 0, a.value.number, 0, 0 };
+    uint8_t after[256];
+    const size_t count = from_hex(a.after, after);
+    lent record = record_of(a.record);
+    CHECK(mf4_check_validity(record.bytes, record.length, a.id_size, a.data_bytes, a.channel) == a.was_valid);
+    check_written_over(record, a.id_size, a.channel);
+    CHECK(stored_is(written(a.id_size, a.channel, a.value, record), MF4_ANSWER, 0));
+    CHECK(count == record.length && same_bytes(record.bytes, after, count));
+    CHECK(mf4_check_validity(record.bytes, record.length, a.id_size, a.data_bytes, a.channel) == a.is_valid);
+    CHECK(valid_value_is(mf4_decode_valid_value(record.bytes, record.length, a.id_size, a.data_bytes, a.channel), value,
+                         a.is_valid));
+    check_written_over(record_of(a.after), a.id_size, a.channel);
+}
+
+static void check_validities(void)
+{
+    size_t i;
+    for (i = 0; i < COUNT(validities); i++) {
+        name_row("validity of what is written", i);
+        check_marked_case(validities[i]);
+    }
 }
 
 typedef struct refused_case {
@@ -238,7 +327,8 @@ static int same_outside_field(lent record, mf4_channel channel, size_t at)
     return 1;
 }
 
-/* All ones of the field, and then none, in a record that has neither. */
+/* All ones of the field, and then none, each in a record of marks: at least one of the two changes it. What the marks stand
+ * for, written over them, does not. */
 static void check_shape(mf4_channel channel, size_t behind)
 {
     const size_t at = 3, span = (channel.bit_offset + channel.bit_count + 7) / 8;
@@ -251,9 +341,10 @@ static void check_shape(mf4_channel channel, size_t behind)
         lent record = lend_marked(OUTPUT, at + span + behind);
         value.number = pass > 0 ? 0 : value.kind == MF4_KIND_SIGNED ? MOST : largest;
         CHECK(stored_is(written(1, channel, value, record), MF4_ANSWER, 0));
-        CHECK(mf4_decode_value(record.bytes, record.length, 1, channel).number == value.number);
+        CHECK(reads_back(record, 1, channel, value));
         CHECK(same_outside_field(record, channel, at));
     }
+    check_written_over(lend_marked(OUTPUT, at + span + behind), 1, channel);
     if (channel.bit_count < 64) {
         lent record = lend_marked(OUTPUT, at + span + behind);
         value.number = largest + 1;
@@ -275,7 +366,7 @@ static void check_shapes(void)
             }
 }
 
-/* Of all types the six of numbers take a number, each of one kind. */
+/* Of all types the six of numbers take a number, each of one kind, and then that number stands there. */
 static void check_every_type(void)
 {
     unsigned type;
@@ -288,7 +379,8 @@ static void check_every_type(void)
             const int is_stored = type <= MF4_FLOAT_BE && kind == MF4_KIND_UNSIGNED + type / 2;
             name_number("kinds of numbers for the data type", type);
             CHECK(stored_is(written(1, channel, value, record), is_stored ? MF4_ANSWER : 25, 0));
-            CHECK(is_stored || is_unchanged(record));
+            CHECK(is_stored ? reads_back(record, 1, channel, value) && same_outside_field(record, channel, 3)
+                            : is_unchanged(record));
             record = lend_marked(OUTPUT, 10);
             CHECK(stored_is(written(1, channel, value, record), 21, 11) && is_unchanged(record));
         }
@@ -298,6 +390,7 @@ void check_written_values(void)
 {
     check_stored_cases("integers written", integers, COUNT(integers));
     check_stored_cases("floats written", floats, COUNT(floats));
+    check_validities();
     check_refused_cases("numbers that do not fit", do_not_fit, COUNT(do_not_fit));
     check_refused_cases("numbers of another kind", of_another_kind, COUNT(of_another_kind));
     check_refused_cases("the order of refusals", in_order, COUNT(in_order));
