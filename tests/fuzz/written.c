@@ -18,7 +18,7 @@ static int is_big_endian(mf4_channel channel) { return channel.data_type % 2 == 
 
 static uint64_t span_of(mf4_channel channel) { return ((uint64_t)channel.bit_offset + channel.bit_count + 7) / 8; }
 
-/* The byte behind byte_offset that holds bit k of the field's number. */
+/* The byte, counted from byte_offset on, that holds bit k of the number that all bytes of the field make up. */
 static uint64_t byte_of_bit(mf4_channel channel, uint64_t k)
 {
     return is_big_endian(channel) ? span_of(channel) - 1 - k / 8 : k / 8;
@@ -90,6 +90,35 @@ static void check_stored(lent record, reading how, mf4_number number)
     note(WRITE_VALUE, 32 + how.channel.data_type * 2u + (span_of(how.channel) == MOST_SPAN));
 }
 
+/* Whether the field was one of the NaNs of 32 bits that are read as another, 0x7FC00000. */
+static int was_another_nan(lent record, reading how)
+{
+    const uint8_t *span = record.before + how.id_size + how.channel.byte_offset;
+    uint64_t field = 0, k;
+    if (!is_float(how.channel) || how.channel.bit_count != 32)
+        return 0;
+    for (k = how.channel.bit_offset; k < how.channel.bit_offset + 32u; k++)
+        field |= (uint64_t)(span[byte_of_bit(how.channel, k)] >> k % 8 & 1) << (k - how.channel.bit_offset);
+    return (field & 0x7FFFFFFF) > 0x7F800000 && field != 0x7FC00000;
+}
+
+/* What is decoded, written over itself, changes no byte, but for those of such a NaN. */
+static void exercise_same_number(lent input, reading how)
+{
+    lent record = lend_copy(OUTPUT, input.bytes, input.length);
+    const mf4_value old = mf4_decode_value(record.bytes, record.length, how.id_size, how.channel);
+    mf4_number same;
+    mf4_stored stored;
+    if (is_payload(how.channel) || old.kind < MF4_KIND_UNSIGNED || old.kind > MF4_KIND_DOUBLE)
+        return;
+    same.kind = old.kind;
+    same.number = old.number;
+    stored = mf4_write_value(how.id_size, how.channel, same, record.bytes, record.length);
+    MUST(stored.reply == MF4_ANSWER && stored.told == 0);
+    check_stored(record, how, same);
+    MUST(is_unchanged(record) != was_another_nan(record, how));
+}
+
 static void exercise_number(lent input, reading how, mf4_number number)
 {
     lent record = lend_copy(OUTPUT, input.bytes, input.length);
@@ -98,10 +127,12 @@ static void exercise_number(lent input, reading how, mf4_number number)
     check_reply(WRITE_VALUE, stored.reply, stored.told,
                 REPLY(0) | FIELD_REFUSALS | REPLY(MF4_DOES_NOT_FIT) | REPLY(MF4_OTHER_KIND));
     MUST(stored.reply == (old.reply != MF4_ANSWER ? old.reply : reply_due(how.channel, number)) && stored.told == old.told);
-    if (stored.reply == MF4_ANSWER)
-        check_stored(record, how, number);
-    else
+    if (stored.reply != MF4_ANSWER) {
         MUST(is_unchanged(record));
+        return;
+    }
+    check_stored(record, how, number);
+    exercise_same_number(record, how);
 }
 
 /* Any bits; of a width, or near its limits. */
@@ -138,10 +169,11 @@ static uint64_t choose_double(void)
     return (mf4_double(single).number ^ sign) + (uint64_t)(how / 2 % 4 == 3) - (uint64_t)(how / 2 % 4 == 2);
 }
 
-/* The same bits as a number of each kind, and of one that is none. */
+/* What the field holds; and then the same bits as a number of each kind, and of one that is none. */
 static void exercise_kinds(lent input, reading how, uint64_t bits)
 {
     mf4_number number;
+    exercise_same_number(input, how);
     number.number = bits;
     for (number.kind = MF4_KIND_NOTHING; number.kind <= MF4_KIND_TEXT; number.kind++)
         exercise_number(input, how, number);

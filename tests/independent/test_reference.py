@@ -796,7 +796,7 @@ def python_integers():
 
 
 def python_written():
-    """What was written reads back, and a string of the record's bits has changed in the field alone."""
+    """What was written reads back; the bytes around the field stay, and so does the number of its own bytes but for the field."""
     rng = random.Random(21)
     answered = 0
     for _ in range(6000):
