@@ -8,7 +8,7 @@ import random
 import struct
 
 from protocol import LongFile
-from reference import NAN, Channel, ChannelBlock, Header, Number
+from reference import NAN, Channel, ChannelBlock, Header, Number, decode_value
 
 U8 = 2**8 - 1
 U16 = 2**16 - 1
@@ -468,6 +468,16 @@ def write_bit_boundaries(rng):
                 number = Number(kind_of_type(data_type), 2**bit)
                 yield "write_value", (0, channel, number, bytes(size))
                 yield "write_value", (0, channel, number, b"\xff" * size)
+
+
+def write_same_boundaries(rng):
+    """What a field holds, written over itself: hard numbers, and every width, bit offset and type of integer."""
+    shapes = itertools.product(range(1, 65), range(8), range(4))
+    integers = (number_case(rng, data_type, bit_count, bit_offset, hard_integer(rng, bit_count))
+                for bit_count, bit_offset, data_type in shapes)
+    for _call, (record, id_size, channel) in itertools.chain(number_boundaries(rng), integers):
+        read = decode_value(record, id_size, channel)
+        yield "write_value", (id_size, channel, Number(read.kind, read.number), record)
 
 
 def doubles_of_singles():
@@ -1844,10 +1854,10 @@ BOUNDARIES = (header_boundaries, type_boundaries, list_read_boundaries, list_id_
               channel_read_boundaries, channel_id_and_link_boundaries, channel_type_boundaries, channel_limit_boundaries,
               channel_write_boundaries, field_boundaries, type_field_boundaries, place_boundaries, refusal_boundaries,
               payload_boundaries, text_field_boundaries, validity_boundaries, number_boundaries, text_boundaries,
-              text_helper_boundaries, write_width_boundaries, write_bit_boundaries, write_float_boundaries,
-              write_kind_boundaries, write_refusal_boundaries, write_place_boundaries, write_payload_boundaries,
-              overlap_pair_boundaries, overlap_bit_boundaries, overlap_list_boundaries, overlap_order_boundaries,
-              overlap_place_boundaries)
+              text_helper_boundaries, write_width_boundaries, write_bit_boundaries, write_same_boundaries,
+              write_float_boundaries, write_kind_boundaries, write_refusal_boundaries, write_place_boundaries,
+              write_payload_boundaries, overlap_pair_boundaries, overlap_bit_boundaries, overlap_list_boundaries,
+              overlap_order_boundaries, overlap_place_boundaries)
 
 CHAIN_BOUNDARIES = (cut_boundaries, query_boundaries, long_file_boundaries, loop_boundaries, order_boundaries,
                     limit_boundaries, form_boundaries, breach_boundaries, large_record_boundaries, record_value_boundaries,

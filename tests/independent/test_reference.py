@@ -796,7 +796,7 @@ def python_integers():
 
 
 def python_written():
-    """What was written reads back; the bytes around the field stay, and so does the number of its own bytes but for the field."""
+    """What was written reads back. The bytes in front of the field's and behind them stay, and of its own the bits beside it."""
     rng = random.Random(21)
     answered = 0
     for _ in range(6000):
@@ -814,6 +814,22 @@ def python_written():
         kept = ~((2**channel.bit_count - 1) << channel.bit_offset)
         check("beside", *(int.from_bytes(bytes_of[at:at + span], order) & kept for bytes_of in (after, record)))
     check("mostly answered", answered > 2000, True)
+
+
+def python_written_over():
+    """What was decoded, written over itself, changes no byte; but of 32 bits every NaN becomes the one, set here by shifts."""
+    nans = 0
+    for _call, (id_size, channel, number, record) in cases.write_same_boundaries(random.Random(24)):
+        wanted = record
+        if channel.bit_count == 32 and number == DOUBLE(r.NAN):
+            span, at = r.span_of(channel), id_size + channel.byte_offset
+            order = "big" if channel.data_type % 2 else "little"
+            beside = int.from_bytes(record[at:at + span], order) & ~(0xFFFFFFFF << channel.bit_offset)
+            whole = beside | 0x7FC00000 << channel.bit_offset
+            wanted = record[:at] + whole.to_bytes(span, order) + record[at + span:]
+            nans += wanted != record
+        check(f"{number} over itself in {channel}", written(number, record, channel, id_size), wanted)
+    check("other NaNs are among them", nans > 100, True)
 
 
 def python_narrowed():
@@ -984,6 +1000,7 @@ def main():
     section("against float() and struct", python_floats)
     section("against bit strings", python_integers)
     section("against what reads back", python_written)
+    section("against what stood there", python_written_over)
     section("against packed floats", python_narrowed)
     section("against shifted masks", python_overlaps)
     section("against packed structs", python_structs)
