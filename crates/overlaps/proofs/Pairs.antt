@@ -10,6 +10,7 @@ use Rattle.definitions.specs.DataType.{DataType, unsignedInteger, orderOf, kind
 use Rattle.definitions.specs.Channel.{Channel, isNumber}
 use Rattle.definitions.specs.Overlap.{bitPlace, shareABit}
 use Rattle.definitions.proofs.Shared.{Within, shared-back, apart-back}
+use Rattle.words.proofs.Locality.{byte-inside}
 use Rattle.fields.specs.Form.{formOf, orderMeant}
 use Rattle.fields.proofs.Types.{number-types}
 use Rattle.overlaps.specs.Meaning.{bigForm, bare, InSpan, Covers, meets}
@@ -38,9 +39,8 @@ byte-of start w k p e = omega arith
 bit-of : (start w k p : ℕ) → p ≡ (start + w) * 8 + k % 8 → p % 8 ≡ k % 8
 bit-of start w k p e = omega arith
 
-byte-below : (o : Order) (low count k : ℕ) → low ≤ k → k < low + count → byteWith o (bytesFor low count) k < bytesFor low count
-byte-below little low count k a b = omega arith
-byte-below big low count k a b = omega arith
+below : (low count k : ℕ) → k < low + count → k < 8 * bytesFor low count
+below low count k h = omega arith
 
 module _ (c : Channel) (k : ℕ) where
   abbrev byteIn : ℕ
@@ -54,7 +54,7 @@ module _ (c : Channel) (k : ℕ) where
 
   -- in a byte that the field reaches into
   in-span : Within c k → InSpan c (bitPlace c k / 8)
-  in-span (a, b) = between byteIn (bitPlace c k / 8) its-byte (byte-below (orderOf (c .dataType)) (c .bitOffset) (c .bitCount) k a b)
+  in-span (_, b) = between byteIn (bitPlace c k / 8) its-byte (byte-inside (orderOf (c .dataType)) _ k (below (c .bitOffset) (c .bitCount) k b))
     where
       between : (w q : ℕ) → q ≡ c .byteOffset + w → w < bytesFor (c .bitOffset) (c .bitCount) → InSpan c q
       between w q e l = (omega arith, omega arith)

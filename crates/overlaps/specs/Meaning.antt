@@ -16,7 +16,7 @@ use Rattle.fields.specs.declared.form.Form.{Form}
 use Rattle.fields.specs.declared.form.Form.the-variants.{Number, Other}
 use Rattle.overlaps.specs.declared.answer.OverlapRead.{OverlapRead}
 use Rattle.overlaps.specs.declared.answer.OverlapRead.the-variants.{Pair, Clear, Refused}
-use Rattle.overlaps.specs.declared.bits.FieldBits.{FieldBits}
+use Rattle.overlaps.specs.declared.place.FieldPlace.{FieldPlace}
 use Rattle.overlaps.specs.declared.run.Run.{Run}
 use Rattle.overlaps.specs.declared.search.Search.{Search}
 
@@ -44,7 +44,7 @@ unsignedAt order byte offset count = record {
   dataLink = 0;
 }
 
-abbrev pub fieldMeant : FieldBits → Channel
+abbrev pub fieldMeant : FieldPlace → Channel
 fieldMeant f = unsignedAt (orderMeant (f .«big_endian»)) (f .«byte_offset») (f .«bit_offset») (f .«bit_count»)
 
 -- the unsigned integer that has the bits of a channel's field

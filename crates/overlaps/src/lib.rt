@@ -1,8 +1,8 @@
 // The first two channels of a list whose fields share a bit of the record.
 mod answer;
-mod bits;
 mod entry;
 mod pair;
+mod place;
 mod run;
 mod search;
 

@@ -4,9 +4,9 @@ ghost use mathlib.Core.Bool.{true};
 ghost use Rattle.definitions.specs.Overlap.{isFixedNumber, shareABit};
 ghost use Rattle.fields.specs.Meaning.{channelMeant};
 ghost use Rattle.overlaps.specs.Meaning.{fieldMeant};
-use crate::bits::FieldBits;
-use crate::bits::byte_end;
-use crate::bits::field_bits;
+use crate::place::FieldPlace;
+use crate::place::byte_end;
+use crate::place::field_place;
 use crate::run::larger;
 use crate::run::meet;
 use crate::run::run_in;
@@ -14,7 +14,7 @@ use crate::run::smaller;
 use fields::Channel;
 
 // Byte after byte where both are: a big-endian field with an offset is no single run of the record's bits.
-fn fields_share_a_bit(x: FieldBits, y: FieldBits) -> bool
+fn fields_share_a_bit(x: FieldPlace, y: FieldPlace) -> bool
     ensures { λ r. ⌜ r ≡ shareABit (fieldMeant x) (fieldMeant y) ⌝ }
 {
     let end = smaller(byte_end(x), byte_end(y));
@@ -32,5 +32,5 @@ pub(crate) fn share_a_bit(a: Channel, b: Channel) -> bool
     requires { ⌜ (isFixedNumber (channelMeant a) ≡ true) × (isFixedNumber (channelMeant b) ≡ true) ⌝ }
     ensures { λ r. ⌜ r ≡ shareABit (channelMeant a) (channelMeant b) ⌝ }
 {
-    fields_share_a_bit(field_bits(a), field_bits(b))
+    fields_share_a_bit(field_place(a), field_place(b))
 }

@@ -1,9 +1,9 @@
 // The bits of one byte that belong to a field. They are a run, so two runs are compared and no masks are made.
 ghost use mathlib.Core.Path.{_≡_};
-ghost use Prim.Native.Nat.{_-_, _<_, min, max};
+ghost use Prim.Native.Nat.{_-_, _^_, _<_, min, max};
 ghost use Rattle.overlaps.specs.Meaning.{InSpan, Covers, fieldMeant, bitsOfByte, meets};
-use crate::bits::FieldBits;
-use crate::bits::byte_count;
+use crate::place::FieldPlace;
+use crate::place::byte_count;
 
 // The bits from `from` on, below `to`
 pub struct Run {
@@ -41,7 +41,7 @@ pub(crate) fn larger(a: u64, b: u64) -> u64
 
 // Those of byte m of a number, where the field has the bits from `low` on, below `high`
 fn bits_of_byte(low: u64, high: u64, m: u64) -> Run
-    requires { ⌜ m < 1073741824 ⌝ }
+    requires { ⌜ m < 2 ^ 30 ⌝ }
     ensures { λ r. ⌜ r ≡ bitsOfByte low high m ⌝ }
 {
     let before = 8 * m;
@@ -51,7 +51,7 @@ fn bits_of_byte(low: u64, high: u64, m: u64) -> Run
 }
 
 // Those of a record byte that the field reaches into
-pub(crate) fn run_in(field: FieldBits, byte: u64) -> Run
+pub(crate) fn run_in(field: FieldPlace, byte: u64) -> Run
     requires { ⌜ InSpan (fieldMeant field) byte ⌝ }
     ensures { λ r. ⌜ Covers (fieldMeant field) byte r ⌝ }
 {

@@ -11,7 +11,7 @@ use fields::Form;
 use fields::form_of;
 
 // All that tells where the bits of a number stand
-pub struct FieldBits {
+pub struct FieldPlace {
     pub big_endian: bool,
     pub bit_offset: u8,
     pub byte_offset: u32,
@@ -28,12 +28,12 @@ fn is_big_endian(form: Form) -> bool
     }
 }
 
-pub(crate) fn field_bits(channel: Channel) -> FieldBits
+pub(crate) fn field_place(channel: Channel) -> FieldPlace
     requires { ⌜ isFixedNumber (channelMeant channel) ≡ true ⌝ }
     ensures { λ r. ⌜ fieldMeant r ≡ bare (channelMeant channel) ⌝ }
 {
     let data_type = channel.data_type;
-    FieldBits {
+    FieldPlace {
         big_endian: is_big_endian(form_of(data_type)),
         bit_offset: channel.bit_offset,
         byte_offset: channel.byte_offset,
@@ -41,14 +41,14 @@ pub(crate) fn field_bits(channel: Channel) -> FieldBits
     }
 }
 
-pub(crate) fn byte_count(field: FieldBits) -> u64
+pub(crate) fn byte_count(field: FieldPlace) -> u64
     ensures { λ r. ⌜ r ≡ bytesFor (field .«bit_offset») (field .«bit_count») ⌝ }
 {
     (field.bit_offset as u64 + field.bit_count as u64 + 7) / 8
 }
 
 // The record byte behind the field. Two numbers of 32 bits make no sum that wraps.
-pub(crate) fn byte_end(field: FieldBits) -> u64
+pub(crate) fn byte_end(field: FieldPlace) -> u64
     ensures { λ r. ⌜ r ≡ field .«byte_offset» + bytesFor (field .«bit_offset») (field .«bit_count») ⌝ }
 {
     field.byte_offset as u64 + byte_count(field)

@@ -7,8 +7,8 @@ use Rattle.overlaps.specs.Meaning.{bigForm, unsignedAt}
 use Rattle.overlaps.proofs.Entries.{fixed-is-number}
 use Rattle.overlaps.proofs.Pairs.{form-order}
 use borrow.Author.Needs.{needs}
-use Rattle.overlaps.proofs.bits.field_bits.Statement.{statement}
-use Rattle.overlaps.proofs.bits.field_bits.Tie as tie
+use Rattle.overlaps.proofs.place.field_place.Statement.{statement}
+use Rattle.overlaps.proofs.place.field_place.Tie as tie
 
 returns : tie.Need-returns
 returns c =
@@ -18,5 +18,5 @@ returns c =
     (ap orderMeant (c .is-big-endian .ensures ∙ ap bigForm (c .before .form-of .ensures))
     ∙ form-order (m .dataType) (fixed-is-number m (start .pre)))
 
-pub field-bits-spec : {M : Type 1} → statement M
-field-bits-spec = tie.close (tie.spec (λ c κs. search needs) (λ c κs. search needs) returns)
+pub field-place-spec : {M : Type 1} → statement M
+field-place-spec = tie.close (tie.spec (λ c κs. search needs) (λ c κs. search needs) returns)
