@@ -1,19 +1,20 @@
 -- A type's kind and values, by its form.
-use mathlib.Core.Path.{_≡_, refl, sym, _∙_, subst}
+use mathlib.Core.Path.{_≡_, refl, sym, ap, _∙_, subst}
 use mathlib.Core.Bool.{Bool, true, false, _&&_}
 use mathlib.Core.List.{List}
 use Prim.Native.Nat.{ℕ}
-use Rattle.definitions.specs.Bytes.{little, big}
+use Rattle.definitions.specs.Bytes.{Order, little, big}
 use Rattle.definitions.specs.Unicode.{latin1, utf8, utf16}
-use Rattle.definitions.specs.DataType.{DataType, unsignedInteger, signedInteger, float, complex, string, byteArray, mimeSample, mimeStream, canOpenDate, canOpenTime, unknown, Kind, integer, floating, whole, undecoded, kindOf}
+use Rattle.definitions.specs.DataType.{DataType, unsignedInteger, signedInteger, float, complex, string, byteArray, mimeSample, mimeStream, canOpenDate, canOpenTime, unknown, Kind, integer, floating, whole, undecoded, kindOf, orderOf}
 use Rattle.definitions.specs.Channel.{Channel, decoded, isNumber, isInteger, isFloating, bitSpan, spanIn}
-use Rattle.fields.specs.Form.{formOf, numberKind, contentKind, formKind, formValue}
+use Rattle.fields.specs.Form.{orderMeant, formOf, numberKind, contentKind, formKind, bigForm, formValue}
 use Rattle.fields.specs.declared.form.Number.{Number}
 use Rattle.fields.specs.declared.form.Number.the-variants.{Unsigned, Signed, Float}
 use Rattle.fields.specs.declared.form.Form.{Form}
 use Rattle.fields.specs.declared.form.Form.the-variants.{Number as numbered, Other}
 use Rattle.fields.specs.declared.form.Content.{Content}
 use Rattle.fields.specs.declared.form.Content.the-variants.{Text, ByteArray, MimeSample, MimeStream, Undecoded}
+use Rattle.fields.proofs.Types.{number-types}
 
 pub kind-form : (t : DataType) → formKind (formOf t) ≡ kindOf t
 kind-form (unsignedInteger o) = refl
@@ -73,6 +74,19 @@ whole-payload content n c = content-kinds (λ k. n ≡ spanIn true k n c) refl r
 
 pub is-number : (number : Number) → isNumber (numberKind number) ≡ true
 is-number number = number-kinds (λ k. isNumber k ≡ true) refl refl number
+
+-- the order of a number's form is its type's
+pub form-order : (t : DataType) → isNumber (kindOf t) ≡ true → orderMeant (bigForm (formOf t)) ≡ orderOf t
+form-order = number-types (λ t. orderMeant (bigForm (formOf t)) ≡ orderOf t) told told told
+  where
+    told : (o : Order) → orderMeant (bigForm (formOf (unsignedInteger o))) ≡ o
+    told little = refl
+    told big = refl
+
+pub number-order : (t : DataType) {number : Number} {b : Bool} → formOf t ≡ numbered number b → orderMeant b ≡ orderOf t
+number-order t {number} e =
+    ap (λ (f : Form). orderMeant (bigForm f)) (sym e)
+    ∙ form-order t (ap isNumber (sym (kind-form t) ∙ ap formKind e) ∙ is-number number)
 
 -- what is no number passes the tests of numbers, integers and floats, whatever these find
 module _ (content : Content) (t : Bool) where

@@ -31,7 +31,7 @@ by-field type s t at n c h =
     (λ o e. ap unsigned e) (λ o e. ap (λ (x : ℕ). signed (twosComplement (c .bitCount) x)) e)
     (λ o e. ap (λ (x : ℕ). doubleValue (floatBits (c .bitCount) x)) e) type h
 
-number-span : (k : Kind) (payload : Bool) (n : ℕ) (c : Channel) → isNumber k ≡ true → spanIn payload k n c ≡ bitSpan c
+pub number-span : (k : Kind) (payload : Bool) (n : ℕ) (c : Channel) → isNumber k ≡ true → spanIn payload k n c ≡ bitSpan c
 number-span integer payload n c h = refl
 number-span floating payload n c h = refl
 number-span whole payload n c h = absurd (true≢false (sym h))

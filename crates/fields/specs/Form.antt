@@ -53,6 +53,11 @@ abbrev pub formKind : Form → Kind
 formKind (Number number b) = numberKind number
 formKind (Other content) = contentKind content
 
+-- whether a number is big-endian; of another form it is not asked
+abbrev pub bigForm : Form → Bool
+bigForm (Number number b) = b
+bigForm (Other content) = false
+
 -- what the field x of a number stands for
 abbrev pub numberValue : numbers.Number → ℕ → ℕ → Value
 numberValue Unsigned count x = unsigned x

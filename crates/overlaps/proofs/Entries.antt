@@ -3,7 +3,7 @@ use mathlib.Core.Path.{_≡_, refl, sym, ap, _∙_}
 use mathlib.Core.Bool.{Bool, true, false, not, _&&_, _||_}
 use Prim.Native.Nat.{_≤_, _<_}
 use lib.Dec.{ltb, leb, eqb}
-use borrow.Author.Tests.{le-leb, lt-leb, eq-eqb, ne-eqb}
+use borrow.Author.Tests.{le-leb, lt-leb, eq-eqb, ne-eqb, not-true}
 use Rattle.definitions.specs.DataType.{Kind, kindOf}
 use Rattle.definitions.specs.Channel.{Channel, variableLength, isNumber, isInteger, isFloating}
 use Rattle.definitions.specs.Overlap.{isFixedNumber}
@@ -19,14 +19,14 @@ use Rattle.fields.proofs.Forms.{kind-form, is-number, other-number}
 abbrev tested : Bool → Bool → Bool → Bool → Bool → Bool → Bool
 tested n v z l w x = n && not v && not z && l && not w && not x
 
-abbrev overWord : Kind → Channel → Bool
+abbrev pub overWord : Kind → Channel → Bool
 overWord k c = isInteger k && ltb 64 (c .bitCount)
 
-abbrev noWidth : Kind → Channel → Bool
+abbrev pub noWidth : Kind → Channel → Bool
 noWidth k c = isFloating k && not (eqb (c .bitCount) 32 || eqb (c .bitCount) 64)
 
 module _ (c : Channel) where
-  by-tests : {k : Kind} {n v z l w x : Bool} → kindOf (c .dataType) ≡ k → isNumber k ≡ n → variableLength c ≡ v → eqb (c .bitCount) 0 ≡ z
+  pub by-tests : {k : Kind} {n v z l w x : Bool} → kindOf (c .dataType) ≡ k → isNumber k ≡ n → variableLength c ≡ v → eqb (c .bitCount) 0 ≡ z
       → leb (c .bitOffset) 7 ≡ l → overWord k c ≡ w → noWidth k c ≡ x → isFixedNumber c ≡ tested n v z l w x
   unfolding isFixedNumber
   by-tests {k} {n} {v} {z} {l} {w} {x} ek en ev ez el ew ex =
@@ -76,13 +76,20 @@ module _ (c : Channel) where
           pub by-float-width : {x : Bool} → w ≡ false → x ≡ noWidth kind c → not x ≡ isFixedNumber c
           by-float-width narrow ex = sym (by-tests its-kind (is-number number) (sym ev ∙ fixed) (ne-eqb _ _ some) (le-leb _ _ low) (sym ew ∙ narrow) (sym ex))
 
-  -- a fixed number is a number
-  pub fixed-is-number : isFixedNumber c ≡ true → isNumber (kindOf (c .dataType)) ≡ true
+  -- a fixed number passes each of them
+  pub each-passed : isFixedNumber c ≡ true
+      → (isNumber (kindOf (c .dataType)) ≡ true) × (variableLength c ≡ false) × (eqb (c .bitCount) 0 ≡ false) × (leb (c .bitOffset) 7 ≡ true)
+      × (overWord (kindOf (c .dataType)) c ≡ false) × (noWidth (kindOf (c .dataType)) c ≡ false)
   unfolding isFixedNumber
-  fixed-is-number e =
+  each-passed e =
       let k : Kind = kindOf (c .dataType) in
       let p = both _ (not (noWidth k c)) e in
       let q = both _ (not (overWord k c)) (p .0) in
       let r = both _ (leb (c .bitOffset) 7) (q .0) in
       let t = both _ (not (eqb (c .bitCount) 0)) (r .0) in
-      both (isNumber k) (not (variableLength c)) (t .0) .0
+      let u = both (isNumber k) (not (variableLength c)) (t .0) in
+      (u .0, not-true _ (u .1), not-true _ (t .1), r .1, not-true _ (q .1), not-true _ (p .1))
+
+  -- and is a number
+  pub fixed-is-number : isFixedNumber c ≡ true → isNumber (kindOf (c .dataType)) ≡ true
+  fixed-is-number e = each-passed e .0

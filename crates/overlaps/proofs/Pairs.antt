@@ -5,26 +5,16 @@ use Prim.Native.Nat.{ℕ, _+_, _*_, _/_, _%_, _≤_, _<_, min, max}
 use native.Mathlib.Omega.{arith}
 use lib.Dec.{eqb}
 use borrow.Author.Tests.{ltb-true, ltb-false, eqb-true, eqb-false}
-use Rattle.definitions.specs.Bytes.{Order, little, big, bytesFor, byteWith}
-use Rattle.definitions.specs.DataType.{DataType, unsignedInteger, orderOf, kindOf}
-use Rattle.definitions.specs.Channel.{Channel, isNumber}
+use Rattle.definitions.specs.Bytes.{bytesFor, byteWith}
+use Rattle.definitions.specs.DataType.{orderOf}
+use Rattle.definitions.specs.Channel.{Channel}
 use Rattle.definitions.specs.Overlap.{bitPlace, shareABit}
 use Rattle.definitions.proofs.Shared.{Within, shared-back, apart-back}
 use Rattle.words.proofs.Locality.{byte-inside}
-use Rattle.fields.specs.Form.{formOf, orderMeant}
-use Rattle.fields.proofs.Types.{number-types}
-use Rattle.overlaps.specs.Meaning.{bigForm, bare, InSpan, Covers, meets}
+use Rattle.overlaps.specs.Meaning.{bare, InSpan, Covers, meets}
 use Rattle.overlaps.specs.declared.run.Run.{Run}
 
 -- ---- the field alone
-
--- the order of a number's form is the order of its type
-pub form-order : (t : DataType) → isNumber (kindOf t) ≡ true → orderMeant (bigForm (formOf t)) ≡ orderOf t
-form-order = number-types (λ t. orderMeant (bigForm (formOf t)) ≡ orderOf t) told told told
-  where
-    told : (o : Order) → orderMeant (bigForm (formOf (unsignedInteger o))) ≡ o
-    told little = refl
-    told big = refl
 
 -- the bits of a field are all that is asked of it
 pub bare-share : (a b : Channel) {x y : Channel} → x ≡ bare a → y ≡ bare b → shareABit x y ≡ shareABit a b

@@ -12,8 +12,6 @@ use Rattle.definitions.proofs.Shared.{Within}
 use Rattle.refusals.specs.Meaning.{refused}
 use Rattle.refusals.specs.declared.Refusal.the-variants.{TooManyChannels, NoFixedNumber}
 use Rattle.fields.specs.Form.{orderMeant}
-use Rattle.fields.specs.declared.form.Form.{Form}
-use Rattle.fields.specs.declared.form.Form.the-variants.{Number, Other}
 use Rattle.overlaps.specs.declared.answer.OverlapRead.{OverlapRead}
 use Rattle.overlaps.specs.declared.answer.OverlapRead.the-variants.{Pair, Clear, Refused}
 use Rattle.overlaps.specs.declared.place.FieldPlace.{FieldPlace}
@@ -26,10 +24,6 @@ overlapReply Clear = answer none
 overlapReply (Refused why) = refused why
 
 -- ---- fields
-
-abbrev pub bigForm : Form → Bool
-bigForm (Number number b) = b
-bigForm (Other content) = false
 
 -- an unsigned integer in the record itself
 abbrev pub unsignedAt : Order → ℕ → ℕ → ℕ → Channel

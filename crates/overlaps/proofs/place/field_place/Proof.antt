@@ -1,11 +1,11 @@
 -- The order of the form is the order of the type, since it is a number's.
 use mathlib.Core.Path.{ap, _∙_}
 use Rattle.definitions.specs.Bytes.{Order}
-use Rattle.fields.specs.Form.{orderMeant}
+use Rattle.fields.specs.Form.{orderMeant, bigForm}
 use Rattle.fields.specs.Meaning.{channelMeant}
-use Rattle.overlaps.specs.Meaning.{bigForm, unsignedAt}
+use Rattle.fields.proofs.Forms.{form-order}
+use Rattle.overlaps.specs.Meaning.{unsignedAt}
 use Rattle.overlaps.proofs.Entries.{fixed-is-number}
-use Rattle.overlaps.proofs.Pairs.{form-order}
 use borrow.Author.Needs.{needs}
 use Rattle.overlaps.proofs.place.field_place.Statement.{statement}
 use Rattle.overlaps.proofs.place.field_place.Tie as tie
