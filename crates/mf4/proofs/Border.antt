@@ -195,7 +195,7 @@ pub mf4-write-value-arguments : (κs : Lfts 1) (recordIdSize : ℕ) (channel : M
     ≡ (returned y after ≡ returnedBy storedC (valueWritten (bytes .now) recordIdSize (channelGiven channel) (numberGiven value)))
 mf4-write-value-arguments κs recordIdSize channel value bytes y after = refl
 
--- proved by a walk of its own
+-- proved by hand
 abbrev pub mf4-first-overlap-clauses : ClausesIn mf4-first-overlap.ended
 mf4-first-overlap-clauses w = mf4-first-overlap.clauses (w .𝓤) (w .H) (w .𝓖 .A) (w .𝓜 .mem) (w .𝓡 .run)
 

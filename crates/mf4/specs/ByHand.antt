@@ -1,4 +1,4 @@
--- The clause of a call that is proved by a walk of its own: `Kinds` and `Reads` are not made of it, but `ended` and `clauses` are.
+-- The clause of a call that is proved by hand: `Kinds` and `Reads` are not made of it, but `ended` and `clauses` are.
 use mathlib.Core.Path.{_≡_}
 use contract.Lifetimes.{Lfts}
 use contract.Monad.{fact}

@@ -1,6 +1,6 @@
--- `mf4_first_overlap` meets its contract: a walk through its code with its loop, since it is lent structs. In a turn two
--- entries are read, and `step` is asked where the search stands then. What is true of numbers and lists is in `Steps` of
--- `overlaps`: `Ok` holds at the loop's head, and `toGo` falls.
+-- `mf4_first_overlap` meets its contract. It is lent structs, so it is proved by hand: a walk through its code with its loop. In
+-- a turn two entries are read, and `step` is asked where the search stands then. What is true of numbers and lists is in
+-- `Steps` of `overlaps`: `Ok` holds at the loop's head, and `toGo` falls.
 use mathlib.Core.Path.{_≡_, refl, sym, ap, _∙_, subst}
 use mathlib.Core.Bool.{Bool, true, false, not}
 use mathlib.Core.WellFounded.{WellFounded, InvImage·wf}
@@ -22,7 +22,7 @@ use prog.Wp.{Heap, Out, Env, afterSeq, afterBlock, afterTurn, Calls, Loops, Wp, 
 use ghost.Atoms.{Atoms, sem}
 use contract.Monad.{Fun, fact}
 use contract.Running.{givenOf, tables, tablesOf}
-use types.Kit.{Given, Item, ‵, raw, _⊛_, ⋆, some, later, runs, anyQ, atRet, Sq, _$_, _∵_, !, qed, by, move, keep, drop, use1, use3, split, join, pick, rewrite, fsplit, fjoin, suffices, frame, await, done}
+use types.Kit.{Given, Go, Goal, Soaks, Step as Rule, step as rule, Item, ‵, raw, _⊛_, ⋆, some, later, runs, anyQ, atRet, Sq, _$_, _∵_, !, qed, by, move, keep, drop, use1, use3, split, join, pick, rewrite, fsplit, fjoin, suffices, frame, await, done}
 use types.Part.{whole, sub, look-in}
 use types.Run.{look, store, init, forget, stop, hop, fld, from, load, lit, of-opd, bin, and-then, no-more, assigns, land, land-last, first, skips, jumps, blocks, branches, returns, enter, alloc1, alloc0, params1, pass1, pass0, free1, free0, exec, Below, again, loops}
 use sound.WpLaws.{FmC, fmOf, WpFn-mono}
@@ -245,6 +245,32 @@ module _ {M : Type 1} (𝓤 : URA M) (H : Heap 𝓤) (A : Atoms 𝓤) (W : Given
   channel-typed : (d : Mf4Channel) → Is ChannelR d (channelVals d) → T (hasTy channelTy (channelVal d)) × WT (channelVal d)
   channel-typed d is = LL.lawful channel.the-type channel-laws.the-laws 𝓤 H A W .typed d (channelVals d) is .0
 
+  -- entry i in its place of the slice
+  abbrev Element : Share → ℕ → Item 𝓤
+  Element q′ i = ‵ (fat q′ channelTy b (place-at 32 o i) (channelVal (entry i)))
+
+  -- the slice is opened at entry i. Beside that stands what is left of the slice, and the two shut it again
+  opens-entry : (i : ℕ) → i < n → {Γ : List (Item 𝓤)} {G : Goal 𝓤 H} → Soaks G
+      → ((q′ : Share) (left : Item 𝓤) → Is ChannelR (entry i) (channelVals (entry i))
+      → ((Δ : List (Item 𝓤)) (F : Goal 𝓤 H) → Soaks F → Rule (Go {0}) W (Token ∷ ‵ Lent ∷ Δ) F (Element q′ i ∷ left ∷ Δ) F)
+      → Sq W (Element q′ i ∷ left ∷ Γ) G)
+      → Sq W (Token ∷ ‵ Lent ∷ Γ) G
+  opens-entry i l z k =
+      split ! $ move ! (2 ∷ []) $ fsplit ! $ move ! (1 ∷ []) $ fsplit ! $ move ! (1 ∷ 3 ∷ []) $
+      looks-slice ! z ChannelR (Is ChannelR) (shows 𝓤 H A ChannelR) channelVals
+      (LL.tells channel.the-type channel-laws.the-laws) (LL.copy channel.the-type channel-laws.the-copy 𝓤 H A W) ys b o
+      (λ q′. elem-out ! ChannelR (Is ChannelR) (shows 𝓤 H A ChannelR) channelVals
+      (LL.tells channel.the-type channel-laws.the-laws) q′ ys i blank b o l (λ is.
+      use1 W (Element q′ i) (W .laws .raw-at q′ channelTy b (place-at 32 o i) (channelVal (entry i))) $
+      -- what it owns, the others, what shuts the slice, its borrow, its name and its fact
+      move ! (1 ∷ 2 ∷ 3 ∷ 4 ∷ 5 ∷ 6 ∷ 7 ∷ []) $ join ! $ join ! $ join ! $ join ! $ join ! $ join ! $ move ! (1 ∷ []) $
+      k q′ _ is (λ Δ F soaks. rule (λ s.
+      move ! (1 ∷ []) $ split ! $ split ! $ split ! $ split ! $ split ! $ split ! $ move ! (7 ∷ []) $
+      use1 W (‵ (cellAt q′ (ChannelR .mir) (channelVals (entry i)) b (place-at 32 o i)))
+      (W .laws .at-raw q′ channelTy b (place-at 32 o i) (channelVal (entry i))) $
+      elem-back ! ChannelR q′ ys i blank (channelVals (entry i)) b o l $ shuts-slice ! soaks ChannelR q′ ys b o $
+      move ! (2 ∷ 1 ∷ []) $ fjoin ! $ move ! (2 ∷ 0 ∷ []) $ fjoin ! $ move ! (1 ∷ 2 ∷ []) $ join ! $ s))))
+
   abbrev args : Vals f.signature (κ, tt)
   args = (sliceV ∷ [], tt)
 
@@ -356,20 +382,9 @@ module _ {M : Type 1} (𝓤 : URA M) (H : Heap 𝓤) (A : Atoms 𝓤) (W : Given
             assigns ! (bin ! (load ! (from ! (fld ! refl (stop !))) (look-in ! 22 (sub ! 0 refl (whole !))))
             (load ! (from ! (stop !)) (look ! 12 refl)) tt) (from ! (stop !)) (init ! 10 refl (tt, tt)) $
             rewrite ! 10 (λ (p : ℕ). ‵ (fat fullShare tyPtr l₇ 0 (vptr b p))) (sym (place-is 32 o i)) refl $
-            split ! $ move ! (2 ∷ []) $ fsplit ! $ move ! (1 ∷ []) $ fsplit ! $ move ! (1 ∷ 3 ∷ []) $
-            looks-slice ! tt ChannelR (Is ChannelR) (shows 𝓤 H A ChannelR) channelVals
-            (LL.tells channel.the-type channel-laws.the-laws) (LL.copy channel.the-type channel-laws.the-copy 𝓤 H A W) ys b o
-            (λ q′. elem-out ! ChannelR (Is ChannelR) (shows 𝓤 H A ChannelR) channelVals
-            (LL.tells channel.the-type channel-laws.the-laws) q′ ys i blank b o (in-i go) (λ is-i.
-            -- in front stand the element, what it owns, the others, what shuts the slice, its borrow, its name and its fact
-            use1 W (‵ (fat q′ channelTy b (place-at 32 o i) (channelVal one)))
-            (W .laws .raw-at q′ channelTy b (place-at 32 o i) (channelVal one)) $
-            assigns ! (of-opd ! (load ! (from ! (hop ! (look ! 16 refl) (stop !))) (look ! 0 refl))) (from ! (stop !))
-            (init ! 14 refl (channel-typed one is-i)) $
-            use1 W (‵ (cellAt q′ (ChannelR .mir) (channelVals one) b (place-at 32 o i)))
-            (W .laws .at-raw q′ channelTy b (place-at 32 o i) (channelVal one)) $
-            elem-back ! ChannelR q′ ys i blank (channelVals one) b o (in-i go) $ shuts-slice ! tt ChannelR q′ ys b o $
-            move ! (2 ∷ 1 ∷ []) $ fjoin ! $ move ! (2 ∷ 0 ∷ []) $ fjoin ! $ move ! (1 ∷ 2 ∷ []) $ join ! $
+            opens-entry i (in-i go) tt (λ q′ left is-i shuts.
+            assigns ! (of-opd ! (load ! (from ! (hop ! (look ! 10 refl) (stop !))) (look ! 0 refl))) (from ! (stop !))
+            (init ! 8 refl (channel-typed one is-i)) $ shuts _ _ tt $
             -- entry `second`
             assigns ! (bin ! (load ! (from ! (fld ! refl (stop !))) (look-in ! 20 (sub ! 3 refl (whole !)))) (lit ! tt)
             (record { fits = fits n j (gn .1) (in-j go) })) (from ! (stop !)) (init ! 6 refl
@@ -377,19 +392,9 @@ module _ {M : Type 1} (𝓤 : URA M) (H : Heap 𝓤) (A : Atoms 𝓤) (W : Given
             assigns ! (bin ! (load ! (from ! (fld ! refl (stop !))) (look-in ! 22 (sub ! 0 refl (whole !))))
             (load ! (from ! (stop !)) (look ! 6 refl)) tt) (from ! (stop !)) (init ! 4 refl (tt, tt)) $
             rewrite ! 4 (λ (p : ℕ). ‵ (fat fullShare tyPtr l₁₀ 0 (vptr b p))) (sym (place-is 32 o j)) refl $
-            split ! $ move ! (2 ∷ []) $ fsplit ! $ move ! (1 ∷ []) $ fsplit ! $ move ! (1 ∷ 3 ∷ []) $
-            looks-slice ! tt ChannelR (Is ChannelR) (shows 𝓤 H A ChannelR) channelVals
-            (LL.tells channel.the-type channel-laws.the-laws) (LL.copy channel.the-type channel-laws.the-copy 𝓤 H A W) ys b o
-            (λ q′. elem-out ! ChannelR (Is ChannelR) (shows 𝓤 H A ChannelR) channelVals
-            (LL.tells channel.the-type channel-laws.the-laws) q′ ys j blank b o (in-j go) (λ is-j.
-            use1 W (‵ (fat q′ channelTy b (place-at 32 o j) (channelVal two)))
-            (W .laws .raw-at q′ channelTy b (place-at 32 o j) (channelVal two)) $
-            assigns ! (of-opd ! (load ! (from ! (hop ! (look ! 10 refl) (stop !))) (look ! 0 refl))) (from ! (stop !))
-            (init ! 8 refl (channel-typed two is-j)) $
-            use1 W (‵ (cellAt q′ (ChannelR .mir) (channelVals two) b (place-at 32 o j)))
-            (W .laws .at-raw q′ channelTy b (place-at 32 o j) (channelVal two)) $
-            elem-back ! ChannelR q′ ys j blank (channelVals two) b o (in-j go) $ shuts-slice ! tt ChannelR q′ ys b o $
-            move ! (2 ∷ 1 ∷ []) $ fjoin ! $ move ! (2 ∷ 0 ∷ []) $ fjoin ! $ move ! (1 ∷ 2 ∷ []) $ join ! $
+            opens-entry j (in-j go) tt (λ q′ left is-j shuts.
+            assigns ! (of-opd ! (load ! (from ! (hop ! (look ! 4 refl) (stop !))) (look ! 0 refl))) (from ! (stop !))
+            (init ! 2 refl (channel-typed two is-j)) $ shuts _ _ tt $
             -- the step
             owned ! ChannelR (Is ChannelR) (LL.makes channel.the-type channel-laws.the-plain 𝓤 H A) two _ is-j $
             owned ! ChannelR (Is ChannelR) (LL.makes channel.the-type channel-laws.the-plain 𝓤 H A) one _ is-i $ join ! $
@@ -414,7 +419,7 @@ module _ {M : Type 1} (𝓤 : URA M) (H : Heap 𝓤) (A : Atoms 𝓤) (W : Given
             forget ! 16 refl $
             again ! Nearer At k
             (r, (search-is r u is, subst (Ok channelGiven blank ys) (sym e) (step-ok channelGiven blank ys s (at go))))
-            (subst (λ (x : Search). toGo x < toGo s) (sym e) (nearer channelGiven blank ys s (at go) (is-true _ go))))))))))))
+            (subst (λ (x : Search). toGo x < toGo s) (sym e) (nearer channelGiven blank ys s (at go) (is-true _ go))))))))))
             -- it is finished: the loop is left
             (λ over. jumps ! $ exec ! C Λ En code-mir.t-4 (atRet En Post) $
             owned ! SearchR (Is SearchR) (LL.makes search.the-type search-laws.the-plain 𝓤 H A) s _ (k .1 .0) $
