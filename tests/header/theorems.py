@@ -6,8 +6,8 @@ from pathlib import Path
 THEOREM = re.compile(r"^pub ([\w-]+-(?:fields|arguments)) : (.*?)\n\1 ", re.M | re.S)
 FIELDS = re.compile(r"\(s : \w+\) → ([\w-]+)\.struct \.as-values s ≡ (.*)")
 ARGUMENTS = re.compile(r".* → Allows \d+ ([\w-]+)-kinds\.ps \1-kinds\.r \1\.Learnt κs (.*) y \(.*\) ≡ \(.*\)")
-# The same of a call whose proof is a walk of its own.
-WALKED = re.compile(r".* → Says ([\w-]+)\.ended \1-clauses κs (.*) y \(.*\) \(y ≡ .*\)")
+# The same of a call that is proved by hand.
+BY_HAND = re.compile(r".* → Says ([\w-]+)\.ended \1-clauses κs (.*) y \(.*\) \(y ≡ .*\)")
 
 # A word of the proof language cannot name an argument there.
 NAMED_OTHERWISE = {"record": "bytes"}
@@ -44,7 +44,7 @@ def stated(paths):
     text = "\n".join(Path(path).read_text(encoding="utf-8") for path in paths)
     for name, statement in THEOREM.findall(text):
         statement = " ".join(statement.split())
-        patterns = [FIELDS] if name.endswith("-fields") else [ARGUMENTS, WALKED]
+        patterns = [FIELDS] if name.endswith("-fields") else [ARGUMENTS, BY_HAND]
         found = next(filter(None, (pattern.fullmatch(statement) for pattern in patterns)), None)
         theorems[name] = re.sub(r"s \.«?(\w+)»?", r"\1", f"{found[1]} {found[2]}") if found else statement
     return theorems
