@@ -1,5 +1,5 @@
--- What `Sole` asks of every call, of one that is proved by a walk of its own: its statement determines its reply and every lent
--- byte afterwards.
+-- What `Sole` asks of every call, of one that is proved by hand: its statement determines its reply and every lent byte
+-- afterwards.
 use mathlib.Core.Path.{_≡_}
 use contract.Lifetimes.{Lfts}
 use contract.Notation.{connectives}
