@@ -6,7 +6,7 @@ use Prim.Native.Nat.{ℕ, _+_, _^_, _<_}
 use Rattle.definitions.specs.Reply.{Reply, answer, refusal, if_then_else_}
 use Rattle.definitions.specs.Bytes.{Order, little, big, fieldSet}
 use Rattle.definitions.specs.Unicode.{latin1, utf8, utf16}
-use Rattle.definitions.specs.DataType.{DataType, unsignedInteger, signedInteger, float, complex, string, byteArray, mimeSample, mimeStream, canOpenDate, canOpenTime, unknown, orderOf}
+use Rattle.definitions.specs.DataType.{DataType, unsignedInteger, signedInteger, float, complex, string, byteArray, mimeSample, mimeStream, canOpenDate, canOpenTime, unknown}
 use Rattle.definitions.specs.Channel.{Channel, Value, variableLength, valueOf}
 use Rattle.definitions.specs.WrittenValue.{Given, otherKind, typeField, fieldGiven, valueWritten}
 use Rattle.refusals.specs.Meaning.{refused}
@@ -20,6 +20,7 @@ use Rattle.fields.specs.declared.form.Form.the-variants.{Number, Other}
 use Rattle.fields.specs.declared.form.Content.{Content}
 use Rattle.fields.specs.declared.field.FieldFound.{FieldFound}
 use Rattle.fields.specs.declared.field.FieldFound.the-variants.{Field, Refused}
+use Rattle.fields.proofs.Forms.{number-order}
 use Rattle.fields.proofs.Fields.{number-sound, readable}
 use Rattle.fields.proofs.Values.{looked-for, refused-as, sound-at}
 use Rattle.encoder.specs.Meaning.{bitsReply, numberField, outcome}
@@ -52,30 +53,6 @@ field-form mimeStream count v = refl
 field-form canOpenDate count v = refl
 field-form canOpenTime count v = refl
 field-form (unknown code) count v = refl
-
--- the order of a number's form is its type's; of another form none is asked
-abbrev pub orderIn : Form → Order → Order
-orderIn (Number number b) o = orderMeant b
-orderIn (Other content) o = o
-
-pub order-form : (t : DataType) → orderIn (formOf t) (orderOf t) ≡ orderOf t
-order-form (unsignedInteger little) = refl
-order-form (unsignedInteger big) = refl
-order-form (signedInteger little) = refl
-order-form (signedInteger big) = refl
-order-form (float little) = refl
-order-form (float big) = refl
-order-form (complex o) = refl
-order-form (string latin1) = refl
-order-form (string utf8) = refl
-order-form (string (utf16 little)) = refl
-order-form (string (utf16 big)) = refl
-order-form byteArray = refl
-order-form mimeSample = refl
-order-form mimeStream = refl
-order-form canOpenDate = refl
-order-form canOpenTime = refl
-order-form (unknown code) = refl
 
 -- ---- what is asked of the value
 
@@ -146,7 +123,7 @@ module _ (s : List ℕ) (idSize : ℕ) (c : Channel) (v : Given) where
             case = record {
               bits = by-number field eb ∙ ap bitsReply ex;
               start = subst (FieldPlaced (idSize + c .byteOffset) m) e placed .0 ∙ ap (λ (t : Bool). if t then 0 else (idSize + c .byteOffset)) (sym fixed);
-              order = ap (λ (f : Form). orderIn f (orderOf (c .dataType))) (sym en ∙ ef) ∙ order-form (c .dataType);
+              order = number-order (c .dataType) (sym ef ∙ en);
               bounds = bounds;
               below = stands (c .bitCount) x (bounds .some) number v (λ f. l) (sound .width) (sym eb ∙ ap bitsReply ex) .below;
             };

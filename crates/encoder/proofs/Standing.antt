@@ -6,7 +6,7 @@ use native.Mathlib.Omega.{arith}
 use lib.IntN.{ℤ, pos, negsuc}
 use lib.Dec.{ltb, eqb}
 use borrow.Author.Tests.{ltb-true, ltb-false, lt-ltb, le-ltb, eqb-true, eqb-false}
-use Rattle.definitions.specs.Reply.{Reply, answer, refusal, if_then_else_}
+use Rattle.definitions.specs.Reply.{answer, if_then_else_}
 use Rattle.definitions.specs.Bytes.{twosComplement}
 use Rattle.definitions.specs.Ieee754.{widened, narrowed, narrows}
 use Rattle.definitions.specs.Channel.{Value, unsigned, signed, double, text, bytes, sample, stream, unknownValue, doubleValue, floatBits, isFloating}

@@ -1,4 +1,5 @@
--- When each call answers, exactly, and that a buffer of a known room always suffices for a text: about each call's own clause.
+-- When each call answers, exactly, and that a buffer of a known room always suffices for a text: about each call's own clause. Of
+-- payloads `PayloadsByCalls` has it, of a number that is written `WrittenValuesByCalls`.
 use mathlib.Core.Path.{_≡_, sym, ap, _∙_}
 use mathlib.Core.List.{List}
 use Prim.Native.Nat.{ℕ, _≤_}

@@ -1,4 +1,5 @@
--- When each call for C replies 0, exactly: about its own clause.
+-- When each call for C replies 0, exactly: about its own clause. Of payloads `PayloadsToC` has it, of a number that is written
+-- `WrittenValuesToC`, and of an overlap `OverlapsToC`.
 use mathlib.Core.Path.{_≡_, refl, sym, _∙_}
 use mathlib.Core.Bool.{Bool, true, false}
 use mathlib.Core.List.{List}

@@ -1,5 +1,6 @@
 -- What a call leaves of the buffer that it is lent. Where it refuses: every byte, but for a record that was fetched before its
--- field was refused. Where it answers: every byte behind those that it reports as written.
+-- field was refused. Where it answers: every byte behind those that it reports as written. Of payloads `PayloadEnds` says it, of a
+-- number that is written `WrittenEnds` and `WrittenValues`.
 use mathlib.Core.Path.{_≡_, refl, sym, ap, _∙_, subst}
 use mathlib.Core.Bool.{Bool, true, false}
 use mathlib.Core.List.{List, _++_}

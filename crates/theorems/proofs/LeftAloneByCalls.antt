@@ -1,5 +1,6 @@
 -- What each call that is lent a buffer leaves there: where it refuses, every byte; where it answers, every byte behind those that
--- it reports. A field that is refused leaves the record that was fetched. Each theorem is about the call's own clause.
+-- it reports. A field that is refused leaves the record that was fetched. Each theorem is about the call's own clause. Of payloads
+-- `PayloadsByCalls` has it, of a number that is written `WrittenValuesByCalls`.
 use mathlib.Core.Path.{_≡_, sym, ap, _∙_, subst}
 use mathlib.Core.List.{List, _++_}
 use Prim.Native.Nat.{ℕ, _*_, _<_}

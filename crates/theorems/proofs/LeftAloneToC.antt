@@ -1,5 +1,6 @@
 -- What each call for C leaves in the buffer that it is lent: where its reply is not 0, every byte; where it is 0, every byte
--- behind those that it reports. A reply of 1 leaves the record that was fetched. Each theorem is about the call's own clause.
+-- behind those that it reports. A value's reply from 18 on leaves the record that was fetched. Each theorem is about the call's own
+-- clause. Of payloads `PayloadsToC` has it, of a number that is written `WrittenValuesToC`.
 use mathlib.Core.Path.{_≡_, refl, sym, ap, _∙_, subst}
 use mathlib.Core.Logic.{_⊎_, inl, inr}
 use mathlib.Core.List.{List, _++_}
@@ -83,7 +84,7 @@ record-read-spares κs file start number size out =
     sparing fetchedC (λ (y : Mf4Fetched). y .reply) (λ y. size) (λ u. size) (λ u. refl) (λ u. refl)
     _ (out .now) (fetch-leaves (out .now) (file .now) start number size)
 
--- ---- a value of a record: a reply from 1 to 17 leaves every byte, and else the record is in the buffer's front
+-- ---- a value of a record: a reply from 2 to 17 leaves every byte, and else the record is in the buffer's front
 
 module _ (κs : Lfts 2) (file : Slice) (start number size idSize dataBytes : ℕ) (channel : Mf4Channel) (out : Slice) where
   abbrev given : Outcome ValidValue

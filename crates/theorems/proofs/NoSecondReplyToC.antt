@@ -1,4 +1,5 @@
--- No call for C has a second reply: each theorem is about the very clause of the call's contract.
+-- No call for C has a second reply: each theorem is about the very clause of the call's contract. That of the one call that is
+-- proved by hand is in `OverlapsToC`.
 use mathlib.Core.Path.{_≡_, refl, sym, ap, _∙_}
 use mathlib.Core.List.{List}
 use Prim.Native.Nat.{ℕ}

@@ -8,7 +8,7 @@ use Prim.Native.Nat.{ℕ, suc, _-_, _^_}
 use lib.IntN.{pos, negsuc}
 use lib.Dec.{ltb, leb, eqb}
 use borrow.Author.Tests.{lt-ltb, ltb-true, eq-eqb, eqb-true, eqb-false}
-use Rattle.definitions.specs.Reply.{Reply, Outcome, answer, refusal, if_then_else_}
+use Rattle.definitions.specs.Reply.{Reply, Outcome, answer, refusal}
 use Rattle.definitions.specs.Ieee754.{narrowed, narrows}
 use Rattle.definitions.specs.DataType.{DataType, unsignedInteger, signedInteger, float, complex, string, byteArray, mimeSample, mimeStream, canOpenDate, canOpenTime, unknown}
 use Rattle.definitions.specs.Channel.{Channel, Value, variableLength, valueOf}

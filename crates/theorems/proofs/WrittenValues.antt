@@ -28,14 +28,14 @@ use Rattle.fields.specs.declared.form.Form.{Form}
 use Rattle.fields.specs.declared.form.Form.the-variants.{Number, Other}
 use Rattle.fields.specs.declared.form.Content.{Content}
 use Rattle.fields.specs.declared.form.Content.the-variants.{Text, ByteArray, MimeSample, MimeStream, Undecoded}
-use Rattle.fields.proofs.Forms.{kind-form, value-form, is-number, other-number}
+use Rattle.fields.proofs.Forms.{kind-form, value-form, number-order, is-number, other-number}
 use Rattle.fields.proofs.Fields.{inTurn, tested, value-tested}
 use Rattle.fields.proofs.Locality.{locality}
 use Rattle.fields.proofs.OneBit.{one-bit}
 use Rattle.decoder.proofs.Doubles.{double-fixed}
 use Rattle.encoder.specs.Meaning.{valueGiven, numberField}
 use Rattle.encoder.proofs.Standing.{kindIn, stands, made-again}
-use Rattle.encoder.proofs.Choosing.{formField, field-form, orderIn, order-form, fixed-given}
+use Rattle.encoder.proofs.Choosing.{formField, field-form, fixed-given}
 use Rattle.theorems.specs.Exactly.{Legal, FieldStands, Writable}
 use Rattle.theorems.specs.WrittenValue.{WrittenEnds, not-decoded, other-kind, does-not-fit, is-written, IsNumber, Sized, recordPlace, DecodesTo, SameOutside}
 use Rattle.theorems.proofs.Answers.{value-exactly}
@@ -121,7 +121,7 @@ module _ (s : List ℕ) (idSize : ℕ) (c : Channel) (field : FieldStands s idSi
       let k : Kind = kindOf (c .dataType) in
       let ek : numberKind number ≡ k = sym (ap formKind ef) ∙ kind-form (c .dataType) in
       let is : isNumber k ≡ true = ap isNumber (sym ek) ∙ is-number number in
-      let order : orderMeant b ≡ orderOf (c .dataType) = ap (λ (f : Form). orderIn f (orderOf (c .dataType))) (sym ef) ∙ order-form (c .dataType) in
+      let order : orderMeant b ≡ orderOf (c .dataType) = number-order (c .dataType) ef in
       let there = value-exactly s idSize c .answers field in
       record {
         old = there .0;

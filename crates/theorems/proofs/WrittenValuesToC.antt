@@ -122,9 +122,10 @@ module _ (κs : Lfts 1) (idSize : ℕ) (channel : Mf4Channel) (value : Mf4Number
 
     -- the way in which it ends: a refusal changes nothing
     pub mf4-write-value-ends : (o : Outcome (Unit {0})) × (WrittenEnds (bytes .now) idSize (channelGiven channel) (numberGiven value) o × (y ≡ storedC (o .reply)) × (after ≡ o .buffer))
-    mf4-write-value-ends =
-        (valueWritten (bytes .now) idSize (channelGiven channel) (numberGiven value),
-        (value-ends (bytes .now) idSize (channelGiven channel) (numberGiven value), ap (λ (x : Returned Mf4Stored). x .result) p, same-buffer))
+    mf4-write-value-ends = (
+      valueWritten (bytes .now) idSize (channelGiven channel) (numberGiven value),
+      (value-ends (bytes .now) idSize (channelGiven channel) (numberGiven value), ap (λ (x : Returned Mf4Stored). x .result) p, same-buffer),
+    )
 
     module _ (b : Bytes (bytes .now)) (sized : value .number < 2 ^ 64) where
       fits : Sized (numberGiven value)
