@@ -1,30 +1,31 @@
 -- The ways to the field that is written to, and to each refusal.
 use mathlib.Core.Path.{_≡_, refl, sym, ap, ap₂, _∙_, subst}
-use mathlib.Core.Bool.{Bool, true, false}
+use mathlib.Core.Bool.{Bool, true, false, not, _&&_, _||_, true≢false}
 use mathlib.Core.List.{List}
 use Prim.Native.Nat.{ℕ, _+_, _^_, _<_}
+use native.Mathlib.Omega.{arith}
+use lib.ListN.{length}
+use lib.Dec.{ltb, eqb}
+use borrow.Author.Tests.{eqb-false}
 use Rattle.definitions.specs.Reply.{Reply, answer, refusal, if_then_else_}
-use Rattle.definitions.specs.Bytes.{Order, little, big, fieldSet}
+use Rattle.definitions.specs.Bytes.{Order, little, big, bytesFor, fieldSet}
 use Rattle.definitions.specs.Unicode.{latin1, utf8, utf16}
-use Rattle.definitions.specs.DataType.{DataType, unsignedInteger, signedInteger, float, complex, string, byteArray, mimeSample, mimeStream, canOpenDate, canOpenTime, unknown}
-use Rattle.definitions.specs.Channel.{Channel, Value, variableLength, valueOf}
+use Rattle.definitions.specs.DataType.{DataType, unsignedInteger, signedInteger, float, complex, string, byteArray, mimeSample, mimeStream, canOpenDate, canOpenTime, unknown, Kind}
+use Rattle.definitions.specs.Channel.{Channel, Value, variableLength, bitSpan, isInteger, isFloating, decoded, valueBy, valueOf}
 use Rattle.definitions.specs.WrittenValue.{Given, otherKind, typeField, fieldGiven, valueWritten}
-use Rattle.refusals.specs.Meaning.{refused}
+use Rattle.definitions.proofs.Replies.{not-answered, both}
 use Rattle.refusals.specs.declared.Refusal.{Refusal}
-use Rattle.refusals.specs.declared.Refusal.the-variants.{OtherKind}
-use Rattle.fields.specs.Form.{orderMeant, formOf, formKind, numberKind}
-use Rattle.fields.specs.Known.{valueAt, FieldBounds, Sound, FieldCase, FieldTold, FieldPlaced}
+use Rattle.fields.specs.Form.{orderMeant, formOf, numberKind}
+use Rattle.fields.specs.Known.{FieldBounds, Valued}
 use Rattle.fields.specs.declared.form.Number as numbers
 use Rattle.fields.specs.declared.form.Form.{Form}
 use Rattle.fields.specs.declared.form.Form.the-variants.{Number, Other}
 use Rattle.fields.specs.declared.form.Content.{Content}
-use Rattle.fields.specs.declared.field.FieldFound.{FieldFound}
-use Rattle.fields.specs.declared.field.FieldFound.the-variants.{Field, Refused}
-use Rattle.fields.proofs.Forms.{number-order}
-use Rattle.fields.proofs.Fields.{number-sound, readable}
-use Rattle.fields.proofs.Values.{looked-for, refused-as, sound-at}
+use Rattle.fields.proofs.Forms.{number-span, number-order}
+use Rattle.fields.proofs.Fields.{inTurn, readable as bounded, Asked, by-tests, number-there}
+use Rattle.fields.proofs.Values.{looked-for}
 use Rattle.encoder.specs.Meaning.{bitsReply, numberField, outcome}
-use Rattle.encoder.specs.Known.{Placed, ChosenCase, Chosen}
+use Rattle.encoder.specs.Known.{TakesNone, isReadable, Placed, ChosenCase, Chosen}
 use Rattle.encoder.specs.declared.bits.FieldBits.{FieldBits}
 use Rattle.encoder.specs.declared.bits.FieldBits.the-variants.{Bits, Refused as NoBits}
 use Rattle.encoder.specs.declared.encode.FieldChosen.{FieldChosen}
@@ -69,65 +70,101 @@ module _ (s : List ℕ) (idSize : ℕ) (c : Channel) (v : Given) where
   unfolding fieldGiven
   fixed-given e h = rw (e, h)
 
-  -- ---- a payload
+-- a test that was turned
+pub not-true : (t : Bool) → not t ≡ true → t ≡ false
+not-true true e = absurd (true≢false (sym e))
+not-true false e = refl
 
-  module _ {form : Form} {found : FieldFound} (payload : variableLength c ≡ true) (ef : form ≡ formOf (c .dataType))
-      (told : FieldTold (formKind form) (valueAt (formKind form) true s (0 + 0) c) s c found)
-    where
-      of-payload : valueAt (formKind form) true s (0 + 0) c ≡ valueOf s idSize c
-      of-payload = looked-for s idSize c ef (sym payload) refl refl
+pub not-false : (t : Bool) → not t ≡ false → t ≡ true
+not-false true e = refl
+not-false false e = absurd (true≢false e)
 
-      pub payload-refused : {r : Refusal} → found ≡ Refused r → fieldGiven s idSize c v ≡ refused r
-      payload-refused e = value-refused (sym of-payload ∙ refused-as told e)
+all-passed : (a b d e f : Bool) (size : ℕ) (v old : Value) → inTurn a b d e f size v ≡ answer old → (a ≡ false) × (b ≡ false) × (d ≡ false) × (e ≡ false) × (f ≡ false)
+all-passed true b d e f size v old h = not-answered old 18 0 h
+all-passed false true d e f size v old h = not-answered old 19 0 h
+all-passed false false true e f size v old h = not-answered old 20 0 h
+all-passed false false false true f size v old h = not-answered old 21 _ h
+all-passed false false false false true size v old h = not-answered old 22 0 h
+all-passed false false false false false size v old h = (refl, refl, refl, refl, refl)
 
-      pub payload-there : {at n : ℕ} → found ≡ Field at n → fieldGiven s idSize c v ≡ refused OtherKind
-      payload-there e = payload-given (sym of-payload ∙ subst (FieldCase (formKind form) _ s c) e (told .told) .value) payload
+module _ (s : List ℕ) (idSize : ℕ) (c : Channel) where
+  -- ---- where nothing can be written
 
-  -- ---- a field of the record
+  pub payload-takes-none : variableLength c ≡ true → TakesNone s idSize c
+  payload-takes-none h v old e = payload-given s idSize c v e h
 
-  module _ {form : Form} {found : FieldFound} (fixed : variableLength c ≡ false) (ef : form ≡ formOf (c .dataType))
-      (told : FieldTold (formKind form) (valueAt (formKind form) false s (idSize + c .byteOffset) c) s c found)
-    where
-      of-record : valueAt (formKind form) false s (idSize + c .byteOffset) c ≡ valueOf s idSize c
-      of-record = looked-for s idSize c ef (sym fixed) refl refl
+  pub other-takes-none : {form : Form} {content : Content} → variableLength c ≡ false → form ≡ formOf (c .dataType) → form ≡ Other content → TakesNone s idSize c
+  other-takes-none h ef eo v old e =
+      fixed-given s idSize c v e h ∙ field-form (c .dataType) (c .bitCount) v ∙ ap (λ (f : Form). formField f (c .bitCount) v) (sym ef ∙ eo)
 
-      pub none-found : {r : Refusal} → found ≡ Refused r → Chosen s idSize c v (chosen.Refused r)
-      none-found e = record { case = value-refused (sym of-record ∙ refused-as told e) }
+  -- ---- a number
 
-      module _ {at n : ℕ} (e : found ≡ Field at n) where
-        by-form : fieldGiven s idSize c v ≡ formField form (c .bitCount) v
-        by-form =
-            fixed-given (sym of-record ∙ subst (FieldCase (formKind form) _ s c) e (told .told) .value) fixed
-            ∙ field-form (c .dataType) (c .bitCount) v ∙ ap (λ (f : Form). formField f (c .bitCount) v) (sym ef)
+  module _ (number : numbers.Number) (b : Bool) (fixed : variableLength c ≡ false) (en : formOf (c .dataType) ≡ Number number b) where
+    abbrev at : ℕ
+    at = idSize + c .byteOffset
 
-        pub no-number-found : {content : Content} → form ≡ Other content → Chosen s idSize c v (chosen.Refused OtherKind)
-        no-number-found eo = record { case = by-form ∙ ap (λ (f : Form). formField f (c .bitCount) v) eo }
+    abbrev k : Kind
+    k = numberKind number
 
-        module _ {number : numbers.Number} {b : Bool} (en : form ≡ Number number b) where
-          sound : Sound (numberKind number) s at n c
-          sound = number-sound en (sound-at told e)
+    -- the tests of decoding
+    asked : Asked number at (bitSpan c) s c (eqb (c .bitCount) 0) (ltb 7 (c .bitOffset)) (isInteger k && ltb 64 (c .bitCount)) (ltb (length s) (at + bitSpan c))
+        (isFloating k && not (eqb (c .bitCount) 32 || eqb (c .bitCount) 64))
+    asked = record { span = refl; bits = refl; offset = refl; word = refl; end = refl; width = refl }
 
-          pub bounds : FieldBounds s at (c .bitOffset) (c .bitCount)
-          bounds = readable number s at n c sound
+    value-is : valueBy k at (bitSpan c) s c ≡ valueOf s idSize c
+    value-is = ap (λ (n : ℕ). valueBy k at n s c) (number-span number false (length s) c) ∙ looked-for s idSize c {form = Number number b} {payload = false} (sym en) (sym fixed) refl refl
 
-          by-number : (field : FieldBits) → bitsReply field ≡ numberField number (c .bitCount) v → fieldGiven s idSize c v ≡ bitsReply field
-          by-number field eb = by-form ∙ ap (λ (f : Form). formField f (c .bitCount) v) en ∙ sym eb
+    -- a number of some bits reaches into as many bytes as hold them
+    same-end : eqb (c .bitCount) 0 ≡ false → ltb (length s) (at + bitSpan c) ≡ ltb (length s) (at + bytesFor (c .bitOffset) (c .bitCount))
+    same-end e =
+        let some : c .bitCount ≡ 0 → ⊥ = eqb-false (c .bitCount) 0 e in
+        let span : bitSpan c ≡ bytesFor (c .bitOffset) (c .bitCount) = omega (arith, some) in
+        ap (λ (n : ℕ). ltb (length s) (at + n)) span
 
-          pub bits-refused : (field : FieldBits) {r : Refusal} → bitsReply field ≡ numberField number (c .bitCount) v → field ≡ NoBits r
-              → Chosen s idSize c v (chosen.Refused r)
-          bits-refused field eb er = record { case = by-number field eb ∙ ap bitsReply er }
+    pub reads : isReadable (length s) idSize number c ≡ true → Valued k (valueOf s idSize c) s at (bitSpan c) c
+    reads e =
+        let a = both _ _ e in
+        let f = both _ _ (a .0) in
+        let d = both _ _ (f .0) in
+        let o = both _ _ (d .0) in
+        let some : eqb (c .bitCount) 0 ≡ false = not-true _ (o .0) in
+        subst (λ (r : Reply Value). Valued k r s at (bitSpan c) c) value-is
+        (number-there asked some (not-true _ (o .1)) (not-true _ (d .1)) (same-end some ∙ not-true _ (a .1)) (not-true _ (f .1)))
 
-          pub bits-chosen : (field : FieldBits) {x : ℕ} (m : ℕ) → bitsReply field ≡ numberField number (c .bitCount) v → field ≡ Bits x → x < 2 ^ 64
-              → FieldPlaced (idSize + c .byteOffset) m found → Chosen s idSize c v (chosen.Field at b x)
-          bits-chosen field {x = x} m eb ex l placed = record {
-            case = record {
-              bits = by-number field eb ∙ ap bitsReply ex;
-              start = subst (FieldPlaced (idSize + c .byteOffset) m) e placed .0 ∙ ap (λ (t : Bool). if t then 0 else (idSize + c .byteOffset)) (sym fixed);
-              order = number-order (c .dataType) (sym ef ∙ en);
-              bounds = bounds;
-              below = stands (c .bitCount) x (bounds .some) number v (λ f. l) (sound .width) (sym eb ∙ ap bitsReply ex) .below;
-            };
-          }
+    pub reads-none : isReadable (length s) idSize number c ≡ false → TakesNone s idSize c
+    reads-none e v old there =
+        let t =
+        all-passed (eqb (c .bitCount) 0) (ltb 7 (c .bitOffset)) (isInteger k && ltb 64 (c .bitCount)) (ltb (length s) (at + bitSpan c))
+        (isFloating k && not (eqb (c .bitCount) 32 || eqb (c .bitCount) 64)) (at + bitSpan c) (decoded (c .dataType) s at (bitSpan c) c) old
+        (sym (by-tests asked) ∙ value-is ∙ there) in
+        let end : ltb (length s) (at + bytesFor (c .bitOffset) (c .bitCount)) ≡ false = sym (same-end (t .0)) ∙ t .3 in
+        let holds : isReadable (length s) idSize number c ≡ true = rw (t .0, t .1, t .2, t .4, end) in
+        absurd (true≢false (sym holds ∙ e))
+
+    module _ (valued : Valued k (valueOf s idSize c) s at (bitSpan c) c) (v : Given) where
+      pub bounds : FieldBounds s at (c .bitOffset) (c .bitCount)
+      bounds = bounded number s at (bitSpan c) c (valued .sound)
+
+      by-number : (field : FieldBits) → bitsReply field ≡ numberField number (c .bitCount) v → fieldGiven s idSize c v ≡ bitsReply field
+      by-number field eb =
+          fixed-given s idSize c v (valued .value) fixed ∙ field-form (c .dataType) (c .bitCount) v
+          ∙ ap (λ (f : Form). formField f (c .bitCount) v) en ∙ sym eb
+
+      pub bits-refused : (field : FieldBits) {r : Refusal} → bitsReply field ≡ numberField number (c .bitCount) v → field ≡ NoBits r
+          → Chosen s idSize c v (chosen.Refused r)
+      bits-refused field eb er = record { case = by-number field eb ∙ ap bitsReply er }
+
+      pub bits-chosen : (field : FieldBits) {x : ℕ} → bitsReply field ≡ numberField number (c .bitCount) v → field ≡ Bits x → x < 2 ^ 64
+          → Chosen s idSize c v (chosen.Field at b x)
+      bits-chosen field {x = x} eb ex l = record {
+        case = record {
+          bits = by-number field eb ∙ ap bitsReply ex;
+          start = ap (λ (t : Bool). if t then 0 else (idSize + c .byteOffset)) (sym fixed);
+          order = number-order (c .dataType) en;
+          bounds = bounds;
+          below = stands (c .bitCount) x (bounds .some) number v (λ f. l) (valued .sound .width) (sym eb ∙ ap bitsReply ex) .below;
+        };
+      }
 
 -- ---- the whole
 

@@ -1,22 +1,36 @@
 -- What is known of the field that was chosen.
 use mathlib.Core.Path.{_≡_}
-use mathlib.Core.Bool.{Bool}
+use mathlib.Core.Bool.{Bool, not, _&&_, _||_}
 use mathlib.Core.List.{List}
-use Prim.Native.Nat.{ℕ, _^_, _<_}
+use Prim.Native.Nat.{ℕ, _+_, _^_, _<_}
+use lib.Dec.{ltb, eqb}
 use Rattle.definitions.specs.Reply.{answer}
+use Rattle.definitions.specs.Bytes.{bytesFor}
 use Rattle.definitions.specs.DataType.{orderOf}
-use Rattle.definitions.specs.Channel.{Channel, startOf}
-use Rattle.definitions.specs.WrittenValue.{Given, fieldGiven}
+use Rattle.definitions.specs.Channel.{Channel, Value, startOf, isInteger, isFloating, valueOf}
+use Rattle.definitions.specs.WrittenValue.{Given, otherKind, fieldGiven}
 use Rattle.refusals.specs.Meaning.{refused}
 use Rattle.refusals.specs.declared.Refusal.{Refusal}
-use Rattle.fields.specs.Form.{orderMeant}
+use Rattle.fields.specs.Form.{orderMeant, numberKind}
+use Rattle.fields.specs.declared.form.Number.{Number}
 use Rattle.fields.specs.Known.{FieldBounds}
 use Rattle.encoder.specs.declared.encode.FieldChosen.{FieldChosen}
 use Rattle.encoder.specs.declared.encode.FieldChosen.the-variants.{Field, Refused}
 
--- whatever is given, and whatever the size of a record id, which a payload has not
-abbrev pub AlwaysRefused : List ℕ → Channel → Refusal → Type 0
-AlwaysRefused s c r = (idSize : ℕ) (v : Given) → fieldGiven s idSize c v ≡ refused r
+-- no number goes into such a channel, where it has a value at all
+abbrev pub TakesNone : List ℕ → ℕ → Channel → Type 0
+TakesNone s idSize c = (v : Given) (old : Value) → valueOf s idSize c ≡ answer old → fieldGiven s idSize c v ≡ otherKind
+
+-- so whatever is given is refused
+abbrev pub AlwaysRefused : List ℕ → ℕ → Channel → Refusal → Type 0
+AlwaysRefused s idSize c r = (v : Given) → fieldGiven s idSize c v ≡ refused r
+
+-- a number's field passes all tests of decoding, in a record of l bytes
+abbrev pub isReadable : ℕ → ℕ → Number → Channel → Bool
+isReadable l idSize number c =
+    not (eqb (c .bitCount) 0) && not (ltb 7 (c .bitOffset)) && not (isInteger (numberKind number) && ltb 64 (c .bitCount))
+    && not (isFloating (numberKind number) && not (eqb (c .bitCount) 32 || eqb (c .bitCount) 64))
+    && not (ltb l (idSize + c .byteOffset + bytesFor (c .bitOffset) (c .bitCount)))
 
 -- the field lies at `at` in the order b, and x fits into it
 pub record Placed (s : List ℕ) (idSize : ℕ) (c : Channel) (v : Given) (at : ℕ) (b : Bool) (x : ℕ) : Type 0 where

@@ -1,23 +1,25 @@
 // A number written into a channel's field of a record.
 ghost use mathlib.Core.Path.{_≡_};
-ghost use mathlib.Core.Bool.{true};
 ghost use Prim.Native.Nat.{_^_, _<_};
 ghost use Rattle.definitions.specs.Bytes.{fieldSet};
-ghost use Rattle.definitions.specs.Channel.{variableLength};
 ghost use Rattle.definitions.specs.WrittenValue.{valueWritten};
 ghost use Rattle.fields.specs.Meaning.{channelMeant};
 ghost use Rattle.fields.specs.Form.{orderMeant};
 ghost use Rattle.fields.specs.Known.{FieldBounds};
 ghost use Rattle.encoder.specs.Meaning.{givenMeant, outcome};
-ghost use Rattle.encoder.specs.Known.{AlwaysRefused, Chosen};
+ghost use Rattle.encoder.specs.Known.{TakesNone, AlwaysRefused, isReadable, Chosen};
 use crate::bits::FieldBits;
 use crate::bits::number_bits;
 use crate::number::NumberGiven;
+use decoder::any_value;
 use fields::Channel;
-use fields::FieldFound;
 use fields::Form;
-use fields::find_field;
+use fields::Number;
+use fields::ValueRead;
+use fields::ends_outside;
 use fields::form_of;
+use fields::is_no_float_width;
+use fields::is_over_a_word;
 use refusals::Refusal;
 use words::put_field_be;
 use words::put_field_le;
@@ -63,18 +65,38 @@ impl FieldChosen {
     }
 }
 
-// A payload is tested as it would be decoded, and is then no field of a record.
-fn payload_refusal(payload: &[u8], channel: Channel) -> Refusal
-    requires { ⌜ variableLength (channelMeant channel) ≡ true ⌝ }
-    ensures { λ r. ⌜ AlwaysRefused (now (payload .entry)) (channelMeant channel) r ⌝ }
+// Where nothing can be written, whatever is given: what decoding refuses, and else the kind
+fn other_refusal(record: &[u8], record_id_size: usize, channel: Channel) -> Refusal
+    requires { ⌜ TakesNone (now «record») «record_id_size» (channelMeant channel) ⌝ }
+    ensures { λ r. ⌜ AlwaysRefused (now («record» .entry)) «record_id_size» (channelMeant channel) r ⌝ }
 {
-    let data_type = channel.data_type;
-    let form = form_of(data_type);
-    let found = find_field(payload, 0, 0, true, form, channel);
-    let FieldFound::Field { at: _, length: _ } = found else {
-        return found.refusal();
+    let read = any_value(record, record_id_size, channel);
+    let ValueRead::Value(_) = read else {
+        return read.refusal();
     };
     Refusal::OtherKind
+}
+
+// Whether a number's field passes all tests of decoding, in a record of `length` bytes. A refusal is left to the decoder: asked for
+// here as well, `find_field` would be compiled by itself, and every decoding by the general way would call it.
+fn is_readable(length: usize, record_id_size: usize, number: Number, channel: Channel) -> bool
+    ensures { λ r. ⌜ r ≡ isReadable length «record_id_size» number (channelMeant channel) ⌝ }
+{
+    let span = (channel.bit_offset as usize + channel.bit_count as usize + 7) / 8;
+    let byte_offset = channel.byte_offset as usize;
+    if channel.bit_count == 0 {
+        return false;
+    }
+    if 7 < channel.bit_offset {
+        return false;
+    }
+    if is_over_a_word(number, channel.bit_count) {
+        return false;
+    }
+    if is_no_float_width(number, channel.bit_count) {
+        return false;
+    }
+    !ends_outside(length, record_id_size, byte_offset, span)
 }
 
 // Nothing is written before all is tested: first what decoding would refuse, then the number given.
@@ -87,22 +109,21 @@ fn choose_field(
     ensures { λ r. ⌜ Chosen (now («record» .entry)) «record_id_size» (channelMeant channel) (givenMeant given) r ⌝ }
 {
     if channel.is_variable_length() {
-        return FieldChosen::Refused(payload_refusal(record, channel));
+        return FieldChosen::Refused(other_refusal(record, record_id_size, channel));
     }
     let data_type = channel.data_type;
     let form = form_of(data_type);
-    let byte_offset = channel.byte_offset as usize;
-    let found = find_field(record, record_id_size, byte_offset, false, form, channel);
-    let FieldFound::Field { at, length: _ } = found else {
-        return FieldChosen::Refused(found.refusal());
-    };
     let Form::Number(number, big_endian) = form else {
-        return FieldChosen::Refused(Refusal::OtherKind);
+        return FieldChosen::Refused(other_refusal(record, record_id_size, channel));
     };
+    if !is_readable(record.len(), record_id_size, number, channel) {
+        return FieldChosen::Refused(other_refusal(record, record_id_size, channel));
+    }
     let field = number_bits(number, channel.bit_count, given);
     let FieldBits::Bits(bits) = field else {
         return FieldChosen::Refused(field.refusal());
     };
+    let at = record_id_size + channel.byte_offset as usize;
     FieldChosen::Field {
         at,
         big_endian,
