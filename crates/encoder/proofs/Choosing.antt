@@ -6,7 +6,7 @@ use Prim.Native.Nat.{ℕ, _+_, _^_, _<_}
 use native.Mathlib.Omega.{arith}
 use lib.ListN.{length}
 use lib.Dec.{ltb, eqb}
-use borrow.Author.Tests.{eqb-false}
+use borrow.Author.Tests.{eqb-false, not-true}
 use Rattle.definitions.specs.Reply.{Reply, answer, refusal, if_then_else_}
 use Rattle.definitions.specs.Bytes.{Order, little, big, bytesFor, fieldSet}
 use Rattle.definitions.specs.Unicode.{latin1, utf8, utf16}
@@ -70,16 +70,8 @@ module _ (s : List ℕ) (idSize : ℕ) (c : Channel) (v : Given) where
   unfolding fieldGiven
   fixed-given e h = rw (e, h)
 
--- a test that was turned
-pub not-true : (t : Bool) → not t ≡ true → t ≡ false
-not-true true e = absurd (true≢false (sym e))
-not-true false e = refl
-
-pub not-false : (t : Bool) → not t ≡ false → t ≡ true
-not-false true e = refl
-not-false false e = absurd (true≢false e)
-
-all-passed : (a b d e f : Bool) (size : ℕ) (v old : Value) → inTurn a b d e f size v ≡ answer old → (a ≡ false) × (b ≡ false) × (d ≡ false) × (e ≡ false) × (f ≡ false)
+-- an answer has passed every test of decoding
+pub all-passed : (a b d e f : Bool) (size : ℕ) (v old : Value) → inTurn a b d e f size v ≡ answer old → (a ≡ false) × (b ≡ false) × (d ≡ false) × (e ≡ false) × (f ≡ false)
 all-passed true b d e f size v old h = not-answered old 18 0 h
 all-passed false true d e f size v old h = not-answered old 19 0 h
 all-passed false false true e f size v old h = not-answered old 20 0 h
@@ -142,7 +134,7 @@ module _ (s : List ℕ) (idSize : ℕ) (c : Channel) where
         absurd (true≢false (sym holds ∙ e))
 
     module _ (valued : Valued k (valueOf s idSize c) s at (bitSpan c) c) (v : Given) where
-      pub bounds : FieldBounds s at (c .bitOffset) (c .bitCount)
+      bounds : FieldBounds s at (c .bitOffset) (c .bitCount)
       bounds = bounded number s at (bitSpan c) c (valued .sound)
 
       by-number : (field : FieldBits) → bitsReply field ≡ numberField number (c .bitCount) v → fieldGiven s idSize c v ≡ bitsReply field

@@ -29,13 +29,13 @@ use Rattle.fields.specs.declared.form.Form.the-variants.{Number, Other}
 use Rattle.fields.specs.declared.form.Content.{Content}
 use Rattle.fields.specs.declared.form.Content.the-variants.{Text, ByteArray, MimeSample, MimeStream, Undecoded}
 use Rattle.fields.proofs.Forms.{kind-form, value-form, number-order, is-number, other-number}
-use Rattle.fields.proofs.Fields.{inTurn, tested, value-tested}
+use Rattle.fields.proofs.Fields.{tested, value-tested}
 use Rattle.fields.proofs.Locality.{locality}
 use Rattle.fields.proofs.OneBit.{one-bit}
 use Rattle.decoder.proofs.Doubles.{double-fixed}
 use Rattle.encoder.specs.Meaning.{valueGiven, numberField}
 use Rattle.encoder.proofs.Standing.{kindIn, stands, made-again}
-use Rattle.encoder.proofs.Choosing.{formField, field-form, fixed-given}
+use Rattle.encoder.proofs.Choosing.{formField, field-form, fixed-given, all-passed}
 use Rattle.theorems.specs.Exactly.{Legal, FieldStands, Writable}
 use Rattle.theorems.specs.WrittenValue.{WrittenEnds, not-decoded, other-kind, does-not-fit, is-written, IsNumber, Sized, recordPlace, DecodesTo, SameOutside}
 use Rattle.theorems.proofs.Answers.{value-exactly}
@@ -45,17 +45,11 @@ use Rattle.theorems.proofs.WrittenEnds.{written, value-ends}
 
 -- the tests of a field do not ask what stands in it
 passed-alike : (k : Kind) (at n l : ℕ) (c : Channel) (a b u : Value) → tested k at n l c a ≡ answer b → tested k at n l c u ≡ answer u
-passed-alike k at n l c a b u =
-    go (isNumber k && eqb (c .bitCount) 0) (isNumber k && ltb 7 (c .bitOffset)) (isInteger k && ltb 64 (c .bitCount)) (ltb l (at + n))
-    (isFloating k && not (eqb (c .bitCount) 32 || eqb (c .bitCount) 64))
-  where
-    go : (p q r t w : Bool) → inTurn p q r t w (at + n) a ≡ answer b → inTurn p q r t w (at + n) u ≡ answer u
-    go true q r t w h = not-answered b 18 0 h
-    go false true r t w h = not-answered b 19 0 h
-    go false false true t w h = not-answered b 20 0 h
-    go false false false true w h = not-answered b 21 _ h
-    go false false false false true h = not-answered b 22 0 h
-    go false false false false false h = refl
+passed-alike k at n l c a b u h =
+    let passed =
+    all-passed (isNumber k && eqb (c .bitCount) 0) (isNumber k && ltb 7 (c .bitOffset)) (isInteger k && ltb 64 (c .bitCount)) (ltb l (at + n))
+    (isFloating k && not (eqb (c .bitCount) 32 || eqb (c .bitCount) 64)) (at + n) a b h in
+    rw (passed .0, passed .1, passed .2, passed .3, passed .4)
 
 -- where a channel has a value, records of the same length have what stands in them
 stands-alike : (s t : List ℕ) (idSize : ℕ) (c : Channel) {old : Value} → length t ≡ length s → valueOf s idSize c ≡ answer old
