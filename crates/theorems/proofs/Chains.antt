@@ -1,0 +1,5 @@
+-- Which chains are accepted, and what follows of their blocks.
+pub mod BlocksStand
+pub mod ListsAlike
+pub mod AcceptedChains
+pub mod FoundByLength

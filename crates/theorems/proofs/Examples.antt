@@ -1,0 +1,3 @@
+-- The worked examples.
+pub mod WorkedExamples
+pub mod OverlapExamples

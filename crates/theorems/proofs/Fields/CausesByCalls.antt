@@ -1,0 +1,69 @@
+-- When each of 18 to 22 is given, exactly: about each call's own clause.
+use mathlib.Core.Path.{_≡_, sym, ap, _∙_, subst}
+use mathlib.Core.List.{List}
+use Prim.Native.Nat.{ℕ, _*_}
+use contract.Lifetimes.{Lfts}
+use Rattle.definitions.specs.Reply.{Reply, Outcome}
+use Rattle.definitions.specs.Bytes.{span}
+use Rattle.definitions.specs.Channel as channels
+use Rattle.definitions.specs.Channel.{ValidValue}
+use Rattle.definitions.specs.Chain.{joined}
+use Rattle.fields.specs.Meaning.{channelMeant, valueReply, validValueReply}
+use Rattle.fields.specs.declared.channel.Channel.{Channel}
+use Rattle.fields.specs.declared.value.ValueRead.{ValueRead}
+use Rattle.fields.specs.declared.value.ValidValueRead.{ValidValueRead}
+use Rattle.chain.specs.declared.place.FileAddress.{FileAddress}
+use Rattle.replies.specs.Values.{channelGiven}
+use Rattle.replies.specs.declared.channel.Mf4Channel.{Mf4Channel}
+use Rattle.replies.specs.declared.values.Mf4Value.{Mf4Value}
+use Rattle.replies.specs.declared.valid_values.Mf4ValidValue.{Mf4ValidValue}
+use Rattle.replies.proofs.ToldToC.{valueReplyAgain, validValueAgain}
+use Rattle.mf4.specs.Clauses.{Slice}
+use Rattle.theorems.specs.Exactly.{Fetchable}
+use Rattle.theorems.specs.Causes.{FieldReplies}
+use Rattle.theorems.specs.Clauses.{ReadsValue, ReadsValidValue, ReadsRecordValue}
+use Rattle.theorems.specs.ClausesToC.{ReadsValueC, ReadsValidValueC, ReadsRecordValueC}
+use Rattle.theorems.proofs.Calls.Answers.{value-of-record}
+use Rattle.theorems.proofs.Fields.Causes.{value-replies, valid-value-replies}
+use Rattle.theorems.proofs.Calls.ToldToC.{mf4-decode-value-told, mf4-decode-valid-value-told, mf4-record-value-told}
+
+-- a reply that is the definition's
+as-defined : {A : Type 0} {s : List ℕ} {idSize : ℕ} {c : channels.Channel} {r q : Reply A} → r ≡ q → FieldReplies s idSize c q → FieldReplies s idSize c r
+as-defined {s = s} {idSize = idSize} {c = c} e h = subst (FieldReplies s idSize c) (sym e) h
+
+pub value-read-replies : (κs : Lfts 1) (bytes : Slice) (idSize : ℕ) (channel : Channel) (y : ValueRead)
+    → ReadsValue κs bytes idSize channel y → FieldReplies (bytes .now) idSize (channelMeant channel) (valueReply y)
+value-read-replies κs bytes idSize channel y p = as-defined p (value-replies (bytes .now) idSize (channelMeant channel))
+
+pub valid-value-read-replies : (κs : Lfts 1) (bytes : Slice) (idSize dataBytes : ℕ) (channel : Channel) (y : ValidValueRead)
+    → ReadsValidValue κs bytes idSize dataBytes channel y → FieldReplies (bytes .now) idSize (channelMeant channel) (validValueReply y)
+valid-value-read-replies κs bytes idSize dataBytes channel y p = as-defined p (valid-value-replies (bytes .now) idSize dataBytes (channelMeant channel))
+
+-- of a record that can be fetched, on its own bytes
+pub record-value-replies : (κs : Lfts 2) (file : Slice) (start : FileAddress) (number size idSize dataBytes : ℕ) (channel : Channel) (out : Slice) (y : ValidValueRead) (after : List ℕ)
+    → ReadsRecordValue κs file start number size idSize dataBytes channel out y after → (h : Fetchable (file .now) (start .0) number size (out .now))
+    → FieldReplies (span (joined (file .now) (h .blocks)) (number * size) size) idSize (channelMeant channel) (validValueReply y)
+record-value-replies κs file start number size idSize dataBytes channel out y after p h =
+    as-defined (ap (λ (o : Outcome ValidValue). o .reply) p ∙ value-of-record (file .now) (start .0) number size (out .now) idSize dataBytes (channelMeant channel) h)
+    (valid-value-replies _ idSize dataBytes (channelMeant channel))
+
+-- ---- for C: of the reply that the struct tells
+
+pub mf4-decode-value-replies : (κs : Lfts 1) (bytes : Slice) (idSize : ℕ) (channel : Mf4Channel) (y : Mf4Value)
+    → ReadsValueC κs bytes idSize channel y → FieldReplies (bytes .now) idSize (channelGiven channel) (valueReplyAgain y)
+mf4-decode-value-replies κs bytes idSize channel y p =
+    as-defined (mf4-decode-value-told κs bytes idSize channel y p) (value-replies (bytes .now) idSize (channelGiven channel))
+
+pub mf4-decode-valid-value-replies : (κs : Lfts 1) (bytes : Slice) (idSize dataBytes : ℕ) (channel : Mf4Channel) (y : Mf4ValidValue)
+    → ReadsValidValueC κs bytes idSize dataBytes channel y → FieldReplies (bytes .now) idSize (channelGiven channel) (validValueAgain y)
+mf4-decode-valid-value-replies κs bytes idSize dataBytes channel y p =
+    as-defined (mf4-decode-valid-value-told κs bytes idSize dataBytes channel y p) (valid-value-replies (bytes .now) idSize dataBytes (channelGiven channel))
+
+pub mf4-record-value-replies : (κs : Lfts 2) (file : Slice) (start number size idSize dataBytes : ℕ) (channel : Mf4Channel) (out : Slice) (y : Mf4ValidValue) (after : List ℕ)
+    → ReadsRecordValueC κs file start number size idSize dataBytes channel out y after → (h : Fetchable (file .now) start number size (out .now))
+    → FieldReplies (span (joined (file .now) (h .blocks)) (number * size) size) idSize (channelGiven channel) (validValueAgain y)
+mf4-record-value-replies κs file start number size idSize dataBytes channel out y after p h =
+    as-defined
+    (mf4-record-value-told κs file start number size idSize dataBytes channel out y after p
+    ∙ value-of-record (file .now) start number size (out .now) idSize dataBytes (channelGiven channel) h)
+    (valid-value-replies _ idSize dataBytes (channelGiven channel))

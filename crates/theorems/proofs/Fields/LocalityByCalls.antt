@@ -1,0 +1,132 @@
+-- Two records that are alike in a fixed field give the same value and the same double, and with the invalidation bit the same
+-- validity. Two of one length are refused alike, whatever their bits. About each call's own clause.
+use mathlib.Core.Path.{_≡_, refl, sym, ap, ap₂, _∙_}
+use mathlib.Core.Bool.{Bool, true, false}
+use mathlib.Core.List.{List}
+use Prim.Native.Nat.{ℕ, _+_, _≤_, _<_}
+use contract.Lifetimes.{Lfts}
+use lib.ListN.{length, getD}
+use Rattle.definitions.specs.Reply.{Reply, answer, refusal, andThen}
+use Rattle.definitions.specs.Bytes.{bytesFor}
+use Rattle.definitions.specs.DataType.{kindOf, orderOf}
+use Rattle.definitions.specs.Channel.{Channel, Value, variableLength, spanIn, isNumber, valueOf, validValueOf, doubleIn, recordDouble}
+use Rattle.words.proofs.Numbers.{Bytes}
+use Rattle.words.proofs.Locality.{recordBit}
+use Rattle.fields.proofs.Locality.{locality, content-locality, refusal-locality}
+use Rattle.fields.proofs.OneBit.{invalidationBitIn, one-bit}
+use Rattle.decoder.proofs.Doubles.{double-fixed}
+use Rattle.fields.proofs.Back.{value-one, valid-value-one}
+use Rattle.fields.specs.Meaning.{channelMeant, valueReply, validValueReply}
+use Rattle.fields.specs.declared.channel.Channel.{Channel as Description}
+use Rattle.fields.specs.declared.value.ValueRead.{ValueRead}
+use Rattle.fields.specs.declared.value.ValidValueRead.{ValidValueRead}
+use Rattle.replies.proofs.ToldToC.{valueReplyAgain, validValueAgain}
+use Rattle.mf4.specs.Clauses.{Slice}
+use Rattle.theorems.specs.Clauses.{ReadsValue, ReadsValidValue, ChecksValidity, ReadsDouble}
+use Rattle.theorems.specs.ClausesToC.{ReadsValueC, ReadsValidValueC, ChecksValidityC, ReadsDoubleC}
+use Rattle.theorems.proofs.Fields.Causes.{refused-made, made-refused}
+use Rattle.theorems.proofs.Calls.ToldToC.{mf4-decode-value-told, mf4-decode-valid-value-told}
+use Rattle.replies.specs.Replies.{flagC}
+use Rattle.replies.specs.Values.{channelGiven, valueC, validValueC}
+use Rattle.replies.specs.declared.channel.Mf4Channel.{Mf4Channel}
+use Rattle.replies.specs.declared.values.Mf4Value.{Mf4Value}
+use Rattle.replies.specs.declared.valid_values.Mf4ValidValue.{Mf4ValidValue}
+
+-- records of one length, that hold a fixed field's bits alike, or its bytes where it is no number
+pub record Alike (s t : List ℕ) (idSize : ℕ) (c : Channel) : Type 0 where
+  pub fixed : variableLength c ≡ false
+  pub long : length s ≡ length t
+  pub bytes : Bytes s × Bytes t
+  pub number : isNumber (kindOf (c .dataType)) ≡ true → (k : ℕ) → c .bitOffset ≤ k → k < c .bitOffset + c .bitCount
+      → recordBit (orderOf (c .dataType)) s (idSize + c .byteOffset) (bytesFor (c .bitOffset) (c .bitCount)) k
+      ≡ recordBit (orderOf (c .dataType)) t (idSize + c .byteOffset) (bytesFor (c .bitOffset) (c .bitCount)) k
+  pub content : isNumber (kindOf (c .dataType)) ≡ false → (i : ℕ) → i < spanIn false (kindOf (c .dataType)) 0 c
+      → getD s (idSize + c .byteOffset + i) 0 ≡ getD t (idSize + c .byteOffset + i) 0
+
+module _ (s t : List ℕ) (idSize : ℕ) (c : Channel) (h : Alike s t idSize c) where
+  pub same-value : valueOf s idSize c ≡ valueOf t idSize c
+  same-value = go (isNumber (kindOf (c .dataType))) refl
+    where
+      go : (b : Bool) → isNumber (kindOf (c .dataType)) ≡ b → valueOf s idSize c ≡ valueOf t idSize c
+      go true e = locality s t idSize c (h .fixed) e (h .bytes .0) (h .bytes .1) (h .long) (h .number e)
+      go false e = content-locality s t idSize c (h .fixed) e (h .long) (h .content e)
+
+  pub same-double : recordDouble s idSize c ≡ recordDouble t idSize c
+  same-double = sym (double-fixed s idSize c (h .fixed)) ∙ ap doubleIn same-value ∙ double-fixed t idSize c (h .fixed)
+
+  -- with the invalidation bit alike, the value with its validity
+  pub same-valid-value : (dataBytes : ℕ) → invalidationBitIn s idSize dataBytes c ≡ invalidationBitIn t idSize dataBytes c
+      → validValueOf s idSize dataBytes c ≡ validValueOf t idSize dataBytes c
+  unfolding validValueOf
+  same-valid-value dataBytes e =
+      ap₂ (λ (r : Reply Value) (b : Bool). andThen r (λ v. answer (record { value = v; valid = b }))) same-value (one-bit s t idSize dataBytes c e)
+
+module _ (κs : Lfts 1) (s t : Slice) (idSize : ℕ) (channel : Description) (h : Alike (s .now) (t .now) idSize (channelMeant channel)) where
+  pub value-read-alike : (y z : ValueRead) → ReadsValue κs s idSize channel y → ReadsValue κs t idSize channel z → y ≡ z
+  value-read-alike y z p q = value-one y z (p ∙ same-value (s .now) (t .now) idSize (channelMeant channel) h ∙ sym q)
+
+  pub double-read-alike : (y z : ℕ) → ReadsDouble κs s idSize channel y → ReadsDouble κs t idSize channel z → y ≡ z
+  double-read-alike y z p q = p ∙ same-double (s .now) (t .now) idSize (channelMeant channel) h ∙ sym q
+
+  pub valid-value-read-alike : (dataBytes : ℕ) → invalidationBitIn (s .now) idSize dataBytes (channelMeant channel) ≡ invalidationBitIn (t .now) idSize dataBytes (channelMeant channel)
+      → (y z : ValidValueRead) → ReadsValidValue κs s idSize dataBytes channel y → ReadsValidValue κs t idSize dataBytes channel z → y ≡ z
+  valid-value-read-alike dataBytes e y z p q = valid-value-one y z (p ∙ same-valid-value (s .now) (t .now) idSize (channelMeant channel) h dataBytes e ∙ sym q)
+
+-- ---- a refusal
+
+module _ (s t : List ℕ) (idSize : ℕ) (c : Channel) (long : length s ≡ length t) (n m : ℕ) where
+  pub same-refusal : valueOf s idSize c ≡ refusal n m → valueOf t idSize c ≡ refusal n m
+  same-refusal e = refusal-locality s t idSize c n m long e
+
+  pub same-valid-refusal : (dataBytes : ℕ) → validValueOf s idSize dataBytes c ≡ refusal n m → validValueOf t idSize dataBytes c ≡ refusal n m
+  unfolding validValueOf
+  same-valid-refusal dataBytes e = refused-made _ (valueOf t idSize c) n m (same-refusal (made-refused _ (valueOf s idSize c) n m e))
+
+module _ (κs : Lfts 1) (s t : Slice) (idSize : ℕ) (channel : Description) (long : length (s .now) ≡ length (t .now)) (n m : ℕ) where
+  pub value-read-refused : (y z : ValueRead) → ReadsValue κs s idSize channel y → ReadsValue κs t idSize channel z
+      → valueReply y ≡ refusal n m → valueReply z ≡ refusal n m
+  value-read-refused y z p q e = q ∙ same-refusal (s .now) (t .now) idSize (channelMeant channel) long n m (sym p ∙ e)
+
+  pub valid-value-read-refused : (dataBytes : ℕ) (y z : ValidValueRead) → ReadsValidValue κs s idSize dataBytes channel y
+      → ReadsValidValue κs t idSize dataBytes channel z → validValueReply y ≡ refusal n m → validValueReply z ≡ refusal n m
+  valid-value-read-refused dataBytes y z p q e = q ∙ same-valid-refusal (s .now) (t .now) idSize (channelMeant channel) long n m dataBytes (sym p ∙ e)
+
+-- validity alone reads that one bit
+pub validity-alike : (κs : Lfts 1) (s t : Slice) (idSize dataBytes : ℕ) (channel : Description)
+    → invalidationBitIn (s .now) idSize dataBytes (channelMeant channel) ≡ invalidationBitIn (t .now) idSize dataBytes (channelMeant channel)
+    → (y z : Bool) → ChecksValidity κs s idSize dataBytes channel y → ChecksValidity κs t idSize dataBytes channel z → y ≡ z
+validity-alike κs s t idSize dataBytes channel e y z p q = p ∙ one-bit (s .now) (t .now) idSize dataBytes (channelMeant channel) e ∙ sym q
+
+-- ---- for C
+
+module _ (κs : Lfts 1) (s t : Slice) (idSize : ℕ) (channel : Mf4Channel) (h : Alike (s .now) (t .now) idSize (channelGiven channel)) where
+  pub mf4-decode-value-alike : (y z : Mf4Value) → ReadsValueC κs s idSize channel y → ReadsValueC κs t idSize channel z → y ≡ z
+  mf4-decode-value-alike y z p q = p ∙ ap valueC (same-value (s .now) (t .now) idSize (channelGiven channel) h) ∙ sym q
+
+  pub mf4-decode-double-alike : (y z : ℕ) → ReadsDoubleC κs s idSize channel y → ReadsDoubleC κs t idSize channel z → y ≡ z
+  mf4-decode-double-alike y z p q = p ∙ same-double (s .now) (t .now) idSize (channelGiven channel) h ∙ sym q
+
+  pub mf4-decode-valid-value-alike : (dataBytes : ℕ) → invalidationBitIn (s .now) idSize dataBytes (channelGiven channel) ≡ invalidationBitIn (t .now) idSize dataBytes (channelGiven channel)
+      → (y z : Mf4ValidValue) → ReadsValidValueC κs s idSize dataBytes channel y → ReadsValidValueC κs t idSize dataBytes channel z → y ≡ z
+  mf4-decode-valid-value-alike dataBytes e y z p q =
+      p ∙ ap validValueC (same-valid-value (s .now) (t .now) idSize (channelGiven channel) h dataBytes e) ∙ sym q
+
+-- of the reply that the struct tells
+module _ (κs : Lfts 1) (s t : Slice) (idSize : ℕ) (channel : Mf4Channel) (long : length (s .now) ≡ length (t .now)) (n m : ℕ) where
+  pub mf4-decode-value-refused : (y z : Mf4Value) → ReadsValueC κs s idSize channel y → ReadsValueC κs t idSize channel z
+      → valueReplyAgain y ≡ refusal n m → valueReplyAgain z ≡ refusal n m
+  mf4-decode-value-refused y z p q e =
+      mf4-decode-value-told κs t idSize channel z q
+      ∙ same-refusal (s .now) (t .now) idSize (channelGiven channel) long n m (sym (mf4-decode-value-told κs s idSize channel y p) ∙ e)
+
+  pub mf4-decode-valid-value-refused : (dataBytes : ℕ) (y z : Mf4ValidValue) → ReadsValidValueC κs s idSize dataBytes channel y
+      → ReadsValidValueC κs t idSize dataBytes channel z → validValueAgain y ≡ refusal n m → validValueAgain z ≡ refusal n m
+  mf4-decode-valid-value-refused dataBytes y z p q e =
+      mf4-decode-valid-value-told κs t idSize dataBytes channel z q
+      ∙ same-valid-refusal (s .now) (t .now) idSize (channelGiven channel) long n m dataBytes (sym (mf4-decode-valid-value-told κs s idSize dataBytes channel y p) ∙ e)
+
+pub mf4-check-validity-alike : (κs : Lfts 1) (s t : Slice) (idSize dataBytes : ℕ) (channel : Mf4Channel)
+    → invalidationBitIn (s .now) idSize dataBytes (channelGiven channel) ≡ invalidationBitIn (t .now) idSize dataBytes (channelGiven channel)
+    → (y z : ℕ) → ChecksValidityC κs s idSize dataBytes channel y → ChecksValidityC κs t idSize dataBytes channel z → y ≡ z
+mf4-check-validity-alike κs s t idSize dataBytes channel e y z p q =
+    p ∙ ap flagC (one-bit (s .now) (t .now) idSize dataBytes (channelGiven channel) e) ∙ sym q

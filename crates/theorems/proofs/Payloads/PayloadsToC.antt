@@ -1,0 +1,70 @@
+-- The same of the call for C, and that nothing of its reply is lost on the way there: about the call's own clause.
+use mathlib.Core.Path.{_≡_, refl, sym, ap, subst, _∙_}
+use mathlib.Core.List.{List}
+use mathlib.Core.Bool.{true≢false}
+use Prim.Native.Nat.{ℕ, zero, suc, _<_}
+use native.Mathlib.Omega.{arith}
+use contract.Lifetimes.{Lfts}
+use Rattle.definitions.specs.Reply.{Reply, answer, refusal}
+use Rattle.definitions.specs.Channel.{Channel}
+use Rattle.definitions.specs.Payload.{PayloadValue, Outcomes, payloadFetched}
+use Rattle.mf4.specs.Clauses.{Slice}
+use Rattle.replies.specs.Values.{channelGiven, ReturnedBoth}
+use Rattle.replies.specs.declared.channel.Mf4Channel.{Mf4Channel}
+use Rattle.replies.specs.declared.payload.Mf4Payload.{Mf4Payload}
+use Rattle.replies.proofs.ToldToC.{Tellable, Reversible, payloadAgain, payload-told}
+use Rattle.theorems.specs.ClausesToC.{ReadsPayloadC}
+use Rattle.theorems.specs.Exactly.{ExactlyZero, PayloadFetchable}
+use Rattle.theorems.specs.PayloadEnds.{PayloadEnds}
+use Rattle.theorems.proofs.Calls.RefusalNumbers.{Numbered, OfPayloads}
+use Rattle.theorems.proofs.Calls.ToldToC.{value-tellable}
+use Rattle.theorems.proofs.Calls.AnswersToC.{zero-exactly}
+use Rattle.theorems.proofs.Payloads.PayloadEnds.{payload-ends, fetched-payload-numbered, payload-answered}
+use Rattle.theorems.proofs.Payloads.PayloadAnswers.{payload-exactly}
+
+-- ---- the reply can be told
+
+abbrev Told : PayloadValue → Type 0
+Told v = Reversible (v .value)
+
+none-is-zero : (n t : ℕ) → OfPayloads n t → 0 < n
+none-is-zero zero t h = absurd (true≢false (sym h))
+none-is-zero (suc n) t h = omega arith
+
+module _ (f : List ℕ) (start k size idSize dataBytes : ℕ) (c : Channel) (out room : List ℕ) where
+  by-reply : (r : Reply PayloadValue) → Numbered OfPayloads r → ((v : PayloadValue) → r ≡ answer v → Told v) → Tellable Told r
+  by-reply (answer v) h g = g v refl
+  by-reply (refusal n t) h g = none-is-zero n t (h n t refl)
+
+  told-value : (v : PayloadValue) → payloadFetched f start k size idSize dataBytes c out room .reply ≡ answer v → Told v
+  told-value v e =
+      let r = payload-answered f start k size idSize dataBytes c out room v e in
+      subst (Tellable Reversible) (r .value-is) (value-tellable (r .payload) idSize c)
+
+  payload-tellable : Tellable Told (payloadFetched f start k size idSize dataBytes c out room .reply)
+  payload-tellable = by-reply _ (fetched-payload-numbered f start k size idSize dataBytes c out room) told-value
+
+-- ---- the call
+
+module _ (κs : Lfts 3) (file : Slice) (start number size idSize dataBytes : ℕ) (channel : Mf4Channel) (out room : Slice)
+    (y : Mf4Payload) (after later : List ℕ) (p : ReadsPayloadC κs file start number size idSize dataBytes channel out room y after later) where
+  abbrev given : Outcomes PayloadValue
+  given = payloadFetched (file .now) start number size idSize dataBytes (channelGiven channel) (out .now) (room .now)
+
+  pub mf4-record-payload-told : payloadAgain y ≡ given .reply
+  mf4-record-payload-told =
+      ap (λ (x : ReturnedBoth Mf4Payload). payloadAgain (x .result)) p
+      ∙ payload-told _ (payload-tellable (file .now) start number size idSize dataBytes (channelGiven channel) (out .now) (room .now))
+
+  pub mf4-record-payload-ends : PayloadEnds (file .now) start number size idSize dataBytes (channelGiven channel) (out .now) (room .now)
+      (record { reply = payloadAgain y; recordBuffer = after; payloadBuffer = later })
+  mf4-record-payload-ends =
+      let left : after ≡ given .recordBuffer = ap (λ (x : ReturnedBoth Mf4Payload). x .recordBuffer) p in
+      let kept : later ≡ given .payloadBuffer = ap (λ (x : ReturnedBoth Mf4Payload). x .payloadBuffer) p in
+      rw (mf4-record-payload-told, left, kept)
+      (payload-ends (file .now) start number size idSize dataBytes (channelGiven channel) (out .now) (room .now))
+
+  pub record-payload-zero : ExactlyZero (PayloadFetchable (file .now) start number size idSize (channelGiven channel) (out .now) (room .now)) (y .reply)
+  record-payload-zero =
+      zero-exactly (y .reply) (y .told) _ _ mf4-record-payload-told
+      (payload-exactly (file .now) start number size idSize dataBytes (channelGiven channel) (out .now) (room .now))

@@ -1,0 +1,3 @@
+-- Records of two files that join to the same bytes.
+pub mod TwoFiles
+pub mod TwoFilesRead

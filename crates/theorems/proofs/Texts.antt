@@ -1,0 +1,2 @@
+-- Texts.
+pub mod TextClausesToC

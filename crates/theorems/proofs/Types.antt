@@ -1,0 +1,2 @@
+-- Codes of types and back.
+pub mod TypeCodes
