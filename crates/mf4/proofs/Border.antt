@@ -18,27 +18,26 @@ use Rattle.definitions.specs.Payload.{payloadFetched}
 use Rattle.definitions.specs.Overlap.{overlapOf}
 use Rattle.mf4.specs.Clauses.{Slice, Allows}
 use Rattle.mf4.specs.ByHand.{ClausesIn, Says}
-use Rattle.replies.specs.Replies.{flagC, writtenC, headerC, headerGiven, listC, textC, returned, returnedBy}
-use Rattle.replies.specs.Values.{channelGiven, valueC, validValueC, lengthC, fetchedC, payloadC, returnedBoth, returnedBothBy}
+use Rattle.replies.specs.Replies.{flagC, writtenC, headerC, headerGiven, listC, textC, returned, returnedBy, doneC}
+use Rattle.replies.specs.Values.{channelGiven, valueC, validValueC, lengthC, payloadC, returnedBoth, returnedBothBy}
 use Rattle.replies.specs.Channels.{channelC, blockGiven}
-use Rattle.replies.specs.Stored.{numberGiven, storedC}
+use Rattle.replies.specs.Stored.{numberGiven}
 use Rattle.replies.specs.Overlaps.{overlapC}
-use Rattle.replies.specs.declared.written.Mf4Written.{Mf4Written}
-use Rattle.replies.specs.declared.header.Mf4BlockHeader.{Mf4BlockHeader}
+use Rattle.replies.specs.declared.written.Mf4WrittenReply.{Mf4WrittenReply}
 use Rattle.replies.specs.declared.header.Mf4Header.{Mf4Header}
-use Rattle.replies.specs.declared.list.Mf4List.{Mf4List}
-use Rattle.replies.specs.declared.texts.Mf4Text.{Mf4Text}
+use Rattle.replies.specs.declared.header.Mf4HeaderReply.{Mf4HeaderReply}
+use Rattle.replies.specs.declared.list.Mf4ListReply.{Mf4ListReply}
+use Rattle.replies.specs.declared.texts.Mf4TextReply.{Mf4TextReply}
 use Rattle.replies.specs.declared.channel.Mf4Channel.{Mf4Channel}
 use Rattle.replies.specs.declared.channel_block.Mf4ChannelBlock.{Mf4ChannelBlock}
 use Rattle.replies.specs.declared.channel_block.Mf4ChannelReply.{Mf4ChannelReply}
-use Rattle.replies.specs.declared.values.Mf4Value.{Mf4Value}
-use Rattle.replies.specs.declared.valid_values.Mf4ValidValue.{Mf4ValidValue}
-use Rattle.replies.specs.declared.fetches.Mf4Length.{Mf4Length}
-use Rattle.replies.specs.declared.fetches.Mf4Fetched.{Mf4Fetched}
-use Rattle.replies.specs.declared.payload.Mf4Payload.{Mf4Payload}
+use Rattle.replies.specs.declared.values.Mf4ValueReply.{Mf4ValueReply}
+use Rattle.replies.specs.declared.valid_values.Mf4ValidValueReply.{Mf4ValidValueReply}
+use Rattle.replies.specs.declared.fetches.Mf4LengthReply.{Mf4LengthReply}
+use Rattle.replies.specs.declared.done.Mf4DoneReply.{Mf4DoneReply}
+use Rattle.replies.specs.declared.payload.Mf4PayloadReply.{Mf4PayloadReply}
 use Rattle.replies.specs.declared.stored.Mf4Number.{Mf4Number}
-use Rattle.replies.specs.declared.stored.Mf4Stored.{Mf4Stored}
-use Rattle.replies.specs.declared.overlap.Mf4Overlap.{Mf4Overlap}
+use Rattle.replies.specs.declared.overlap.Mf4OverlapReply.{Mf4OverlapReply}
 use Rattle.mf4.proofs.mf4_read_header.Kinds as mf4-read-header-kinds
 use Rattle.mf4.proofs.mf4_read_header.Reads as mf4-read-header
 use Rattle.mf4.proofs.mf4_write_header.Kinds as mf4-write-header-kinds
@@ -63,8 +62,8 @@ use Rattle.mf4.proofs.mf4_check_validity.Kinds as mf4-check-validity-ki
 use Rattle.mf4.proofs.mf4_check_validity.Reads as mf4-check-validity
 use Rattle.mf4.proofs.mf4_decode_valid_value.Kinds as mf4-decode-valid-value-kinds
 use Rattle.mf4.proofs.mf4_decode_valid_value.Reads as mf4-decode-valid-value
-use Rattle.mf4.proofs.mf4_decode_double.Kinds as mf4-decode-double-kinds
-use Rattle.mf4.proofs.mf4_decode_double.Reads as mf4-decode-double
+use Rattle.mf4.proofs.mf4_decode_double_bits.Kinds as mf4-decode-double-bits-kinds
+use Rattle.mf4.proofs.mf4_decode_double_bits.Reads as mf4-decode-double-bits
 use Rattle.mf4.proofs.mf4_text_latin1.Kinds as mf4-text-latin1-kinds
 use Rattle.mf4.proofs.mf4_text_latin1.Reads as mf4-text-latin1
 use Rattle.mf4.proofs.mf4_text_utf8.Kinds as mf4-text-utf8-kinds
@@ -85,12 +84,12 @@ use Rattle.mf4.proofs.mf4_write_value.Kinds as mf4-write-value-kinds
 use Rattle.mf4.proofs.mf4_write_value.Reads as mf4-write-value
 use Rattle.mf4.proofs.mf4_first_overlap as mf4-first-overlap
 
-pub mf4-read-header-arguments : (κs : Lfts 1) (bytes : Slice) (y : Mf4Header)
+pub mf4-read-header-arguments : (κs : Lfts 1) (bytes : Slice) (y : Mf4HeaderReply)
     → Allows 1 mf4-read-header-kinds.ps mf4-read-header-kinds.r mf4-read-header.Learnt κs (bytes, tt) y (tt, tt)
     ≡ (y ≡ headerC (headerOf (bytes .now)))
 mf4-read-header-arguments κs bytes y = refl
 
-pub mf4-write-header-arguments : (κs : Lfts 1) (header : Mf4BlockHeader) (out : Slice) (y : Mf4Written) (after : List ℕ)
+pub mf4-write-header-arguments : (κs : Lfts 1) (header : Mf4Header) (out : Slice) (y : Mf4WrittenReply) (after : List ℕ)
     → Allows 1 mf4-write-header-kinds.ps mf4-write-header-kinds.r mf4-write-header.Learnt κs (header, (out, tt)) y (tt, (after, tt))
     ≡ (returned y after ≡ returnedBy writtenC (headerWritten (out .now) (headerGiven header)))
 mf4-write-header-arguments κs header out y after = refl
@@ -105,17 +104,17 @@ pub mf4-default-bits-arguments : (κs : Lfts 0) (code y : ℕ)
     ≡ (y ≡ defaultBits (typeOf code))
 mf4-default-bits-arguments κs code y = refl
 
-pub mf4-read-list-arguments : (κs : Lfts 1) (bytes : Slice) (y : Mf4List)
+pub mf4-read-list-arguments : (κs : Lfts 1) (bytes : Slice) (y : Mf4ListReply)
     → Allows 1 mf4-read-list-kinds.ps mf4-read-list-kinds.r mf4-read-list.Learnt κs (bytes, tt) y (tt, tt)
     ≡ (y ≡ listC (listOf (bytes .now)))
 mf4-read-list-arguments κs bytes y = refl
 
-pub mf4-write-list-equal-arguments : (κs : Lfts 2) (next : ℕ) (links : Slice) (length : ℕ) (out : Slice) (y : Mf4Written) (after : List ℕ)
+pub mf4-write-list-equal-arguments : (κs : Lfts 2) (next : ℕ) (links : Slice) (length : ℕ) (out : Slice) (y : Mf4WrittenReply) (after : List ℕ)
     → Allows 2 mf4-write-list-equal-kinds.ps mf4-write-list-equal-kinds.r mf4-write-list-equal.Learnt κs (next, (links, (length, (out, tt)))) y (tt, (tt, (tt, (after, tt))))
     ≡ (returned y after ≡ returnedBy writtenC (listWritten (out .now) next (links .now) (equal length)))
 mf4-write-list-equal-arguments κs next links length out y after = refl
 
-pub mf4-write-list-variable-arguments : (κs : Lfts 3) (next : ℕ) (links offsets out : Slice) (y : Mf4Written) (after : List ℕ)
+pub mf4-write-list-variable-arguments : (κs : Lfts 3) (next : ℕ) (links offsets out : Slice) (y : Mf4WrittenReply) (after : List ℕ)
     → Allows 3 mf4-write-list-variable-kinds.ps mf4-write-list-variable-kinds.r mf4-write-list-variable.Learnt κs (next, (links, (offsets, (out, tt)))) y (tt, (tt, (tt, (after, tt))))
     ≡ (returned y after ≡ returnedBy writtenC (listWritten (out .now) next (links .now) (variable (offsets .now))))
 mf4-write-list-variable-arguments κs next links offsets out y after = refl
@@ -125,12 +124,12 @@ pub mf4-read-channel-arguments : (κs : Lfts 1) (bytes : Slice) (y : Mf4ChannelR
     ≡ (y ≡ channelC (channelBlockOf (bytes .now)))
 mf4-read-channel-arguments κs bytes y = refl
 
-pub mf4-write-channel-arguments : (κs : Lfts 1) (block : Mf4ChannelBlock) (out : Slice) (y : Mf4Written) (after : List ℕ)
+pub mf4-write-channel-arguments : (κs : Lfts 1) (block : Mf4ChannelBlock) (out : Slice) (y : Mf4WrittenReply) (after : List ℕ)
     → Allows 1 mf4-write-channel-kinds.ps mf4-write-channel-kinds.r mf4-write-channel.Learnt κs (block, (out, tt)) y (tt, (after, tt))
     ≡ (returned y after ≡ returnedBy writtenC (channelWritten (out .now) (blockGiven block)))
 mf4-write-channel-arguments κs block out y after = refl
 
-pub mf4-decode-value-arguments : (κs : Lfts 1) (bytes : Slice) (recordIdSize : ℕ) (channel : Mf4Channel) (y : Mf4Value)
+pub mf4-decode-value-arguments : (κs : Lfts 1) (bytes : Slice) (recordIdSize : ℕ) (channel : Mf4Channel) (y : Mf4ValueReply)
     → Allows 1 mf4-decode-value-kinds.ps mf4-decode-value-kinds.r mf4-decode-value.Learnt κs (bytes, (recordIdSize, (channel, tt))) y (tt, (tt, (tt, tt)))
     ≡ (y ≡ valueC (valueOf (bytes .now) recordIdSize (channelGiven channel)))
 mf4-decode-value-arguments κs bytes recordIdSize channel y = refl
@@ -140,66 +139,66 @@ pub mf4-check-validity-arguments : (κs : Lfts 1) (bytes : Slice) (recordIdSize 
     ≡ (y ≡ flagC (validOf (bytes .now) recordIdSize dataBytes (channelGiven channel)))
 mf4-check-validity-arguments κs bytes recordIdSize dataBytes channel y = refl
 
-pub mf4-decode-valid-value-arguments : (κs : Lfts 1) (bytes : Slice) (recordIdSize dataBytes : ℕ) (channel : Mf4Channel) (y : Mf4ValidValue)
+pub mf4-decode-valid-value-arguments : (κs : Lfts 1) (bytes : Slice) (recordIdSize dataBytes : ℕ) (channel : Mf4Channel) (y : Mf4ValidValueReply)
     → Allows 1 mf4-decode-valid-value-kinds.ps mf4-decode-valid-value-kinds.r mf4-decode-valid-value.Learnt κs (bytes, (recordIdSize, (dataBytes, (channel, tt)))) y (tt, (tt, (tt, (tt, tt))))
     ≡ (y ≡ validValueC (validValueOf (bytes .now) recordIdSize dataBytes (channelGiven channel)))
 mf4-decode-valid-value-arguments κs bytes recordIdSize dataBytes channel y = refl
 
-pub mf4-decode-double-arguments : (κs : Lfts 1) (bytes : Slice) (recordIdSize : ℕ) (channel : Mf4Channel) (y : ℕ)
-    → Allows 1 mf4-decode-double-kinds.ps mf4-decode-double-kinds.r mf4-decode-double.Learnt κs (bytes, (recordIdSize, (channel, tt))) y (tt, (tt, (tt, tt)))
+pub mf4-decode-double-bits-arguments : (κs : Lfts 1) (bytes : Slice) (recordIdSize : ℕ) (channel : Mf4Channel) (y : ℕ)
+    → Allows 1 mf4-decode-double-bits-kinds.ps mf4-decode-double-bits-kinds.r mf4-decode-double-bits.Learnt κs (bytes, (recordIdSize, (channel, tt))) y (tt, (tt, (tt, tt)))
     ≡ (y ≡ recordDouble (bytes .now) recordIdSize (channelGiven channel))
-mf4-decode-double-arguments κs bytes recordIdSize channel y = refl
+mf4-decode-double-bits-arguments κs bytes recordIdSize channel y = refl
 
-pub mf4-text-latin1-arguments : (κs : Lfts 2) (bytes out : Slice) (y : Mf4Text) (after : List ℕ)
+pub mf4-text-latin1-arguments : (κs : Lfts 2) (bytes out : Slice) (y : Mf4TextReply) (after : List ℕ)
     → Allows 2 mf4-text-latin1-kinds.ps mf4-text-latin1-kinds.r mf4-text-latin1.Learnt κs (bytes, (out, tt)) y (tt, (after, tt))
     ≡ (returned y after ≡ returnedBy textC (textWritten (out .now) latin1 (bytes .now)))
 mf4-text-latin1-arguments κs bytes out y after = refl
 
-pub mf4-text-utf8-arguments : (κs : Lfts 2) (bytes out : Slice) (y : Mf4Text) (after : List ℕ)
+pub mf4-text-utf8-arguments : (κs : Lfts 2) (bytes out : Slice) (y : Mf4TextReply) (after : List ℕ)
     → Allows 2 mf4-text-utf8-kinds.ps mf4-text-utf8-kinds.r mf4-text-utf8.Learnt κs (bytes, (out, tt)) y (tt, (after, tt))
     ≡ (returned y after ≡ returnedBy textC (textWritten (out .now) utf8 (bytes .now)))
 mf4-text-utf8-arguments κs bytes out y after = refl
 
-pub mf4-text-utf16-le-arguments : (κs : Lfts 2) (bytes out : Slice) (y : Mf4Text) (after : List ℕ)
+pub mf4-text-utf16-le-arguments : (κs : Lfts 2) (bytes out : Slice) (y : Mf4TextReply) (after : List ℕ)
     → Allows 2 mf4-text-utf16-le-kinds.ps mf4-text-utf16-le-kinds.r mf4-text-utf16-le.Learnt κs (bytes, (out, tt)) y (tt, (after, tt))
     ≡ (returned y after ≡ returnedBy textC (textWritten (out .now) (utf16 little) (bytes .now)))
 mf4-text-utf16-le-arguments κs bytes out y after = refl
 
-pub mf4-text-utf16-be-arguments : (κs : Lfts 2) (bytes out : Slice) (y : Mf4Text) (after : List ℕ)
+pub mf4-text-utf16-be-arguments : (κs : Lfts 2) (bytes out : Slice) (y : Mf4TextReply) (after : List ℕ)
     → Allows 2 mf4-text-utf16-be-kinds.ps mf4-text-utf16-be-kinds.r mf4-text-utf16-be.Learnt κs (bytes, (out, tt)) y (tt, (after, tt))
     ≡ (returned y after ≡ returnedBy textC (textWritten (out .now) (utf16 big) (bytes .now)))
 mf4-text-utf16-be-arguments κs bytes out y after = refl
 
-pub mf4-data-length-arguments : (κs : Lfts 1) (file : Slice) (start : ℕ) (y : Mf4Length)
+pub mf4-data-length-arguments : (κs : Lfts 1) (file : Slice) (start : ℕ) (y : Mf4LengthReply)
     → Allows 1 mf4-data-length-kinds.ps mf4-data-length-kinds.r mf4-data-length.Learnt κs (file, (start, tt)) y (tt, (tt, tt))
     ≡ (y ≡ lengthC (dataLength (file .now) start))
 mf4-data-length-arguments κs file start y = refl
 
-pub mf4-read-record-arguments : (κs : Lfts 2) (file : Slice) (start number recordSize : ℕ) (buffer : Slice) (y : Mf4Fetched) (after : List ℕ)
+pub mf4-read-record-arguments : (κs : Lfts 2) (file : Slice) (start number recordSize : ℕ) (buffer : Slice) (y : Mf4DoneReply) (after : List ℕ)
     → Allows 2 mf4-read-record-kinds.ps mf4-read-record-kinds.r mf4-read-record.Learnt κs (file, (start, (number, (recordSize, (buffer, tt))))) y (tt, (tt, (tt, (tt, (after, tt)))))
-    ≡ (returned y after ≡ returnedBy fetchedC (fetched (file .now) start number recordSize (buffer .now)))
+    ≡ (returned y after ≡ returnedBy doneC (fetched (file .now) start number recordSize (buffer .now)))
 mf4-read-record-arguments κs file start number recordSize buffer y after = refl
 
-pub mf4-record-value-arguments : (κs : Lfts 2) (file : Slice) (start number recordSize recordIdSize dataBytes : ℕ) (channel : Mf4Channel) (buffer : Slice) (y : Mf4ValidValue) (after : List ℕ)
+pub mf4-record-value-arguments : (κs : Lfts 2) (file : Slice) (start number recordSize recordIdSize dataBytes : ℕ) (channel : Mf4Channel) (buffer : Slice) (y : Mf4ValidValueReply) (after : List ℕ)
     → Allows 2 mf4-record-value-kinds.ps mf4-record-value-kinds.r mf4-record-value.Learnt κs (file, (start, (number, (recordSize, (recordIdSize, (dataBytes, (channel, (buffer, tt)))))))) y (tt, (tt, (tt, (tt, (tt, (tt, (tt, (after, tt))))))))
     ≡ (returned y after ≡ returnedBy validValueC (valueFetched (file .now) start number recordSize recordIdSize dataBytes (channelGiven channel) (buffer .now)))
 mf4-record-value-arguments κs file start number recordSize recordIdSize dataBytes channel buffer y after = refl
 
-pub mf4-record-payload-arguments : (κs : Lfts 3) (file : Slice) (start number recordSize recordIdSize dataBytes : ℕ) (channel : Mf4Channel) (bytes payload : Slice) (y : Mf4Payload) (recordAfter payloadAfter : List ℕ)
+pub mf4-record-payload-arguments : (κs : Lfts 3) (file : Slice) (start number recordSize recordIdSize dataBytes : ℕ) (channel : Mf4Channel) (bytes payload : Slice) (y : Mf4PayloadReply) (recordAfter payloadAfter : List ℕ)
     → Allows 3 mf4-record-payload-kinds.ps mf4-record-payload-kinds.r mf4-record-payload.Learnt κs (file, (start, (number, (recordSize, (recordIdSize, (dataBytes, (channel, (bytes, (payload, tt))))))))) y (tt, (tt, (tt, (tt, (tt, (tt, (tt, (recordAfter, (payloadAfter, tt)))))))))
     ≡ (returnedBoth y recordAfter payloadAfter ≡ returnedBothBy payloadC (payloadFetched (file .now) start number recordSize recordIdSize dataBytes (channelGiven channel) (bytes .now) (payload .now)))
 mf4-record-payload-arguments κs file start number recordSize recordIdSize dataBytes channel bytes payload y recordAfter payloadAfter = refl
 
-pub mf4-write-value-arguments : (κs : Lfts 1) (recordIdSize : ℕ) (channel : Mf4Channel) (value : Mf4Number) (bytes : Slice) (y : Mf4Stored) (after : List ℕ)
+pub mf4-write-value-arguments : (κs : Lfts 1) (recordIdSize : ℕ) (channel : Mf4Channel) (value : Mf4Number) (bytes : Slice) (y : Mf4DoneReply) (after : List ℕ)
     → Allows 1 mf4-write-value-kinds.ps mf4-write-value-kinds.r mf4-write-value.Learnt κs (recordIdSize, (channel, (value, (bytes, tt)))) y (tt, (tt, (tt, (after, tt))))
-    ≡ (returned y after ≡ returnedBy storedC (valueWritten (bytes .now) recordIdSize (channelGiven channel) (numberGiven value)))
+    ≡ (returned y after ≡ returnedBy doneC (valueWritten (bytes .now) recordIdSize (channelGiven channel) (numberGiven value)))
 mf4-write-value-arguments κs recordIdSize channel value bytes y after = refl
 
 -- proved by hand
 abbrev pub mf4-first-overlap-clauses : ClausesIn mf4-first-overlap.ended
 mf4-first-overlap-clauses w = mf4-first-overlap.clauses (w .𝓤) (w .H) (w .𝓖 .A) (w .𝓜 .mem) (w .𝓡 .run)
 
-pub mf4-first-overlap-arguments : (κs : Lfts 1) (list : RefT (List Mf4Channel)) (y : Mf4Overlap)
+pub mf4-first-overlap-arguments : (κs : Lfts 1) (list : RefT (List Mf4Channel)) (y : Mf4OverlapReply)
     → Says mf4-first-overlap.ended mf4-first-overlap-clauses κs (list, tt) y (tt, tt)
     (y ≡ overlapC (overlapOf (map channelGiven (list .now))))
 mf4-first-overlap-arguments κs list y w g = refl

@@ -6,7 +6,7 @@ ghost use Rattle.replies.specs.Channels.{channelC, blockGiven};
 use channels::ChannelBlock;
 use replies::Mf4ChannelBlock;
 use replies::Mf4ChannelReply;
-use replies::Mf4Written;
+use replies::Mf4WrittenReply;
 use replies::block_of;
 use replies::channel_reply;
 use replies::written_reply;
@@ -19,7 +19,7 @@ pub extern "C" fn mf4_read_channel(bytes: &[u8]) -> Mf4ChannelReply
 }
 
 #[no_mangle]
-pub extern "C" fn mf4_write_channel(block: Mf4ChannelBlock, out: &mut [u8]) -> Mf4Written
+pub extern "C" fn mf4_write_channel(block: Mf4ChannelBlock, out: &mut [u8]) -> Mf4WrittenReply
     ensures { λ r. ⌜ returned r (now (out .exit)) ≡ returnedBy writtenC (channelWritten (now (out .entry)) (blockGiven block)) ⌝ }
 {
     written_reply(block_of(block).to_bytes(out))

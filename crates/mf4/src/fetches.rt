@@ -1,23 +1,23 @@
 // Records through a chain of data lists, and values in them.
 ghost use mathlib.Core.Path.{_≡_};
 ghost use Rattle.definitions.specs.Chain.{dataLength, fetched, valueFetched};
-ghost use Rattle.replies.specs.Replies.{returned, returnedBy};
-ghost use Rattle.replies.specs.Values.{channelGiven, validValueC, lengthC, fetchedC};
+ghost use Rattle.replies.specs.Replies.{returned, returnedBy, doneC};
+ghost use Rattle.replies.specs.Values.{channelGiven, validValueC, lengthC};
 use chain::FileAddress;
 use chain::data_length;
 use records::read_record;
 use records::read_value;
 use replies::Mf4Channel;
-use replies::Mf4Fetched;
-use replies::Mf4Length;
-use replies::Mf4ValidValue;
+use replies::Mf4DoneReply;
+use replies::Mf4LengthReply;
+use replies::Mf4ValidValueReply;
 use replies::channel_of;
 use replies::fetched_reply;
 use replies::length_reply;
 use replies::valid_value_reply;
 
 #[no_mangle]
-pub extern "C" fn mf4_data_length(file: &[u8], start: u64) -> Mf4Length
+pub extern "C" fn mf4_data_length(file: &[u8], start: u64) -> Mf4LengthReply
     ensures { λ r. ⌜ r ≡ lengthC (dataLength (now (file .entry)) start) ⌝ }
 {
     length_reply(data_length(file, FileAddress(start)))
@@ -30,8 +30,8 @@ pub extern "C" fn mf4_read_record(
     number: u64,
     record_size: u64,
     buffer: &mut [u8],
-) -> Mf4Fetched
-    ensures { λ r. ⌜ returned r (now (buffer .exit)) ≡ returnedBy fetchedC (fetched (now (file .entry)) start number «record_size» (now (buffer .entry))) ⌝ }
+) -> Mf4DoneReply
+    ensures { λ r. ⌜ returned r (now (buffer .exit)) ≡ returnedBy doneC (fetched (now (file .entry)) start number «record_size» (now (buffer .entry))) ⌝ }
 {
     fetched_reply(read_record(file, FileAddress(start), number, record_size, buffer))
 }
@@ -46,7 +46,7 @@ pub extern "C" fn mf4_record_value(
     data_bytes: u32,
     channel: Mf4Channel,
     buffer: &mut [u8],
-) -> Mf4ValidValue
+) -> Mf4ValidValueReply
     ensures { λ r. ⌜ returned r (now (buffer .exit)) ≡ returnedBy validValueC (valueFetched (now (file .entry)) start number «record_size» «record_id_size» «data_bytes» (channelGiven channel) (now (buffer .entry))) ⌝ }
 {
     valid_value_reply(read_value(

@@ -3,22 +3,22 @@ ghost use mathlib.Core.Path.{_≡_};
 ghost use Rattle.definitions.specs.Header.{headerOf, headerWritten};
 ghost use Rattle.replies.specs.Replies.{headerC, headerGiven, writtenC, returned, returnedBy};
 use blocks::BlockHeader;
-use replies::Mf4BlockHeader;
 use replies::Mf4Header;
-use replies::Mf4Written;
+use replies::Mf4HeaderReply;
+use replies::Mf4WrittenReply;
 use replies::header_of;
 use replies::header_reply;
 use replies::written_reply;
 
 #[no_mangle]
-pub extern "C" fn mf4_read_header(bytes: &[u8]) -> Mf4Header
+pub extern "C" fn mf4_read_header(bytes: &[u8]) -> Mf4HeaderReply
     ensures { λ r. ⌜ r ≡ headerC (headerOf (now (bytes .entry))) ⌝ }
 {
     header_reply(BlockHeader::from_bytes(bytes))
 }
 
 #[no_mangle]
-pub extern "C" fn mf4_write_header(header: Mf4BlockHeader, out: &mut [u8]) -> Mf4Written
+pub extern "C" fn mf4_write_header(header: Mf4Header, out: &mut [u8]) -> Mf4WrittenReply
     ensures { λ r. ⌜ returned r (now (out .exit)) ≡ returnedBy writtenC (headerWritten (now (out .entry)) (headerGiven header)) ⌝ }
 {
     written_reply(header_of(header).to_bytes(out))

@@ -3,13 +3,13 @@ ghost use mathlib.Core.Path.{_≡_};
 ghost use Rattle.definitions.specs.DataList.{listOf, listWritten, equal, variable};
 ghost use Rattle.replies.specs.Replies.{listC, writtenC, returned, returnedBy};
 use blocks::DataListBlock;
-use replies::Mf4List;
-use replies::Mf4Written;
+use replies::Mf4ListReply;
+use replies::Mf4WrittenReply;
 use replies::list_reply;
 use replies::written_reply;
 
 #[no_mangle]
-pub extern "C" fn mf4_read_list(bytes: &[u8]) -> Mf4List
+pub extern "C" fn mf4_read_list(bytes: &[u8]) -> Mf4ListReply
     ensures { λ r. ⌜ r ≡ listC (listOf (now (bytes .entry))) ⌝ }
 {
     list_reply(DataListBlock::from_bytes(bytes))
@@ -21,7 +21,7 @@ pub extern "C" fn mf4_write_list_equal(
     links: &[u64],
     length: u64,
     out: &mut [u8],
-) -> Mf4Written
+) -> Mf4WrittenReply
     ensures { λ r. ⌜ returned r (now (out .exit)) ≡ returnedBy writtenC (listWritten (now (out .entry)) next (now (links .entry)) (equal length)) ⌝ }
 {
     written_reply(DataListBlock::write_equal(next, links, length, out))
@@ -33,7 +33,7 @@ pub extern "C" fn mf4_write_list_variable(
     links: &[u64],
     offsets: &[u64],
     out: &mut [u8],
-) -> Mf4Written
+) -> Mf4WrittenReply
     ensures { λ r. ⌜ returned r (now (out .exit)) ≡ returnedBy writtenC (listWritten (now (out .entry)) next (now (links .entry)) (variable (now (offsets .entry)))) ⌝ }
 {
     written_reply(DataListBlock::write_variable(next, links, offsets, out))

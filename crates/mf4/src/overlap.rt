@@ -9,7 +9,7 @@ use overlaps::Search;
 use overlaps::begin_search;
 use overlaps::search_on;
 use replies::Mf4Channel;
-use replies::Mf4Overlap;
+use replies::Mf4OverlapReply;
 use replies::channel_of;
 use replies::overlap_reply;
 
@@ -20,7 +20,7 @@ fn step(count: usize, search: Search, a: Mf4Channel, b: Mf4Channel) -> Search
     search_on(count, search, channel_of(a), channel_of(b))
 }
 
-fn reply_of(search: Search) -> Mf4Overlap
+fn reply_of(search: Search) -> Mf4OverlapReply
     ensures { λ r. ⌜ r ≡ overlapC (overlapReply (search .answer)) ⌝ }
 {
     let answer = search.answer;
@@ -29,7 +29,7 @@ fn reply_of(search: Search) -> Mf4Overlap
 
 // A function that is lent structs is proved by hand, so it has the loop and the reads of the list, and decides nothing.
 #[no_mangle]
-pub extern "C" fn mf4_first_overlap(list: &[Mf4Channel]) -> Mf4Overlap
+pub extern "C" fn mf4_first_overlap(list: &[Mf4Channel]) -> Mf4OverlapReply
     ensures { λ r. ⌜ r ≡ overlapC (overlapOf (map channelGiven (now (list .entry)))) ⌝ }
 {
     let mut search = begin_search(list.len());

@@ -5,7 +5,7 @@ ghost use Rattle.replies.specs.Values.{channelGiven, payloadC, returnedBoth, re
 use chain::FileAddress;
 use payloads::read_payload;
 use replies::Mf4Channel;
-use replies::Mf4Payload;
+use replies::Mf4PayloadReply;
 use replies::channel_of;
 use replies::payload_reply;
 
@@ -20,7 +20,7 @@ pub extern "C" fn mf4_record_payload(
     channel: Mf4Channel,
     record: &mut [u8],
     payload: &mut [u8],
-) -> Mf4Payload
+) -> Mf4PayloadReply
     ensures { λ r. ⌜ returnedBoth r (now («record» .exit)) (now (payload .exit)) ≡ returnedBothBy payloadC (payloadFetched (now (file .entry)) start number «record_size» «record_id_size» «data_bytes» (channelGiven channel) (now («record» .entry)) (now (payload .entry))) ⌝ }
 {
     payload_reply(read_payload(

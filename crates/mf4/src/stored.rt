@@ -1,13 +1,13 @@
 // Numbers written into records.
 ghost use mathlib.Core.Path.{_≡_};
 ghost use Rattle.definitions.specs.WrittenValue.{valueWritten};
-ghost use Rattle.replies.specs.Replies.{returned, returnedBy};
+ghost use Rattle.replies.specs.Replies.{returned, returnedBy, doneC};
 ghost use Rattle.replies.specs.Values.{channelGiven};
-ghost use Rattle.replies.specs.Stored.{numberGiven, storedC};
+ghost use Rattle.replies.specs.Stored.{numberGiven};
 use encoder::encode_channel_value;
 use replies::Mf4Channel;
 use replies::Mf4Number;
-use replies::Mf4Stored;
+use replies::Mf4DoneReply;
 use replies::channel_of;
 use replies::number_of;
 use replies::stored_reply;
@@ -18,8 +18,8 @@ pub extern "C" fn mf4_write_value(
     channel: Mf4Channel,
     value: Mf4Number,
     record: &mut [u8],
-) -> Mf4Stored
-    ensures { λ r. ⌜ returned r (now («record» .exit)) ≡ returnedBy storedC (valueWritten (now («record» .entry)) «record_id_size» (channelGiven channel) (numberGiven value)) ⌝ }
+) -> Mf4DoneReply
+    ensures { λ r. ⌜ returned r (now («record» .exit)) ≡ returnedBy doneC (valueWritten (now («record» .entry)) «record_id_size» (channelGiven channel) (numberGiven value)) ⌝ }
 {
     stored_reply(encode_channel_value(
         record_id_size as usize,

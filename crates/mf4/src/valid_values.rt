@@ -4,7 +4,7 @@ ghost use Rattle.definitions.specs.Channel.{validValueOf};
 ghost use Rattle.replies.specs.Values.{channelGiven, validValueC};
 use decoder::decode_channel_value_with_validity;
 use replies::Mf4Channel;
-use replies::Mf4ValidValue;
+use replies::Mf4ValidValueReply;
 use replies::channel_of;
 use replies::valid_value_reply;
 
@@ -14,7 +14,7 @@ pub extern "C" fn mf4_decode_valid_value(
     record_id_size: u64,
     data_bytes: u32,
     channel: Mf4Channel,
-) -> Mf4ValidValue
+) -> Mf4ValidValueReply
     ensures { λ r. ⌜ r ≡ validValueC (validValueOf (now («record» .entry)) «record_id_size» «data_bytes» (channelGiven channel)) ⌝ }
 {
     valid_value_reply(decode_channel_value_with_validity(

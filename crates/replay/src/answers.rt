@@ -6,7 +6,7 @@ use crate::words::bytes;
 use crate::words::next_if;
 use crate::words::number;
 use crate::words::sign;
-use mf4::Mf4Written;
+use mf4::Mf4WrittenReply;
 
 // A lent buffer is full of these, so that a byte written where none should be shows
 pub(crate) const FILL: u8 = 0xa5;
@@ -72,7 +72,7 @@ pub(crate) fn same_refusal(at: usize, out: &[u8; 512], count: u64) -> usize {
     next_if(count == 0 && holds_only(out, b""), at)
 }
 
-pub(crate) fn same_written(line: &[u8], at: usize, out: &[u8; 512], given: Mf4Written) -> usize {
+pub(crate) fn same_written(line: &[u8], at: usize, out: &[u8; 512], given: Mf4WrittenReply) -> usize {
     let next = same_reply(line, at, given.reply, given.told);
     if given.reply == 0 {
         same_output(line, next, out, given.count)

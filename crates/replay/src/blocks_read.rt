@@ -6,19 +6,19 @@ use crate::words::bytes;
 use crate::words::is_end;
 use crate::words::next_if;
 use crate::words::sign;
-use mf4::Mf4BlockHeader;
-use mf4::Mf4List;
+use mf4::Mf4Header;
+use mf4::Mf4ListReply;
 use mf4::mf4_read_header;
 use mf4::mf4_read_list;
 
-pub(crate) fn same_header(line: &[u8], at: usize, given: Mf4BlockHeader) -> usize {
+pub(crate) fn same_header(line: &[u8], at: usize, given: Mf4Header) -> usize {
     let next = same_number(line, at, given.id as u64);
     let next = same_number(line, next, given.reserved0 as u64);
     let next = same_number(line, next, given.block_len);
     same_number(line, next, given.links_nr)
 }
 
-fn same_list(line: &[u8], at: usize, given: Mf4List) -> usize {
+fn same_list(line: &[u8], at: usize, given: Mf4ListReply) -> usize {
     let header = given.header;
     let next = same_header(line, at, header);
     let next = same_number(line, next, given.next);
@@ -52,12 +52,12 @@ fn read_list(line: &[u8], at: usize, block: &[u8]) -> usize {
 }
 
 // Beside a refusal every other field is 0
-fn no_header(at: usize, given: Mf4BlockHeader) -> usize {
+fn no_header(at: usize, given: Mf4Header) -> usize {
     let zeros = b"0 0 0 0";
     next_if(is_end(zeros, same_header(zeros, 0, given)), at)
 }
 
-fn no_list(at: usize, given: Mf4List) -> usize {
+fn no_list(at: usize, given: Mf4ListReply) -> usize {
     let zeros = b"0 0 0 0 0 0 0 0 0 0 0 0";
     next_if(is_end(zeros, same_list(zeros, 0, given)), at)
 }

@@ -6,13 +6,13 @@ use crate::words::numbers;
 use crate::words::room;
 use crate::words::sign;
 use crate::words::small;
-use mf4::Mf4BlockHeader;
+use mf4::Mf4Header;
 use mf4::mf4_write_header;
 use mf4::mf4_write_list_equal;
 use mf4::mf4_write_list_variable;
 
 pub(crate) struct HeaderWords {
-    pub header: Mf4BlockHeader,
+    pub header: Mf4Header,
     pub next: usize,
 }
 
@@ -21,7 +21,7 @@ pub(crate) fn header_words(line: &[u8], at: usize) -> HeaderWords {
     let reserved0 = small(line, id.next);
     let block_len = number(line, reserved0.next);
     let links_nr = number(line, block_len.next);
-    let header = Mf4BlockHeader {
+    let header = Mf4Header {
         id: id.value,
         reserved0: reserved0.value,
         block_len: block_len.value,

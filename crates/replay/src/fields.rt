@@ -13,9 +13,9 @@ use crate::words::number;
 use crate::words::sign;
 use crate::words::small;
 use mf4::Mf4Channel;
-use mf4::Mf4ValidValue;
+use mf4::Mf4ValidValueReply;
 use mf4::mf4_check_validity;
-use mf4::mf4_decode_double;
+use mf4::mf4_decode_double_bits;
 use mf4::mf4_decode_valid_value;
 use mf4::mf4_decode_value;
 
@@ -80,7 +80,7 @@ fn same_decoded(line: &[u8], at: usize, record: &[u8], id_size: u64, channel: Mf
     }
 }
 
-pub(crate) fn same_valid_value(line: &[u8], at: usize, given: Mf4ValidValue) -> usize {
+pub(crate) fn same_valid_value(line: &[u8], at: usize, given: Mf4ValidValueReply) -> usize {
     let next = same_field_reply(line, at, given.reply, given.told);
     if given.reply == 0 {
         let next = same_value(line, next, given.kind, given.number, given.at, given.length);
@@ -110,7 +110,7 @@ fn same_answer(line: &[u8], kind: usize, record: &[u8], asked: FieldWords) -> us
             at,
             mf4_decode_valid_value(record, id_size, data_bytes, channel),
         ),
-        _ => same_number(line, at, mf4_decode_double(record, id_size, channel)),
+        _ => same_number(line, at, mf4_decode_double_bits(record, id_size, channel)),
     }
 }
 

@@ -9,10 +9,10 @@ use crate::chains::fetch_words;
 use crate::fields::field_words;
 use crate::words::next_if;
 use crate::words::room;
-use mf4::Mf4Payload;
+use mf4::Mf4PayloadReply;
 use mf4::mf4_record_payload;
 
-fn same_payload(line: &[u8], at: usize, given: Mf4Payload) -> usize {
+fn same_payload(line: &[u8], at: usize, given: Mf4PayloadReply) -> usize {
     let next = same_reply(line, at, given.reply, given.told);
     if given.reply == 0 {
         let next = same_value(line, next, given.kind, given.number, given.at, given.length);

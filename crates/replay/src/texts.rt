@@ -10,13 +10,13 @@ use crate::words::bytes;
 use crate::words::next_if;
 use crate::words::room;
 use crate::words::sign;
-use mf4::Mf4Text;
+use mf4::Mf4TextReply;
 use mf4::mf4_text_latin1;
 use mf4::mf4_text_utf8;
 use mf4::mf4_text_utf16_be;
 use mf4::mf4_text_utf16_le;
 
-fn written(code: u8, text: &[u8], out: &mut [u8]) -> Mf4Text {
+fn written(code: u8, text: &[u8], out: &mut [u8]) -> Mf4TextReply {
     match code {
         6 => mf4_text_latin1(text, out),
         7 => mf4_text_utf8(text, out),
@@ -25,7 +25,7 @@ fn written(code: u8, text: &[u8], out: &mut [u8]) -> Mf4Text {
     }
 }
 
-fn same_text(line: &[u8], at: usize, out: &[u8; 512], given: Mf4Text) -> usize {
+fn same_text(line: &[u8], at: usize, out: &[u8; 512], given: Mf4TextReply) -> usize {
     let next = same_reply(line, at, given.reply, given.told);
     if given.reply == 0 {
         let next = same_number(line, next, given.damaged as u64);

@@ -20,23 +20,21 @@ use Rattle.definitions.specs.Payload.{PayloadValue}
 use Rattle.definitions.specs.Overlap.{Overlap, pair, none}
 use Rattle.definitions.specs.Channel.{Channel, Value, ValidValue, unsigned, signed, double, text, bytes, sample, stream, unknownValue, doubleValue}
 use Rattle.definitions.proofs.Types.{type-back}
-use Rattle.replies.specs.Replies.{flagC, writtenC, headerC, headerGiven, listC, textC}
+use Rattle.replies.specs.Replies.{flagC, writtenC, headerC, headerGiven, listC, textC, doneC}
 use Rattle.replies.specs.Channels.{descriptionC, blockC, blockGiven, channelC}
-use Rattle.replies.specs.Values.{channelGiven, wordOf, decodedC, valueC, validValueC, lengthC, fetchedC, payloadC}
-use Rattle.replies.specs.Stored.{storedC}
+use Rattle.replies.specs.Values.{channelGiven, wordOf, decodedC, valueC, validValueC, lengthC, payloadC}
 use Rattle.replies.specs.Overlaps.{overlapC}
-use Rattle.replies.specs.declared.written.Mf4Written.{Mf4Written}
-use Rattle.replies.specs.declared.header.Mf4Header.{Mf4Header}
-use Rattle.replies.specs.declared.list.Mf4List.{Mf4List}
+use Rattle.replies.specs.declared.written.Mf4WrittenReply.{Mf4WrittenReply}
+use Rattle.replies.specs.declared.header.Mf4HeaderReply.{Mf4HeaderReply}
+use Rattle.replies.specs.declared.list.Mf4ListReply.{Mf4ListReply}
 use Rattle.replies.specs.declared.channel_block.Mf4ChannelReply.{Mf4ChannelReply}
-use Rattle.replies.specs.declared.texts.Mf4Text.{Mf4Text}
-use Rattle.replies.specs.declared.values.Mf4Value.{Mf4Value}
-use Rattle.replies.specs.declared.valid_values.Mf4ValidValue.{Mf4ValidValue}
-use Rattle.replies.specs.declared.payload.Mf4Payload.{Mf4Payload}
-use Rattle.replies.specs.declared.fetches.Mf4Length.{Mf4Length}
-use Rattle.replies.specs.declared.fetches.Mf4Fetched.{Mf4Fetched}
-use Rattle.replies.specs.declared.stored.Mf4Stored.{Mf4Stored}
-use Rattle.replies.specs.declared.overlap.Mf4Overlap.{Mf4Overlap}
+use Rattle.replies.specs.declared.texts.Mf4TextReply.{Mf4TextReply}
+use Rattle.replies.specs.declared.values.Mf4ValueReply.{Mf4ValueReply}
+use Rattle.replies.specs.declared.valid_values.Mf4ValidValueReply.{Mf4ValidValueReply}
+use Rattle.replies.specs.declared.payload.Mf4PayloadReply.{Mf4PayloadReply}
+use Rattle.replies.specs.declared.fetches.Mf4LengthReply.{Mf4LengthReply}
+use Rattle.replies.specs.declared.done.Mf4DoneReply.{Mf4DoneReply}
+use Rattle.replies.specs.declared.overlap.Mf4OverlapReply.{Mf4OverlapReply}
 
 -- a refusal has a number above 0, and what is answered meets P
 abbrev pub Tellable : {A : Type 0} → (A → Type 0) → Reply A → Type 0
@@ -64,51 +62,45 @@ told-by P toC back answered refused (refusal n t) h = refused n t h
 
 -- ---- bytes written, and data
 
-abbrev pub writtenAgain : Mf4Written → Reply ℕ
+abbrev pub writtenAgain : Mf4WrittenReply → Reply ℕ
 writtenAgain s = again (s .reply) (s .told) (s .count)
 
 pub written-told : (r : Reply ℕ) → Tellable Any r → writtenAgain (writtenC r) ≡ r
 written-told = told-by Any writtenC writtenAgain (λ a h. refl) (again-refused _)
 
-abbrev pub lengthAgain : Mf4Length → Reply ℕ
+abbrev pub lengthAgain : Mf4LengthReply → Reply ℕ
 lengthAgain s = again (s .reply) (s .told) (s .length)
 
 pub length-told : (r : Reply ℕ) → Tellable Any r → lengthAgain (lengthC r) ≡ r
 length-told = told-by Any lengthC lengthAgain (λ a h. refl) (again-refused _)
 
-abbrev pub fetchedAgain : Mf4Fetched → Reply (Unit {0})
-fetchedAgain s = again (s .reply) (s .told) tt
+abbrev pub doneAgain : Mf4DoneReply → Reply (Unit {0})
+doneAgain s = again (s .reply) (s .told) tt
 
-pub fetched-told : (r : Reply (Unit {0})) → Tellable Any r → fetchedAgain (fetchedC r) ≡ r
-fetched-told = told-by Any fetchedC fetchedAgain (λ a h. refl) (again-refused _)
-
-abbrev pub storedAgain : Mf4Stored → Reply (Unit {0})
-storedAgain s = again (s .reply) (s .told) tt
-
-pub stored-told : (r : Reply (Unit {0})) → Tellable Any r → storedAgain (storedC r) ≡ r
-stored-told = told-by Any storedC storedAgain (λ a h. refl) (again-refused _)
+pub done-told : (r : Reply (Unit {0})) → Tellable Any r → doneAgain (doneC r) ≡ r
+done-told = told-by Any doneC doneAgain (λ a h. refl) (again-refused _)
 
 -- ---- blocks
 
-abbrev pub headerAgain : Mf4Header → Reply Header
+abbrev pub headerAgain : Mf4HeaderReply → Reply Header
 headerAgain s = again (s .reply) (s .told) (headerGiven (s .header))
 
 pub header-told : (r : Reply Header) → Tellable Any r → headerAgain (headerC r) ≡ r
 header-told = told-by Any headerC headerAgain (λ a h. refl) (again-refused _)
 
-abbrev pub listAgain : Mf4List → Reply DataList
+abbrev pub listAgain : Mf4ListReply → Reply DataList
 listAgain s =
     again (s .reply) (s .told)
     (record {
       header = headerGiven (s .header);
-      next = s .next;
-      linksAt = s .«links_at»;
-      links = s .links;
+      next = s .«next_addr»;
+      linksAt = s .«data_links_at»;
+      links = s .«data_link_count»;
       flags = s .flags;
       reserved = s .reserved1;
-      count = s .«data_block_nr»;
+      count = s .«data_block_count»;
       restAt = s .«rest_at»;
-      rest = s .rest;
+      rest = s .«rest_count»;
     })
 
 pub list-told : (r : Reply DataList) → Tellable Any r → listAgain (listC r) ≡ r
@@ -175,7 +167,7 @@ flag-back : (b : Bool) → eqb (flagC b) 1 ≡ b
 flag-back true = refl
 flag-back false = refl
 
-abbrev pub textAgain : Mf4Text → Reply TextWritten
+abbrev pub textAgain : Mf4TextReply → Reply TextWritten
 textAgain s = again (s .reply) (s .told) (record { count = s .count; damaged = eqb (s .damaged) 1 })
 
 pub text-told : (r : Reply TextWritten) → Tellable Any r → textAgain (textC r) ≡ r
@@ -223,13 +215,13 @@ value-back (sample at n) h = refl
 value-back (stream at n) h = refl
 value-back unknownValue h = refl
 
-abbrev pub valueReplyAgain : Mf4Value → Reply Value
+abbrev pub valueReplyAgain : Mf4ValueReply → Reply Value
 valueReplyAgain s = again (s .reply) (s .told) (valueAgain (s .kind) (s .number) (s .at) (s .length))
 
 pub value-told : (r : Reply Value) → Tellable Reversible r → valueReplyAgain (valueC r) ≡ r
 value-told = told-by Reversible valueC valueReplyAgain (λ v h. ap answer (value-back v h)) (again-refused _)
 
-abbrev pub validValueAgain : Mf4ValidValue → Reply ValidValue
+abbrev pub validValueAgain : Mf4ValidValueReply → Reply ValidValue
 validValueAgain s =
     again (s .reply) (s .told)
     (record { value = valueAgain (s .kind) (s .number) (s .at) (s .length); valid = eqb (s .«is_valid») 1 })
@@ -242,7 +234,7 @@ valid-value-told =
 
 -- ---- payloads
 
-abbrev pub payloadAgain : Mf4Payload → Reply PayloadValue
+abbrev pub payloadAgain : Mf4PayloadReply → Reply PayloadValue
 payloadAgain s =
     again (s .reply) (s .told)
     (record { value = valueAgain (s .kind) (s .number) (s .at) (s .length); valid = eqb (s .«is_valid») 1; size = s .«payload_length» })
@@ -255,7 +247,7 @@ payload-told =
 
 -- ---- overlaps
 
-abbrev pub overlapAgain : Mf4Overlap → Reply Overlap
+abbrev pub overlapAgain : Mf4OverlapReply → Reply Overlap
 overlapAgain s = again (s .reply) (s .told) (if eqb (s .found) 1 then pair (s .first) (s .second) else none)
 
 overlap-back : (o : Overlap) → Any o → overlapAgain (overlapC (answer o)) ≡ answer o

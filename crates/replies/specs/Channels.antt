@@ -19,7 +19,7 @@ descriptionC c = record {
   «bit_count» = c .bitCount;
   flags = c .flags;
   «pos_invalidation_bit» = c .invalidationBit;
-  «data» = c .dataLink;
+  «data_addr» = c .dataLink;
 }
 
 abbrev pub noDescription : Mf4Channel
@@ -31,7 +31,7 @@ noDescription = record {
   «bit_count» = 0;
   flags = 0;
   «pos_invalidation_bit» = 0;
-  «data» = 0;
+  «data_addr» = 0;
 }
 
 abbrev pub blockC : ChannelBlock → Mf4ChannelBlock
@@ -45,12 +45,12 @@ blockC b = record {
   «unit_addr» = b .unit;
   «comment_addr» = b .comment;
   «more_links_at» = b .moreAt;
-  «more_links» = b .more;
+  «more_link_count» = b .more;
   channel = descriptionC (described b);
   «sync_type» = b .syncType;
   precision = b .precision;
   reserved1 = b .reserved;
-  «attachment_nr» = b .attachments;
+  «attachment_count» = b .attachments;
   «min_raw_value» = b .minRaw;
   «max_raw_value» = b .maxRaw;
   «lower_limit» = b .lowerLimit;
@@ -70,12 +70,12 @@ noBlock = record {
   «unit_addr» = 0;
   «comment_addr» = 0;
   «more_links_at» = 0;
-  «more_links» = 0;
+  «more_link_count» = 0;
   channel = noDescription;
   «sync_type» = 0;
   precision = 0;
   reserved1 = 0;
-  «attachment_nr» = 0;
+  «attachment_count» = 0;
   «min_raw_value» = 0;
   «max_raw_value» = 0;
   «lower_limit» = 0;
@@ -97,7 +97,7 @@ blockGiven b = record {
   unit = b .«unit_addr»;
   comment = b .«comment_addr»;
   moreAt = b .«more_links_at»;
-  more = b .«more_links»;
+  more = b .«more_link_count»;
   channelType = channelGiven (b .channel) .channelType;
   syncType = b .«sync_type»;
   dataType = channelGiven (b .channel) .dataType;
@@ -108,7 +108,7 @@ blockGiven b = record {
   invalidationBit = channelGiven (b .channel) .invalidationBit;
   precision = b .precision;
   reserved = b .reserved1;
-  attachments = b .«attachment_nr»;
+  attachments = b .«attachment_count»;
   minRaw = b .«min_raw_value»;
   maxRaw = b .«max_raw_value»;
   lowerLimit = b .«lower_limit»;

@@ -6,11 +6,12 @@ use Rattle.definitions.specs.Reply.{Reply, Outcome, answer, refusal}
 use Rattle.definitions.specs.Unicode.{TextWritten}
 use Rattle.definitions.specs.Header.{Header}
 use Rattle.definitions.specs.DataList.{DataList}
-use Rattle.replies.specs.declared.written.Mf4Written.{Mf4Written}
-use Rattle.replies.specs.declared.header.Mf4BlockHeader.{Mf4BlockHeader}
+use Rattle.replies.specs.declared.written.Mf4WrittenReply.{Mf4WrittenReply}
+use Rattle.replies.specs.declared.done.Mf4DoneReply.{Mf4DoneReply}
 use Rattle.replies.specs.declared.header.Mf4Header.{Mf4Header}
-use Rattle.replies.specs.declared.list.Mf4List.{Mf4List}
-use Rattle.replies.specs.declared.texts.Mf4Text.{Mf4Text}
+use Rattle.replies.specs.declared.header.Mf4HeaderReply.{Mf4HeaderReply}
+use Rattle.replies.specs.declared.list.Mf4ListReply.{Mf4ListReply}
+use Rattle.replies.specs.declared.texts.Mf4TextReply.{Mf4TextReply}
 
 -- what a call returns, and the buffer that was lent to it as it leaves it
 pub record Returned (R : Type 0) : Type 0 where
@@ -31,58 +32,65 @@ flagC false = 0
 
 -- ---- written
 
-abbrev pub writtenC : Reply ℕ → Mf4Written
+abbrev pub writtenC : Reply ℕ → Mf4WrittenReply
 writtenC (answer n) = record { reply = 0; told = 0; count = n }
 writtenC (refusal n t) = record { reply = n; told = t; count = 0 }
 
+-- ---- done
+
+-- of a call that answers nothing else
+abbrev pub doneC : Reply (Unit {0}) → Mf4DoneReply
+doneC (answer u) = record { reply = 0; told = 0 }
+doneC (refusal n t) = record { reply = n; told = t }
+
 -- ---- headers
 
-abbrev pub headerFields : Header → Mf4BlockHeader
-headerFields h = record { id = h .id; reserved0 = h .reserved; «block_len» = h .blockLength; «links_nr» = h .linkCount }
+abbrev pub headerFields : Header → Mf4Header
+headerFields h = record { id = h .id; reserved0 = h .reserved; «block_len» = h .blockLength; «link_count» = h .linkCount }
 
-abbrev pub noHeader : Mf4BlockHeader
-noHeader = record { id = 0; reserved0 = 0; «block_len» = 0; «links_nr» = 0 }
+abbrev pub noHeader : Mf4Header
+noHeader = record { id = 0; reserved0 = 0; «block_len» = 0; «link_count» = 0 }
 
 -- the header that C gives
-abbrev pub headerGiven : Mf4BlockHeader → Header
-headerGiven h = record { id = h .id; reserved = h .reserved0; blockLength = h .«block_len»; linkCount = h .«links_nr» }
+abbrev pub headerGiven : Mf4Header → Header
+headerGiven h = record { id = h .id; reserved = h .reserved0; blockLength = h .«block_len»; linkCount = h .«link_count» }
 
-abbrev pub headerC : Reply Header → Mf4Header
+abbrev pub headerC : Reply Header → Mf4HeaderReply
 headerC (answer h) = record { reply = 0; told = 0; header = headerFields h }
 headerC (refusal n t) = record { reply = n; told = t; header = noHeader }
 
 -- ---- data lists
 
-abbrev pub listC : Reply DataList → Mf4List
+abbrev pub listC : Reply DataList → Mf4ListReply
 listC (answer d) = record {
   reply = 0;
   told = 0;
   header = headerFields (d .header);
-  next = d .next;
-  «links_at» = d .linksAt;
-  links = d .links;
+  «next_addr» = d .next;
+  «data_links_at» = d .linksAt;
+  «data_link_count» = d .links;
   flags = d .flags;
   reserved1 = d .reserved;
-  «data_block_nr» = d .count;
+  «data_block_count» = d .count;
   «rest_at» = d .restAt;
-  rest = d .rest;
+  «rest_count» = d .rest;
 }
 listC (refusal n t) = record {
   reply = n;
   told = t;
   header = noHeader;
-  next = 0;
-  «links_at» = 0;
-  links = 0;
+  «next_addr» = 0;
+  «data_links_at» = 0;
+  «data_link_count» = 0;
   flags = 0;
   reserved1 = 0;
-  «data_block_nr» = 0;
+  «data_block_count» = 0;
   «rest_at» = 0;
-  rest = 0;
+  «rest_count» = 0;
 }
 
 -- ---- texts
 
-abbrev pub textC : Reply TextWritten → Mf4Text
+abbrev pub textC : Reply TextWritten → Mf4TextReply
 textC (answer t) = record { reply = 0; told = 0; count = t .count; damaged = flagC (t .damaged) }
 textC (refusal n t) = record { reply = n; told = t; count = 0; damaged = 0 }

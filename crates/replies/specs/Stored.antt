@@ -5,7 +5,7 @@ use Rattle.definitions.specs.Reply.{Reply, answer, refusal, if_then_else_}
 use Rattle.definitions.specs.Bytes.{twosComplement}
 use Rattle.definitions.specs.WrittenValue.{Given, givenUnsigned, givenSigned, givenDouble, givenOther}
 use Rattle.replies.specs.declared.stored.Mf4Number.{Mf4Number}
-use Rattle.replies.specs.declared.stored.Mf4Stored.{Mf4Stored}
+use Rattle.replies.specs.declared.done.Mf4DoneReply.{Mf4DoneReply}
 
 -- by the kinds that a value has for C; any other kind is no number
 abbrev pub givenBy : ℕ → ℕ → Given
@@ -17,7 +17,3 @@ givenBy kind number =
 
 abbrev pub numberGiven : Mf4Number → Given
 numberGiven v = givenBy (v .kind) (v .number)
-
-abbrev pub storedC : Reply (Unit {0}) → Mf4Stored
-storedC (answer u) = record { reply = 0; told = 0 }
-storedC (refusal n t) = record { reply = n; told = t }

@@ -9,11 +9,11 @@ use Rattle.definitions.specs.Channel.{Channel, Value, ValidValue, unsigned, sig
 use Rattle.replies.specs.Replies.{flagC}
 use Rattle.replies.specs.declared.channel.Mf4Channel.{Mf4Channel}
 use Rattle.replies.specs.declared.values.Shown.{Shown}
-use Rattle.replies.specs.declared.values.Mf4Value.{Mf4Value}
-use Rattle.replies.specs.declared.valid_values.Mf4ValidValue.{Mf4ValidValue}
-use Rattle.replies.specs.declared.fetches.Mf4Length.{Mf4Length}
-use Rattle.replies.specs.declared.fetches.Mf4Fetched.{Mf4Fetched}
-use Rattle.replies.specs.declared.payload.Mf4Payload.{Mf4Payload}
+use Rattle.replies.specs.declared.values.Mf4ValueReply.{Mf4ValueReply}
+use Rattle.replies.specs.declared.valid_values.Mf4ValidValueReply.{Mf4ValidValueReply}
+use Rattle.replies.specs.declared.fetches.Mf4LengthReply.{Mf4LengthReply}
+use Rattle.replies.specs.declared.done.Mf4DoneReply.{Mf4DoneReply}
+use Rattle.replies.specs.declared.payload.Mf4PayloadReply.{Mf4PayloadReply}
 
 -- the description that C gives, the type by its code
 abbrev pub channelGiven : Mf4Channel → Channel
@@ -25,7 +25,7 @@ channelGiven c = record {
   bitCount = c .«bit_count»;
   flags = c .flags;
   invalidationBit = c .«pos_invalidation_bit»;
-  dataLink = c .data;
+  dataLink = c .«data_addr»;
 }
 
 -- an integer as a word of 64 bits, in two's complement
@@ -52,35 +52,31 @@ decodedC (stream at n) = placeC 7 at n
 decodedC unknownValue = placeC 8 0 0
 
 -- what was decoded, in a reply of 0
-abbrev pub answerC : Shown → Mf4Value
-answerC d = record { reply = 0; kind = d .kind; told = 0; number = d .number; at = d .at; length = d .length }
+abbrev pub answerC : Shown → Mf4ValueReply
+answerC d = record { reply = 0; told = 0; kind = d .kind; number = d .number; at = d .at; length = d .length }
 
 -- a refusal has kind 0
-abbrev pub valueC : Reply Value → Mf4Value
+abbrev pub valueC : Reply Value → Mf4ValueReply
 valueC (answer v) = answerC (decodedC v)
-valueC (refusal n t) = record { reply = n; kind = 0; told = t; number = 0; at = 0; length = 0 }
+valueC (refusal n t) = record { reply = n; told = t; kind = 0; number = 0; at = 0; length = 0 }
 
-abbrev pub validAnswerC : Shown → ℕ → Mf4ValidValue
+abbrev pub validAnswerC : Shown → ℕ → Mf4ValidValueReply
 validAnswerC d valid =
-    record { reply = 0; kind = d .kind; told = 0; number = d .number; at = d .at; length = d .length; «is_valid» = valid }
+    record { reply = 0; told = 0; kind = d .kind; number = d .number; at = d .at; length = d .length; «is_valid» = valid }
 
-abbrev pub validValueC : Reply ValidValue → Mf4ValidValue
+abbrev pub validValueC : Reply ValidValue → Mf4ValidValueReply
 validValueC (answer v) = validAnswerC (decodedC (v .value)) (flagC (v .valid))
-validValueC (refusal n t) = record { reply = n; kind = 0; told = t; number = 0; at = 0; length = 0; «is_valid» = 0 }
+validValueC (refusal n t) = record { reply = n; told = t; kind = 0; number = 0; at = 0; length = 0; «is_valid» = 0 }
 
 -- ---- records
 
-abbrev pub lengthC : Reply ℕ → Mf4Length
+abbrev pub lengthC : Reply ℕ → Mf4LengthReply
 lengthC (answer n) = record { reply = 0; told = 0; length = n }
 lengthC (refusal n t) = record { reply = n; told = t; length = 0 }
 
-abbrev pub fetchedC : Reply (Unit {0}) → Mf4Fetched
-fetchedC (answer u) = record { reply = 0; told = 0 }
-fetchedC (refusal n t) = record { reply = n; told = t }
-
 -- ---- payloads
 
-abbrev pub payloadAnswerC : ℕ → Shown → ℕ → Mf4Payload
+abbrev pub payloadAnswerC : ℕ → Shown → ℕ → Mf4PayloadReply
 payloadAnswerC size d valid = record {
   reply = 0;
   kind = d .kind;
@@ -92,10 +88,10 @@ payloadAnswerC size d valid = record {
   «is_valid» = valid;
 }
 
-abbrev pub payloadC : Reply PayloadValue → Mf4Payload
+abbrev pub payloadC : Reply PayloadValue → Mf4PayloadReply
 payloadC (answer v) = payloadAnswerC (v .size) (decodedC (v .value)) (flagC (v .valid))
 payloadC (refusal n t) =
-    record { reply = n; kind = 0; told = t; number = 0; at = 0; length = 0; «payload_length» = 0; «is_valid» = 0 }
+    record { reply = n; told = t; kind = 0; number = 0; at = 0; length = 0; «payload_length» = 0; «is_valid» = 0 }
 
 -- what a call returns, and the two buffers that were lent to it as it leaves them
 pub record ReturnedBoth (R : Type 0) : Type 0 where

@@ -14,7 +14,7 @@ pub struct Mf4Channel {
     pub bit_count: u32,
     pub flags: u32,
     pub pos_invalidation_bit: u32,
-    pub data: u64,
+    pub data_addr: u64,
 }
 
 pub fn channel_of(given: Mf4Channel) -> Channel
@@ -29,6 +29,6 @@ pub fn channel_of(given: Mf4Channel) -> Channel
         bit_count: given.bit_count,
         flags: given.flags,
         pos_invalidation_bit: given.pos_invalidation_bit,
-        data: given.data,
+        data: given.data_addr,
     }
 }

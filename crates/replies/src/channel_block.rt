@@ -5,7 +5,7 @@ ghost use Rattle.fields.specs.Meaning.{channelMeant};
 ghost use Rattle.replies.specs.Channels.{descriptionC, noDescription, blockC, noBlock, blockGiven, channelC};
 use crate::channel::Mf4Channel;
 use crate::channel::channel_of;
-use crate::header::Mf4BlockHeader;
+use crate::header::Mf4Header;
 use crate::header::header_of;
 use crate::header::header_told;
 use crate::header::no_header;
@@ -15,7 +15,7 @@ use decoder::Channel;
 
 #[repr(C)]
 pub struct Mf4ChannelBlock {
-    pub header: Mf4BlockHeader,
+    pub header: Mf4Header,
     pub next_ch_addr: u64,
     pub component_addr: u64,
     pub name_addr: u64,
@@ -24,13 +24,13 @@ pub struct Mf4ChannelBlock {
     pub unit_addr: u64,
     pub comment_addr: u64,
     pub more_links_at: u64,
-    pub more_links: u64,
+    pub more_link_count: u64,
     // the description, with the data link
     pub channel: Mf4Channel,
     pub sync_type: u8,
     pub precision: u8,
     pub reserved1: u8,
-    pub attachment_nr: u16,
+    pub attachment_count: u16,
     pub min_raw_value: u64,
     pub max_raw_value: u64,
     pub lower_limit: u64,
@@ -58,7 +58,7 @@ fn description_told(channel: Channel) -> Mf4Channel
         bit_count: channel.bit_count,
         flags: channel.flags,
         pos_invalidation_bit: channel.pos_invalidation_bit,
-        data: channel.data,
+        data_addr: channel.data,
     }
 }
 
@@ -73,7 +73,7 @@ fn no_description() -> Mf4Channel
         bit_count: 0,
         flags: 0,
         pos_invalidation_bit: 0,
-        data: 0,
+        data_addr: 0,
     }
 }
 
@@ -90,12 +90,12 @@ fn no_block() -> Mf4ChannelBlock
         unit_addr: 0,
         comment_addr: 0,
         more_links_at: 0,
-        more_links: 0,
+        more_link_count: 0,
         channel: no_description(),
         sync_type: 0,
         precision: 0,
         reserved1: 0,
-        attachment_nr: 0,
+        attachment_count: 0,
         min_raw_value: 0,
         max_raw_value: 0,
         lower_limit: 0,
@@ -118,12 +118,12 @@ fn block_told(b: ChannelBlock) -> Mf4ChannelBlock
         unit_addr: b.unit_addr,
         comment_addr: b.comment_addr,
         more_links_at: b.more_links_at,
-        more_links: b.more_links,
+        more_link_count: b.more_links,
         channel: description_told(b.channel()),
         sync_type: b.sync_type,
         precision: b.precision,
         reserved1: b.reserved1,
-        attachment_nr: b.attachment_nr,
+        attachment_count: b.attachment_nr,
         min_raw_value: b.min_raw_value,
         max_raw_value: b.max_raw_value,
         lower_limit: b.lower_limit,
@@ -167,7 +167,7 @@ pub fn block_of(given: Mf4ChannelBlock) -> ChannelBlock
         unit_addr: given.unit_addr,
         comment_addr: given.comment_addr,
         more_links_at: given.more_links_at,
-        more_links: given.more_links,
+        more_links: given.more_link_count,
         channel_type: channel.channel_type,
         sync_type: given.sync_type,
         data_type,
@@ -178,7 +178,7 @@ pub fn block_of(given: Mf4ChannelBlock) -> ChannelBlock
         pos_invalidation_bit: channel.pos_invalidation_bit,
         precision: given.precision,
         reserved1: given.reserved1,
-        attachment_nr: given.attachment_nr,
+        attachment_nr: given.attachment_count,
         min_raw_value: given.min_raw_value,
         max_raw_value: given.max_raw_value,
         lower_limit: given.lower_limit,

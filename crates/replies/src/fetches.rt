@@ -2,50 +2,46 @@
 ghost use mathlib.Core.Path.{_≡_};
 ghost use Rattle.chain.specs.Meaning.{chainReply};
 ghost use Rattle.records.specs.Meaning.{recordReply};
-ghost use Rattle.replies.specs.Values.{lengthC, fetchedC};
+ghost use Rattle.replies.specs.Replies.{doneC};
+ghost use Rattle.replies.specs.Values.{lengthC};
+use crate::done::Mf4DoneReply;
 use chain::ChainRead;
 use records::RecordRead;
 
 #[repr(C)]
-pub struct Mf4Length {
+pub struct Mf4LengthReply {
     pub reply: u32,
     pub told: u64,
     pub length: u64,
 }
 
-#[repr(C)]
-pub struct Mf4Fetched {
-    pub reply: u32,
-    pub told: u64,
-}
-
-pub fn length_reply(read: ChainRead) -> Mf4Length
+pub fn length_reply(read: ChainRead) -> Mf4LengthReply
     ensures { λ r. ⌜ r ≡ lengthC (chainReply read) ⌝ }
 {
     let ChainRead::Whole(total) = read else {
         let why = read.refusal();
-        return Mf4Length {
+        return Mf4LengthReply {
             reply: why.number(),
             told: why.told(),
             length: 0,
         };
     };
-    Mf4Length {
+    Mf4LengthReply {
         reply: 0,
         told: 0,
         length: total.0,
     }
 }
 
-pub fn fetched_reply(read: RecordRead) -> Mf4Fetched
-    ensures { λ r. ⌜ r ≡ fetchedC (recordReply read) ⌝ }
+pub fn fetched_reply(read: RecordRead) -> Mf4DoneReply
+    ensures { λ r. ⌜ r ≡ doneC (recordReply read) ⌝ }
 {
     let RecordRead::Record = read else {
         let why = read.refusal();
-        return Mf4Fetched {
+        return Mf4DoneReply {
             reply: why.number(),
             told: why.told(),
         };
     };
-    Mf4Fetched { reply: 0, told: 0 }
+    Mf4DoneReply { reply: 0, told: 0 }
 }

@@ -7,43 +7,43 @@ use crate::values::decoded;
 use payloads::PayloadRead;
 
 #[repr(C)]
-pub struct Mf4Payload {
+pub struct Mf4PayloadReply {
     pub reply: u32,
-    pub kind: u32,
     pub told: u64,
+    pub kind: u32,
+    pub is_valid: u8,
     pub number: u64,
     pub at: u64,
     pub length: u64,
     pub payload_length: u64,
-    pub is_valid: u8,
 }
 
-pub fn payload_reply(read: PayloadRead) -> Mf4Payload
+pub fn payload_reply(read: PayloadRead) -> Mf4PayloadReply
     ensures { λ r. ⌜ r ≡ payloadC (payloadReply read) ⌝ }
 {
     let PayloadRead::Value(payload) = read else {
         let why = read.refusal();
-        return Mf4Payload {
+        return Mf4PayloadReply {
             reply: why.number(),
-            kind: 0,
             told: why.told(),
+            kind: 0,
+            is_valid: 0,
             number: 0,
             at: 0,
             length: 0,
             payload_length: 0,
-            is_valid: 0,
         };
     };
     let value = payload.value;
     let told = decoded(value);
-    Mf4Payload {
+    Mf4PayloadReply {
         reply: 0,
-        kind: told.kind,
         told: 0,
+        kind: told.kind,
+        is_valid: flag(payload.is_valid),
         number: told.number,
         at: told.at,
         length: told.length,
         payload_length: payload.length,
-        is_valid: flag(payload.is_valid),
     }
 }

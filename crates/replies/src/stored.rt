@@ -1,22 +1,18 @@
 // A number that C gives to be written, and whether it was.
 ghost use mathlib.Core.Path.{_≡_};
 ghost use Rattle.encoder.specs.Meaning.{givenMeant, writtenReply};
-ghost use Rattle.replies.specs.Stored.{numberGiven, storedC};
+ghost use Rattle.replies.specs.Replies.{doneC};
+ghost use Rattle.replies.specs.Stored.{numberGiven};
+use crate::done::Mf4DoneReply;
 use encoder::NumberGiven;
 use encoder::ValueWritten;
 use words::signed_of;
 
-// The kind and the number as Mf4Value has them
+// The kind and the number as Mf4ValueReply has them
 #[repr(C)]
 pub struct Mf4Number {
     pub kind: u32,
     pub number: u64,
-}
-
-#[repr(C)]
-pub struct Mf4Stored {
-    pub reply: u32,
-    pub told: u64,
 }
 
 pub fn number_of(given: Mf4Number) -> NumberGiven
@@ -35,15 +31,15 @@ pub fn number_of(given: Mf4Number) -> NumberGiven
     NumberGiven::Other
 }
 
-pub fn stored_reply(written: ValueWritten) -> Mf4Stored
-    ensures { λ r. ⌜ r ≡ storedC (writtenReply written) ⌝ }
+pub fn stored_reply(written: ValueWritten) -> Mf4DoneReply
+    ensures { λ r. ⌜ r ≡ doneC (writtenReply written) ⌝ }
 {
     let ValueWritten::Done = written else {
         let why = written.refusal();
-        return Mf4Stored {
+        return Mf4DoneReply {
             reply: why.number(),
             told: why.told(),
         };
     };
-    Mf4Stored { reply: 0, told: 0 }
+    Mf4DoneReply { reply: 0, told: 0 }
 }

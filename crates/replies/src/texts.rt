@@ -5,7 +5,7 @@ ghost use Rattle.replies.specs.Replies.{flagC, textC};
 use text::TextWrite;
 
 #[repr(C)]
-pub struct Mf4Text {
+pub struct Mf4TextReply {
     pub reply: u32,
     pub told: u64,
     pub count: u64,
@@ -19,19 +19,19 @@ pub fn flag(set: bool) -> u8
     if set { 1 } else { 0 }
 }
 
-pub fn text_reply(write: TextWrite) -> Mf4Text
+pub fn text_reply(write: TextWrite) -> Mf4TextReply
     ensures { λ r. ⌜ r ≡ textC (textReply write) ⌝ }
 {
     let TextWrite::Written { count, damaged } = write else {
         let why = write.refusal();
-        return Mf4Text {
+        return Mf4TextReply {
             reply: why.number(),
             told: why.told(),
             count: 0,
             damaged: 0,
         };
     };
-    Mf4Text {
+    Mf4TextReply {
         reply: 0,
         told: 0,
         count,

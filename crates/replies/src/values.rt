@@ -7,10 +7,10 @@ use decoder::ValueRead;
 use doubles::magnitude_less_one;
 
 #[repr(C)]
-pub struct Mf4Value {
+pub struct Mf4ValueReply {
     pub reply: u32,
-    pub kind: u32,
     pub told: u64,
+    pub kind: u32,
     pub number: u64,
     pub at: u64,
     pub length: u64,
@@ -72,25 +72,25 @@ pub(crate) fn decoded(value: DecodedValue) -> Shown
     }
 }
 
-pub fn value_reply(read: ValueRead) -> Mf4Value
+pub fn value_reply(read: ValueRead) -> Mf4ValueReply
     ensures { λ r. ⌜ r ≡ valueC (valueReply read) ⌝ }
 {
     let ValueRead::Value(value) = read else {
         let why = read.refusal();
-        return Mf4Value {
+        return Mf4ValueReply {
             reply: why.number(),
-            kind: 0,
             told: why.told(),
+            kind: 0,
             number: 0,
             at: 0,
             length: 0,
         };
     };
     let told = decoded(value);
-    Mf4Value {
+    Mf4ValueReply {
         reply: 0,
-        kind: told.kind,
         told: 0,
+        kind: told.kind,
         number: told.number,
         at: told.at,
         length: told.length,

@@ -5,25 +5,25 @@ ghost use Rattle.replies.specs.Replies.{writtenC};
 use blocks::Written;
 
 #[repr(C)]
-pub struct Mf4Written {
+pub struct Mf4WrittenReply {
     // 0: the bytes were written; else the refusal's number
     pub reply: u32,
     pub told: u64,
     pub count: u64,
 }
 
-pub fn written_reply(written: Written) -> Mf4Written
+pub fn written_reply(written: Written) -> Mf4WrittenReply
     ensures { λ r. ⌜ r ≡ writtenC (writtenReply written) ⌝ }
 {
     let Written::Bytes(count) = written else {
         let why = written.refusal();
-        return Mf4Written {
+        return Mf4WrittenReply {
             reply: why.number(),
             told: why.told(),
             count: 0,
         };
     };
-    Mf4Written {
+    Mf4WrittenReply {
         reply: 0,
         told: 0,
         count,

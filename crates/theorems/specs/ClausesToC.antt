@@ -6,21 +6,20 @@ use contract.Lifetimes.{Lfts}
 use Rattle.definitions.specs.Bytes.{little, big}
 use Rattle.definitions.specs.Unicode.{Encoding, latin1, utf8, utf16}
 use Rattle.mf4.specs.Clauses.{Slice, Allows}
-use Rattle.replies.specs.declared.header.Mf4BlockHeader.{Mf4BlockHeader}
 use Rattle.replies.specs.declared.header.Mf4Header.{Mf4Header}
-use Rattle.replies.specs.declared.list.Mf4List.{Mf4List}
+use Rattle.replies.specs.declared.header.Mf4HeaderReply.{Mf4HeaderReply}
+use Rattle.replies.specs.declared.list.Mf4ListReply.{Mf4ListReply}
 use Rattle.replies.specs.declared.channel_block.Mf4ChannelBlock.{Mf4ChannelBlock}
 use Rattle.replies.specs.declared.channel_block.Mf4ChannelReply.{Mf4ChannelReply}
-use Rattle.replies.specs.declared.written.Mf4Written.{Mf4Written}
-use Rattle.replies.specs.declared.texts.Mf4Text.{Mf4Text}
+use Rattle.replies.specs.declared.written.Mf4WrittenReply.{Mf4WrittenReply}
+use Rattle.replies.specs.declared.texts.Mf4TextReply.{Mf4TextReply}
 use Rattle.replies.specs.declared.channel.Mf4Channel.{Mf4Channel}
-use Rattle.replies.specs.declared.values.Mf4Value.{Mf4Value}
-use Rattle.replies.specs.declared.valid_values.Mf4ValidValue.{Mf4ValidValue}
-use Rattle.replies.specs.declared.fetches.Mf4Length.{Mf4Length}
-use Rattle.replies.specs.declared.fetches.Mf4Fetched.{Mf4Fetched}
-use Rattle.replies.specs.declared.payload.Mf4Payload.{Mf4Payload}
+use Rattle.replies.specs.declared.values.Mf4ValueReply.{Mf4ValueReply}
+use Rattle.replies.specs.declared.valid_values.Mf4ValidValueReply.{Mf4ValidValueReply}
+use Rattle.replies.specs.declared.fetches.Mf4LengthReply.{Mf4LengthReply}
+use Rattle.replies.specs.declared.done.Mf4DoneReply.{Mf4DoneReply}
+use Rattle.replies.specs.declared.payload.Mf4PayloadReply.{Mf4PayloadReply}
 use Rattle.replies.specs.declared.stored.Mf4Number.{Mf4Number}
-use Rattle.replies.specs.declared.stored.Mf4Stored.{Mf4Stored}
 use Rattle.mf4.proofs.mf4_read_header.Kinds as read-header-kinds
 use Rattle.mf4.proofs.mf4_read_header.Reads as read-header
 use Rattle.mf4.proofs.mf4_write_header.Kinds as write-header-kinds
@@ -51,8 +50,8 @@ use Rattle.mf4.proofs.mf4_decode_valid_value.Kinds as decode-valid-value-kinds
 use Rattle.mf4.proofs.mf4_decode_valid_value.Reads as decode-valid-value
 use Rattle.mf4.proofs.mf4_check_validity.Kinds as check-validity-kinds
 use Rattle.mf4.proofs.mf4_check_validity.Reads as check-validity
-use Rattle.mf4.proofs.mf4_decode_double.Kinds as decode-double-kinds
-use Rattle.mf4.proofs.mf4_decode_double.Reads as decode-double
+use Rattle.mf4.proofs.mf4_decode_double_bits.Kinds as decode-double-kinds
+use Rattle.mf4.proofs.mf4_decode_double_bits.Reads as decode-double
 use Rattle.mf4.proofs.mf4_data_length.Kinds as data-length-kinds
 use Rattle.mf4.proofs.mf4_data_length.Reads as data-length
 use Rattle.mf4.proofs.mf4_read_record.Kinds as read-record-kinds
@@ -66,35 +65,35 @@ use Rattle.mf4.proofs.mf4_record_payload.Reads as record-payload
 
 -- ---- blocks
 
-abbrev pub ReadsHeaderC : Lfts 1 → Slice → Mf4Header → Type 0
+abbrev pub ReadsHeaderC : Lfts 1 → Slice → Mf4HeaderReply → Type 0
 ReadsHeaderC κs bytes y = Allows 1 read-header-kinds.ps read-header-kinds.r read-header.Learnt κs (bytes, tt) y (tt, tt)
 
-abbrev pub WritesHeaderC : Lfts 1 → Mf4BlockHeader → Slice → Mf4Written → List ℕ → Type 0
+abbrev pub WritesHeaderC : Lfts 1 → Mf4Header → Slice → Mf4WrittenReply → List ℕ → Type 0
 WritesHeaderC κs header out y after = Allows 1 write-header-kinds.ps write-header-kinds.r write-header.Learnt κs (header, (out, tt)) y (tt, (after, tt))
 
 abbrev pub GivesCodeC : Lfts 0 → ℕ → ℕ → Type 0
 GivesCodeC κs code y = Allows 0 type-code-kinds.ps type-code-kinds.r type-code.Learnt κs (code, tt) y (tt, tt)
 
-abbrev pub ReadsListC : Lfts 1 → Slice → Mf4List → Type 0
+abbrev pub ReadsListC : Lfts 1 → Slice → Mf4ListReply → Type 0
 ReadsListC κs bytes y = Allows 1 read-list-kinds.ps read-list-kinds.r read-list.Learnt κs (bytes, tt) y (tt, tt)
 
-abbrev pub WritesEqualC : Lfts 2 → ℕ → Slice → ℕ → Slice → Mf4Written → List ℕ → Type 0
+abbrev pub WritesEqualC : Lfts 2 → ℕ → Slice → ℕ → Slice → Mf4WrittenReply → List ℕ → Type 0
 WritesEqualC κs next links length out y after =
     Allows 2 write-equal-kinds.ps write-equal-kinds.r write-equal.Learnt κs (next, (links, (length, (out, tt)))) y (tt, (tt, (tt, (after, tt))))
 
-abbrev pub WritesVariableC : Lfts 3 → ℕ → Slice → Slice → Slice → Mf4Written → List ℕ → Type 0
+abbrev pub WritesVariableC : Lfts 3 → ℕ → Slice → Slice → Slice → Mf4WrittenReply → List ℕ → Type 0
 WritesVariableC κs next links offsets out y after =
     Allows 3 write-variable-kinds.ps write-variable-kinds.r write-variable.Learnt κs (next, (links, (offsets, (out, tt)))) y (tt, (tt, (tt, (after, tt))))
 
 abbrev pub ReadsChannelC : Lfts 1 → Slice → Mf4ChannelReply → Type 0
 ReadsChannelC κs bytes y = Allows 1 read-channel-kinds.ps read-channel-kinds.r read-channel.Learnt κs (bytes, tt) y (tt, tt)
 
-abbrev pub WritesChannelC : Lfts 1 → Mf4ChannelBlock → Slice → Mf4Written → List ℕ → Type 0
+abbrev pub WritesChannelC : Lfts 1 → Mf4ChannelBlock → Slice → Mf4WrittenReply → List ℕ → Type 0
 WritesChannelC κs block out y after = Allows 1 write-channel-kinds.ps write-channel-kinds.r write-channel.Learnt κs (block, (out, tt)) y (tt, (after, tt))
 
 -- ---- a text: the call for its encoding
 
-abbrev pub WritesTextC : Encoding → Lfts 2 → Slice → Slice → Mf4Text → List ℕ → Type 0
+abbrev pub WritesTextC : Encoding → Lfts 2 → Slice → Slice → Mf4TextReply → List ℕ → Type 0
 WritesTextC latin1 κs bytes out y after = Allows 2 text-latin1-kinds.ps text-latin1-kinds.r text-latin1.Learnt κs (bytes, (out, tt)) y (tt, (after, tt))
 WritesTextC utf8 κs bytes out y after = Allows 2 text-utf8-kinds.ps text-utf8-kinds.r text-utf8.Learnt κs (bytes, (out, tt)) y (tt, (after, tt))
 WritesTextC (utf16 little) κs bytes out y after = Allows 2 text-utf16-le-kinds.ps text-utf16-le-kinds.r text-utf16-le.Learnt κs (bytes, (out, tt)) y (tt, (after, tt))
@@ -102,11 +101,11 @@ WritesTextC (utf16 big) κs bytes out y after = Allows 2 text-utf16-be-kinds.ps 
 
 -- ---- a field
 
-abbrev pub ReadsValueC : Lfts 1 → Slice → ℕ → Mf4Channel → Mf4Value → Type 0
+abbrev pub ReadsValueC : Lfts 1 → Slice → ℕ → Mf4Channel → Mf4ValueReply → Type 0
 ReadsValueC κs bytes idSize channel y =
     Allows 1 decode-value-kinds.ps decode-value-kinds.r decode-value.Learnt κs (bytes, (idSize, (channel, tt))) y (tt, (tt, (tt, tt)))
 
-abbrev pub ReadsValidValueC : Lfts 1 → Slice → ℕ → ℕ → Mf4Channel → Mf4ValidValue → Type 0
+abbrev pub ReadsValidValueC : Lfts 1 → Slice → ℕ → ℕ → Mf4Channel → Mf4ValidValueReply → Type 0
 ReadsValidValueC κs bytes idSize dataBytes channel y =
     Allows 1 decode-valid-value-kinds.ps decode-valid-value-kinds.r decode-valid-value.Learnt κs (bytes, (idSize, (dataBytes, (channel, tt)))) y (tt, (tt, (tt, (tt, tt))))
 
@@ -118,21 +117,21 @@ abbrev pub ReadsDoubleC : Lfts 1 → Slice → ℕ → Mf4Channel → ℕ → Ty
 ReadsDoubleC κs bytes idSize channel y =
     Allows 1 decode-double-kinds.ps decode-double-kinds.r decode-double.Learnt κs (bytes, (idSize, (channel, tt))) y (tt, (tt, (tt, tt)))
 
-abbrev pub WritesValueC : Lfts 1 → ℕ → Mf4Channel → Mf4Number → Slice → Mf4Stored → List ℕ → Type 0
+abbrev pub WritesValueC : Lfts 1 → ℕ → Mf4Channel → Mf4Number → Slice → Mf4DoneReply → List ℕ → Type 0
 WritesValueC κs idSize channel value bytes y after =
     Allows 1 write-value-kinds.ps write-value-kinds.r write-value.Learnt κs (idSize, (channel, (value, (bytes, tt)))) y (tt, (tt, (tt, (after, tt))))
 
 -- ---- the joined data, a record of it, and a value in that
 
-abbrev pub ReadsLengthC : Lfts 1 → Slice → ℕ → Mf4Length → Type 0
+abbrev pub ReadsLengthC : Lfts 1 → Slice → ℕ → Mf4LengthReply → Type 0
 ReadsLengthC κs file start y = Allows 1 data-length-kinds.ps data-length-kinds.r data-length.Learnt κs (file, (start, tt)) y (tt, (tt, tt))
 
-abbrev pub ReadsRecordC : Lfts 2 → Slice → ℕ → ℕ → ℕ → Slice → Mf4Fetched → List ℕ → Type 0
+abbrev pub ReadsRecordC : Lfts 2 → Slice → ℕ → ℕ → ℕ → Slice → Mf4DoneReply → List ℕ → Type 0
 ReadsRecordC κs file start number size out y after =
     Allows 2 read-record-kinds.ps read-record-kinds.r read-record.Learnt κs
     (file, (start, (number, (size, (out, tt))))) y (tt, (tt, (tt, (tt, (after, tt)))))
 
-abbrev pub ReadsRecordValueC : Lfts 2 → Slice → ℕ → ℕ → ℕ → ℕ → ℕ → Mf4Channel → Slice → Mf4ValidValue → List ℕ → Type 0
+abbrev pub ReadsRecordValueC : Lfts 2 → Slice → ℕ → ℕ → ℕ → ℕ → ℕ → Mf4Channel → Slice → Mf4ValidValueReply → List ℕ → Type 0
 ReadsRecordValueC κs file start number size idSize dataBytes channel out y after =
     Allows 2 record-value-kinds.ps record-value-kinds.r record-value.Learnt κs
     (file, (start, (number, (size, (idSize, (dataBytes, (channel, (out, tt)))))))) y
@@ -140,7 +139,7 @@ ReadsRecordValueC κs file start number size idSize dataBytes channel out y afte
 
 -- ---- a payload
 
-abbrev pub ReadsPayloadC : Lfts 3 → Slice → ℕ → ℕ → ℕ → ℕ → ℕ → Mf4Channel → Slice → Slice → Mf4Payload → List ℕ → List ℕ → Type 0
+abbrev pub ReadsPayloadC : Lfts 3 → Slice → ℕ → ℕ → ℕ → ℕ → ℕ → Mf4Channel → Slice → Slice → Mf4PayloadReply → List ℕ → List ℕ → Type 0
 ReadsPayloadC κs file start number size idSize dataBytes channel out room y after later =
     Allows 3 record-payload-kinds.ps record-payload-kinds.r record-payload.Learnt κs
     (file, (start, (number, (size, (idSize, (dataBytes, (channel, (out, (room, tt))))))))) y

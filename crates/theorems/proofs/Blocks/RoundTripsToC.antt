@@ -15,10 +15,10 @@ use Rattle.replies.specs.Replies.{Returned, returned, returnedBy, writtenC, hea
 use Rattle.replies.specs.Channels.{blockGiven, channelC}
 use Rattle.replies.specs.declared.channel_block.Mf4ChannelBlock.{Mf4ChannelBlock}
 use Rattle.replies.specs.declared.channel_block.Mf4ChannelReply.{Mf4ChannelReply}
-use Rattle.replies.specs.declared.header.Mf4BlockHeader.{Mf4BlockHeader}
 use Rattle.replies.specs.declared.header.Mf4Header.{Mf4Header}
-use Rattle.replies.specs.declared.list.Mf4List.{Mf4List}
-use Rattle.replies.specs.declared.written.Mf4Written.{Mf4Written}
+use Rattle.replies.specs.declared.header.Mf4HeaderReply.{Mf4HeaderReply}
+use Rattle.replies.specs.declared.list.Mf4ListReply.{Mf4ListReply}
+use Rattle.replies.specs.declared.written.Mf4WrittenReply.{Mf4WrittenReply}
 use Rattle.mf4.specs.Clauses.{Slice}
 use Rattle.theorems.specs.ClausesToC.{ReadsHeaderC, WritesHeaderC, GivesCodeC, ReadsChannelC, WritesChannelC, ReadsListC, WritesEqualC, WritesVariableC}
 use Rattle.replies.proofs.ToldToC.{writtenAgain, headerAgain, listAgain, channelAgain}
@@ -32,11 +32,11 @@ use Rattle.theorems.proofs.Blocks.ListWrittenRead.{listFrom}
 use Rattle.theorems.proofs.Blocks.RoundTripsInBuffers.{WrittenInto, header-back, header-again, channel-back, channel-again, channel-again-plain, ListBack, WrittenFrom, one-word, list-back, list-again}
 
 -- a reply of 0 is an answer
-into : (y : Mf4Written) (after : List ℕ) (o : Outcome ℕ) → returned y after ≡ returnedBy writtenC o → writtenAgain y ≡ o .reply → y .reply ≡ 0 → WrittenInto after o
+into : (y : Mf4WrittenReply) (after : List ℕ) (o : Outcome ℕ) → returned y after ≡ returnedBy writtenC o → writtenAgain y ≡ o .reply → y .reply ≡ 0 → WrittenInto after o
 into y after o p told zero = record {
   count = y .count;
   answers = sym told ∙ rw (eq-eqb _ _ zero);
-  left = ap (λ (x : Returned Mf4Written). x .buffer) p;
+  left = ap (λ (x : Returned Mf4WrittenReply). x .buffer) p;
 }
 
 -- ---- a type
@@ -47,8 +47,8 @@ code-given-back κs code y gave = gave ∙ code-back code
 
 -- ---- a header
 
-module _ (ws rs : Lfts 1) (header : Mf4BlockHeader) (out : Slice) (y : Mf4Written) (after : List ℕ)
-    (wrote : WritesHeaderC ws header out y after) (zero : y .reply ≡ 0) (bytes : Slice) (z : Mf4Header) (read : ReadsHeaderC rs bytes z) where
+module _ (ws rs : Lfts 1) (header : Mf4Header) (out : Slice) (y : Mf4WrittenReply) (after : List ℕ)
+    (wrote : WritesHeaderC ws header out y after) (zero : y .reply ≡ 0) (bytes : Slice) (z : Mf4HeaderReply) (read : ReadsHeaderC rs bytes z) where
   header-in : WrittenInto after (headerWritten (out .now) (headerGiven header))
   header-in = into y after _ wrote (mf4-write-header-told ws header out y after wrote) zero
 
@@ -61,7 +61,7 @@ module _ (ws rs : Lfts 1) (header : Mf4BlockHeader) (out : Slice) (y : Mf4Writte
 
 -- ---- a channel block
 
-module _ (ws rs : Lfts 1) (block : Mf4ChannelBlock) (out : Slice) (y : Mf4Written) (after : List ℕ)
+module _ (ws rs : Lfts 1) (block : Mf4ChannelBlock) (out : Slice) (y : Mf4WrittenReply) (after : List ℕ)
     (wrote : WritesChannelC ws block out y after) (zero : y .reply ≡ 0) (bytes : Slice) (z : Mf4ChannelReply) (read : ReadsChannelC rs bytes z) where
   channel-in : WrittenInto after (channelWritten (out .now) (blockGiven block))
   channel-in = into y after _ wrote (mf4-write-channel-told ws block out y after wrote) zero
@@ -90,13 +90,13 @@ module _ (ws rs : Lfts 1) (block : Mf4ChannelBlock) (out : Slice) (y : Mf4Writte
 -- what reading gives of the bytes that were left
 abbrev pub ReadBack : Lfts 1 → ℕ → List ℕ → Lengths → List ℕ → Type 0
 ReadBack rs next links l after =
-    (bytes : Slice) (z : Mf4List) → ReadsListC rs bytes z → bytes .now ≡ after
+    (bytes : Slice) (z : Mf4ListReply) → ReadsListC rs bytes z → bytes .now ≡ after
     → (z ≡ listC (answer (listFrom next links (flagsFor l) (restFor l)))) × ListBack next links l (bytes .now)
 
 -- where a list that was read is written
 abbrev pub WrittenAgain : Lfts 1 → ℕ → List ℕ → Lengths → List ℕ → Type 0
 WrittenAgain rs next links l after =
-    (bytes : Slice) (z : Mf4List) (d : DataList) → ReadsListC rs bytes z → listAgain z ≡ answer d → Bytes (bytes .now) → WrittenFrom (bytes .now) d next links l
+    (bytes : Slice) (z : Mf4ListReply) (d : DataList) → ReadsListC rs bytes z → listAgain z ≡ answer d → Bytes (bytes .now) → WrittenFrom (bytes .now) d next links l
     → take (d .header .blockLength) after ≡ take (d .header .blockLength) (bytes .now)
 
 module _ (rs : Lfts 1) (out : List ℕ) (next : ℕ) (links : List ℕ) (l : Lengths) (after : List ℕ) (w : WrittenInto after (listWritten out next links l)) where
@@ -106,7 +106,7 @@ module _ (rs : Lfts 1) (out : List ℕ) (next : ℕ) (links : List ℕ) (l : Len
   written-again : WrittenAgain rs next links l after
   written-again bytes z d read e b f = list-again out next links l after w (bytes .now) d b (sym (mf4-read-list-told rs bytes z read) ∙ e) f
 
-module _ (ws : Lfts 2) (rs : Lfts 1) (next : ℕ) (links : Slice) (size : ℕ) (out : Slice) (y : Mf4Written) (after : List ℕ)
+module _ (ws : Lfts 2) (rs : Lfts 1) (next : ℕ) (links : Slice) (size : ℕ) (out : Slice) (y : Mf4WrittenReply) (after : List ℕ)
     (wrote : WritesEqualC ws next links size out y after) (zero : y .reply ≡ 0) where
   equal-in : WrittenInto after (listWritten (out .now) next (links .now) (equal size))
   equal-in = into y after _ wrote (mf4-write-list-equal-told ws next links size out y after wrote) zero
@@ -117,7 +117,7 @@ module _ (ws : Lfts 2) (rs : Lfts 1) (next : ℕ) (links : Slice) (size : ℕ) (
   pub equal-written-again : WrittenAgain rs next (links .now) (equal size) after
   equal-written-again = written-again rs (out .now) next (links .now) (equal size) after equal-in
 
-module _ (ws : Lfts 3) (rs : Lfts 1) (next : ℕ) (links offsets out : Slice) (y : Mf4Written) (after : List ℕ)
+module _ (ws : Lfts 3) (rs : Lfts 1) (next : ℕ) (links offsets out : Slice) (y : Mf4WrittenReply) (after : List ℕ)
     (wrote : WritesVariableC ws next links offsets out y after) (zero : y .reply ≡ 0) where
   variable-in : WrittenInto after (listWritten (out .now) next (links .now) (variable (offsets .now)))
   variable-in = into y after _ wrote (mf4-write-list-variable-told ws next links offsets out y after wrote) zero

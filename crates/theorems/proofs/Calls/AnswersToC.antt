@@ -18,18 +18,18 @@ use Rattle.text.proofs.Room.{room, text-room}
 use Rattle.replies.specs.Replies.{headerGiven}
 use Rattle.replies.specs.Values.{channelGiven}
 use Rattle.replies.specs.Channels.{blockGiven}
-use Rattle.replies.specs.declared.header.Mf4BlockHeader.{Mf4BlockHeader}
 use Rattle.replies.specs.declared.header.Mf4Header.{Mf4Header}
-use Rattle.replies.specs.declared.list.Mf4List.{Mf4List}
+use Rattle.replies.specs.declared.header.Mf4HeaderReply.{Mf4HeaderReply}
+use Rattle.replies.specs.declared.list.Mf4ListReply.{Mf4ListReply}
 use Rattle.replies.specs.declared.channel_block.Mf4ChannelBlock.{Mf4ChannelBlock}
 use Rattle.replies.specs.declared.channel_block.Mf4ChannelReply.{Mf4ChannelReply}
-use Rattle.replies.specs.declared.written.Mf4Written.{Mf4Written}
-use Rattle.replies.specs.declared.texts.Mf4Text.{Mf4Text}
+use Rattle.replies.specs.declared.written.Mf4WrittenReply.{Mf4WrittenReply}
+use Rattle.replies.specs.declared.texts.Mf4TextReply.{Mf4TextReply}
 use Rattle.replies.specs.declared.channel.Mf4Channel.{Mf4Channel}
-use Rattle.replies.specs.declared.values.Mf4Value.{Mf4Value}
-use Rattle.replies.specs.declared.valid_values.Mf4ValidValue.{Mf4ValidValue}
-use Rattle.replies.specs.declared.fetches.Mf4Length.{Mf4Length}
-use Rattle.replies.specs.declared.fetches.Mf4Fetched.{Mf4Fetched}
+use Rattle.replies.specs.declared.values.Mf4ValueReply.{Mf4ValueReply}
+use Rattle.replies.specs.declared.valid_values.Mf4ValidValueReply.{Mf4ValidValueReply}
+use Rattle.replies.specs.declared.fetches.Mf4LengthReply.{Mf4LengthReply}
+use Rattle.replies.specs.declared.done.Mf4DoneReply.{Mf4DoneReply}
 use Rattle.mf4.specs.Clauses.{Slice}
 use Rattle.theorems.specs.Exactly.{Exactly, ExactlyZero, ListStands, ChannelStands, ListFits, FieldStands, Joinable, Fetchable, ValueFetchable}
 use Rattle.theorems.specs.ClausesToC.{ReadsHeaderC, WritesHeaderC, ReadsListC, WritesEqualC, WritesVariableC, ReadsChannelC, WritesChannelC, WritesTextC, ReadsValueC, ReadsValidValueC, ReadsLengthC, ReadsRecordC, ReadsRecordValueC}
@@ -49,38 +49,38 @@ zero-exactly {A} {P} n t a r q h = go (eqb n 0) refl q
 
 -- ---- blocks
 
-pub header-read-zero : (κs : Lfts 1) (bytes : Slice) (y : Mf4Header) → ReadsHeaderC κs bytes y → ExactlyZero (24 ≤ length (bytes .now)) (y .reply)
+pub header-read-zero : (κs : Lfts 1) (bytes : Slice) (y : Mf4HeaderReply) → ReadsHeaderC κs bytes y → ExactlyZero (24 ≤ length (bytes .now)) (y .reply)
 header-read-zero κs bytes y p = zero-exactly (y .reply) (y .told) _ _ (mf4-read-header-told κs bytes y p) (header-exactly (bytes .now))
 
-pub header-write-zero : (κs : Lfts 1) (header : Mf4BlockHeader) (out : Slice) (y : Mf4Written) (after : List ℕ)
+pub header-write-zero : (κs : Lfts 1) (header : Mf4Header) (out : Slice) (y : Mf4WrittenReply) (after : List ℕ)
     → WritesHeaderC κs header out y after → ExactlyZero (24 ≤ length (out .now)) (y .reply)
 header-write-zero κs header out y after p =
     zero-exactly (y .reply) (y .told) _ _ (mf4-write-header-told κs header out y after p) (header-written-exactly (out .now) (headerGiven header))
 
-pub list-read-zero : (κs : Lfts 1) (bytes : Slice) (y : Mf4List) → ReadsListC κs bytes y → ExactlyZero (ListStands (bytes .now)) (y .reply)
+pub list-read-zero : (κs : Lfts 1) (bytes : Slice) (y : Mf4ListReply) → ReadsListC κs bytes y → ExactlyZero (ListStands (bytes .now)) (y .reply)
 list-read-zero κs bytes y p = zero-exactly (y .reply) (y .told) _ _ (mf4-read-list-told κs bytes y p) (list-exactly (bytes .now))
 
 pub channel-read-zero : (κs : Lfts 1) (bytes : Slice) (y : Mf4ChannelReply) → ReadsChannelC κs bytes y → ExactlyZero (ChannelStands (bytes .now)) (y .reply)
 channel-read-zero κs bytes y p = zero-exactly (y .reply) (y .told) _ _ (mf4-read-channel-told κs bytes y p) (channel-exactly (bytes .now))
 
-pub channel-write-zero : (κs : Lfts 1) (block : Mf4ChannelBlock) (out : Slice) (y : Mf4Written) (after : List ℕ)
+pub channel-write-zero : (κs : Lfts 1) (block : Mf4ChannelBlock) (out : Slice) (y : Mf4WrittenReply) (after : List ℕ)
     → WritesChannelC κs block out y after → ExactlyZero (160 ≤ length (out .now)) (y .reply)
 channel-write-zero κs block out y after p =
     zero-exactly (y .reply) (y .told) _ _ (mf4-write-channel-told κs block out y after p) (channel-written-exactly (out .now) (blockGiven block))
 
-pub list-equal-zero : (κs : Lfts 2) (next : ℕ) (links : Slice) (length : ℕ) (out : Slice) (y : Mf4Written) (after : List ℕ)
+pub list-equal-zero : (κs : Lfts 2) (next : ℕ) (links : Slice) (length : ℕ) (out : Slice) (y : Mf4WrittenReply) (after : List ℕ)
     → WritesEqualC κs next links length out y after → ExactlyZero (ListFits (out .now) (links .now) (equal length)) (y .reply)
 list-equal-zero κs next links length out y after p =
     zero-exactly (y .reply) (y .told) _ _ (mf4-write-list-equal-told κs next links length out y after p) (list-written-exactly (out .now) next (links .now) (equal length))
 
-pub list-variable-zero : (κs : Lfts 3) (next : ℕ) (links offsets out : Slice) (y : Mf4Written) (after : List ℕ)
+pub list-variable-zero : (κs : Lfts 3) (next : ℕ) (links offsets out : Slice) (y : Mf4WrittenReply) (after : List ℕ)
     → WritesVariableC κs next links offsets out y after → ExactlyZero (ListFits (out .now) (links .now) (variable (offsets .now))) (y .reply)
 list-variable-zero κs next links offsets out y after p =
     zero-exactly (y .reply) (y .told) _ _ (mf4-write-list-variable-told κs next links offsets out y after p) (list-written-exactly (out .now) next (links .now) (variable (offsets .now)))
 
 -- ---- a text
 
-module _ (e : Encoding) (κs : Lfts 2) (bytes out : Slice) (y : Mf4Text) (after : List ℕ) (p : WritesTextC e κs bytes out y after) where
+module _ (e : Encoding) (κs : Lfts 2) (bytes out : Slice) (y : Mf4TextReply) (after : List ℕ) (p : WritesTextC e κs bytes out y after) where
   pub text-write-zero : ExactlyZero (length (textOf e (bytes .now) .bytes) ≤ length (out .now)) (y .reply)
   text-write-zero = zero-exactly (y .reply) (y .told) _ _ (mf4-text-told e κs bytes out y after p) (text-written-exactly (out .now) e (bytes .now))
 
@@ -90,28 +90,28 @@ module _ (e : Encoding) (κs : Lfts 2) (bytes out : Slice) (y : Mf4Text) (after 
 
 -- ---- a field
 
-pub value-read-zero : (κs : Lfts 1) (bytes : Slice) (idSize : ℕ) (channel : Mf4Channel) (y : Mf4Value)
+pub value-read-zero : (κs : Lfts 1) (bytes : Slice) (idSize : ℕ) (channel : Mf4Channel) (y : Mf4ValueReply)
     → ReadsValueC κs bytes idSize channel y → ExactlyZero (FieldStands (bytes .now) idSize (channelGiven channel)) (y .reply)
 value-read-zero κs bytes idSize channel y p =
     zero-exactly (y .reply) (y .told) _ _ (mf4-decode-value-told κs bytes idSize channel y p) (value-exactly (bytes .now) idSize (channelGiven channel))
 
-pub valid-value-read-zero : (κs : Lfts 1) (bytes : Slice) (idSize dataBytes : ℕ) (channel : Mf4Channel) (y : Mf4ValidValue)
+pub valid-value-read-zero : (κs : Lfts 1) (bytes : Slice) (idSize dataBytes : ℕ) (channel : Mf4Channel) (y : Mf4ValidValueReply)
     → ReadsValidValueC κs bytes idSize dataBytes channel y → ExactlyZero (FieldStands (bytes .now) idSize (channelGiven channel)) (y .reply)
 valid-value-read-zero κs bytes idSize dataBytes channel y p =
     zero-exactly (y .reply) (y .told) _ _ (mf4-decode-valid-value-told κs bytes idSize dataBytes channel y p) (valid-value-exactly (bytes .now) idSize (channelGiven channel) dataBytes)
 
 -- ---- the joined data, a record of it, and a value in that
 
-pub length-read-zero : (κs : Lfts 1) (file : Slice) (start : ℕ) (y : Mf4Length)
+pub length-read-zero : (κs : Lfts 1) (file : Slice) (start : ℕ) (y : Mf4LengthReply)
     → ReadsLengthC κs file start y → ExactlyZero (Joinable (file .now) start) (y .reply)
 length-read-zero κs file start y p = zero-exactly (y .reply) (y .told) _ _ (mf4-data-length-told κs file start y p) (length-exactly (file .now) start)
 
-pub record-read-zero : (κs : Lfts 2) (file : Slice) (start number size : ℕ) (out : Slice) (y : Mf4Fetched) (after : List ℕ)
+pub record-read-zero : (κs : Lfts 2) (file : Slice) (start number size : ℕ) (out : Slice) (y : Mf4DoneReply) (after : List ℕ)
     → ReadsRecordC κs file start number size out y after → ExactlyZero (Fetchable (file .now) start number size (out .now)) (y .reply)
 record-read-zero κs file start number size out y after p =
     zero-exactly (y .reply) (y .told) _ _ (mf4-read-record-told κs file start number size out y after p) (fetched-exactly (file .now) start number size (out .now))
 
-pub record-value-zero : (κs : Lfts 2) (file : Slice) (start number size idSize dataBytes : ℕ) (channel : Mf4Channel) (out : Slice) (y : Mf4ValidValue) (after : List ℕ)
+pub record-value-zero : (κs : Lfts 2) (file : Slice) (start number size idSize dataBytes : ℕ) (channel : Mf4Channel) (out : Slice) (y : Mf4ValidValueReply) (after : List ℕ)
     → ReadsRecordValueC κs file start number size idSize dataBytes channel out y after
     → ExactlyZero (ValueFetchable (file .now) start number size idSize (channelGiven channel) (out .now)) (y .reply)
 record-value-zero κs file start number size idSize dataBytes channel out y after p =

@@ -14,16 +14,16 @@ use Rattle.definitions.specs.Unicode.{Encoding}
 use Rattle.definitions.specs.DataList.{equal, variable}
 use Rattle.definitions.specs.Channel.{ValidValue}
 use Rattle.definitions.specs.Chain.{joined, valueFetched}
-use Rattle.replies.specs.Replies.{Returned, returned, returnedBy, headerGiven, writtenC, textC}
+use Rattle.replies.specs.Replies.{Returned, returned, returnedBy, headerGiven, writtenC, textC, doneC}
 use Rattle.replies.specs.Channels.{blockGiven}
-use Rattle.replies.specs.Values.{channelGiven, validValueC, fetchedC}
-use Rattle.replies.specs.declared.header.Mf4BlockHeader.{Mf4BlockHeader}
+use Rattle.replies.specs.Values.{channelGiven, validValueC}
+use Rattle.replies.specs.declared.header.Mf4Header.{Mf4Header}
 use Rattle.replies.specs.declared.channel_block.Mf4ChannelBlock.{Mf4ChannelBlock}
-use Rattle.replies.specs.declared.written.Mf4Written.{Mf4Written}
-use Rattle.replies.specs.declared.texts.Mf4Text.{Mf4Text}
+use Rattle.replies.specs.declared.written.Mf4WrittenReply.{Mf4WrittenReply}
+use Rattle.replies.specs.declared.texts.Mf4TextReply.{Mf4TextReply}
 use Rattle.replies.specs.declared.channel.Mf4Channel.{Mf4Channel}
-use Rattle.replies.specs.declared.valid_values.Mf4ValidValue.{Mf4ValidValue}
-use Rattle.replies.specs.declared.fetches.Mf4Fetched.{Mf4Fetched}
+use Rattle.replies.specs.declared.valid_values.Mf4ValidValueReply.{Mf4ValidValueReply}
+use Rattle.replies.specs.declared.done.Mf4DoneReply.{Mf4DoneReply}
 use Rattle.mf4.specs.Clauses.{Slice}
 use Rattle.theorems.specs.Exactly.{Fetchable}
 use Rattle.theorems.specs.ClausesToC.{WritesHeaderC, WritesChannelC, WritesEqualC, WritesVariableC, WritesTextC, ReadsRecordC, ReadsRecordValueC}
@@ -53,10 +53,10 @@ module _ {A R : Type 0} (toC : Reply A → R) (number counted : R → ℕ) (coun
       (by-reply before (o .buffer) (o .reply) (h .refused) (h .answers))
 
 written-sparing : (o : Outcome ℕ) (before : List ℕ) → Leaves itself before o
-    → Sparing (λ y after. returned y after ≡ returnedBy writtenC o) (λ (y : Mf4Written). y .reply ≡ 0 → ⊥) (λ y. y .count) before
-written-sparing = sparing writtenC (λ (y : Mf4Written). y .reply) (λ (y : Mf4Written). y .count) itself (λ n. refl) (λ n. refl)
+    → Sparing (λ y after. returned y after ≡ returnedBy writtenC o) (λ (y : Mf4WrittenReply). y .reply ≡ 0 → ⊥) (λ y. y .count) before
+written-sparing = sparing writtenC (λ (y : Mf4WrittenReply). y .reply) (λ (y : Mf4WrittenReply). y .count) itself (λ n. refl) (λ n. refl)
 
-pub header-write-spares : (κs : Lfts 1) (header : Mf4BlockHeader) (out : Slice)
+pub header-write-spares : (κs : Lfts 1) (header : Mf4Header) (out : Slice)
     → Sparing (WritesHeaderC κs header out) (λ y. y .reply ≡ 0 → ⊥) (λ y. y .count) (out .now)
 header-write-spares κs header out = written-sparing _ (out .now) (header-leaves (out .now) (headerGiven header))
 
@@ -75,13 +75,13 @@ list-variable-spares κs next links offsets out = written-sparing _ (out .now) (
 pub text-write-spares : (e : Encoding) (κs : Lfts 2) (bytes out : Slice)
     → Sparing (WritesTextC e κs bytes out) (λ y. y .reply ≡ 0 → ⊥) (λ y. y .count) (out .now)
 text-write-spares e κs bytes out y after p =
-    sparing textC (λ (y : Mf4Text). y .reply) (λ (y : Mf4Text). y .count) countOf (λ t. refl) (λ t. refl)
+    sparing textC (λ (y : Mf4TextReply). y .reply) (λ (y : Mf4TextReply). y .count) countOf (λ t. refl) (λ t. refl)
     _ (out .now) (text-leaves (out .now) e (bytes .now)) y after (text-clause e κs bytes out y after p)
 
 pub record-read-spares : (κs : Lfts 2) (file : Slice) (start number size : ℕ) (out : Slice)
     → Sparing (ReadsRecordC κs file start number size out) (λ y. y .reply ≡ 0 → ⊥) (λ y. size) (out .now)
 record-read-spares κs file start number size out =
-    sparing fetchedC (λ (y : Mf4Fetched). y .reply) (λ y. size) (λ u. size) (λ u. refl) (λ u. refl)
+    sparing doneC (λ (y : Mf4DoneReply). y .reply) (λ y. size) (λ u. size) (λ u. refl) (λ u. refl)
     _ (out .now) (fetch-leaves (out .now) (file .now) start number size)
 
 -- ---- a value of a record: a reply from 2 to 17 leaves every byte, and else the record is in the buffer's front
@@ -90,7 +90,7 @@ module _ (κs : Lfts 2) (file : Slice) (start number size idSize dataBytes : ℕ
   abbrev given : Outcome ValidValue
   given = valueFetched (file .now) start number size idSize dataBytes (channelGiven channel) (out .now)
 
-  abbrev Says : Mf4ValidValue → List ℕ → Type 0
+  abbrev Says : Mf4ValidValueReply → List ℕ → Type 0
   Says = ReadsRecordValueC κs file start number size idSize dataBytes channel out
 
   spared : (r : Reply ValidValue) → given .reply ≡ r → (0 < validValueC r .reply) × (validValueC r .reply < 18) → given .buffer ≡ out .now
@@ -104,16 +104,16 @@ module _ (κs : Lfts 2) (file : Slice) (start number size idSize dataBytes : ℕ
 
   pub record-value-spares : Sparing Says (λ y. (0 < y .reply) × (y .reply < 18)) (λ y. size) (out .now)
   record-value-spares y after p =
-      subst (λ (x : Returned Mf4ValidValue). Spares ((0 < x .result .reply) × (x .result .reply < 18)) size (out .now) (x .buffer)) (sym p)
+      subst (λ (x : Returned Mf4ValidValueReply). Spares ((0 < x .result .reply) × (x .result .reply < 18)) size (out .now) (x .buffer)) (sym p)
       (record {
         refused = λ other. spared (given .reply) refl other;
         behind = value-behind (out .now) (file .now) start number size idSize dataBytes (channelGiven channel);
       })
 
-  pub record-value-holds : (y : Mf4ValidValue) (after : List ℕ) → Says y after → (y .reply ≡ 0) ⊎ (18 ≤ y .reply)
+  pub record-value-holds : (y : Mf4ValidValueReply) (after : List ℕ) → Says y after → (y .reply ≡ 0) ⊎ (18 ≤ y .reply)
       → (h : Fetchable (file .now) start number size (out .now)) × (after ≡ span (joined (file .now) (h .blocks)) (number * size) size ++ drop size (out .now))
   record-value-holds y after p e =
-      let told = subst (λ (x : Returned Mf4ValidValue). (x .result .reply ≡ 0) ⊎ (18 ≤ x .result .reply)) p e in
+      let told = subst (λ (x : Returned Mf4ValidValueReply). (x .result .reply ≡ 0) ⊎ (18 ≤ x .result .reply)) p e in
       let some = value-fetched-numbered (file .now) start number size (out .now) idSize dataBytes (channelGiven channel) in
       let h = value-holds (out .now) (file .now) start number size idSize dataBytes (channelGiven channel) (of-field (given .reply) some told) in
-      (h .0, ap (λ (x : Returned Mf4ValidValue). x .buffer) p ∙ h .1)
+      (h .0, ap (λ (x : Returned Mf4ValidValueReply). x .buffer) p ∙ h .1)

@@ -39,8 +39,8 @@ use Rattle.mf4.proofs.mf4_check_validity.Kinds as mf4-check-validity-kinds
 use Rattle.mf4.proofs.mf4_check_validity.Reads as mf4-check-validity
 use Rattle.mf4.proofs.mf4_decode_valid_value.Kinds as mf4-decode-valid-value-kinds
 use Rattle.mf4.proofs.mf4_decode_valid_value.Reads as mf4-decode-valid-value
-use Rattle.mf4.proofs.mf4_decode_double.Kinds as mf4-decode-double-kinds
-use Rattle.mf4.proofs.mf4_decode_double.Reads as mf4-decode-double
+use Rattle.mf4.proofs.mf4_decode_double_bits.Kinds as mf4-decode-double-bits-kinds
+use Rattle.mf4.proofs.mf4_decode_double_bits.Reads as mf4-decode-double-bits
 use Rattle.mf4.proofs.mf4_write_value.Kinds as mf4-write-value-kinds
 use Rattle.mf4.proofs.mf4_write_value.Reads as mf4-write-value
 use Rattle.mf4.proofs.mf4_data_length.Kinds as mf4-data-length-kinds
@@ -109,8 +109,8 @@ mf4-check-validity-settled = settled (λ κs a y z b c p q. (p ∙ sym q, refl))
 pub mf4-decode-valid-value-settled : Settled 1 mf4-decode-valid-value-kinds.ps mf4-decode-valid-value-kinds.r mf4-decode-valid-value.Asked mf4-decode-valid-value.ensures mf4-decode-valid-value.Learnt
 mf4-decode-valid-value-settled = settled (λ κs a y z b c p q. (p ∙ sym q, refl))
 
-pub mf4-decode-double-settled : Settled 1 mf4-decode-double-kinds.ps mf4-decode-double-kinds.r mf4-decode-double.Asked mf4-decode-double.ensures mf4-decode-double.Learnt
-mf4-decode-double-settled = settled (λ κs a y z b c p q. (p ∙ sym q, refl))
+pub mf4-decode-double-bits-settled : Settled 1 mf4-decode-double-bits-kinds.ps mf4-decode-double-bits-kinds.r mf4-decode-double-bits.Asked mf4-decode-double-bits.ensures mf4-decode-double-bits.Learnt
+mf4-decode-double-bits-settled = settled (λ κs a y z b c p q. (p ∙ sym q, refl))
 
 pub mf4-write-value-settled : Settled 1 mf4-write-value-kinds.ps mf4-write-value-kinds.r mf4-write-value.Asked mf4-write-value.ensures mf4-write-value.Learnt
 mf4-write-value-settled = settled (λ κs a y z b c p q. one-returned (λ out. (tt, (tt, (tt, (out, tt))))) (p ∙ sym q))

@@ -23,25 +23,24 @@ use Rattle.definitions.specs.WrittenValue.{valueWritten}
 use Rattle.definitions.specs.Chain.{dataLength, fetched, valueFetched}
 use Rattle.definitions.proofs.Replies.{both}
 use Rattle.mf4.specs.Clauses.{Slice}
-use Rattle.replies.specs.Replies.{Returned, returned, returnedBy, writtenC, headerGiven, textC}
+use Rattle.replies.specs.Replies.{Returned, returned, returnedBy, writtenC, headerGiven, textC, doneC}
 use Rattle.replies.specs.Channels.{blockGiven, channelC}
-use Rattle.replies.specs.Values.{channelGiven, validValueC, fetchedC}
-use Rattle.replies.specs.Stored.{numberGiven, storedC}
-use Rattle.replies.specs.declared.written.Mf4Written.{Mf4Written}
-use Rattle.replies.specs.declared.header.Mf4BlockHeader.{Mf4BlockHeader}
+use Rattle.replies.specs.Values.{channelGiven, validValueC}
+use Rattle.replies.specs.Stored.{numberGiven}
+use Rattle.replies.specs.declared.written.Mf4WrittenReply.{Mf4WrittenReply}
 use Rattle.replies.specs.declared.header.Mf4Header.{Mf4Header}
-use Rattle.replies.specs.declared.list.Mf4List.{Mf4List}
+use Rattle.replies.specs.declared.header.Mf4HeaderReply.{Mf4HeaderReply}
+use Rattle.replies.specs.declared.list.Mf4ListReply.{Mf4ListReply}
 use Rattle.replies.specs.declared.channel_block.Mf4ChannelBlock.{Mf4ChannelBlock}
 use Rattle.replies.specs.declared.channel_block.Mf4ChannelReply.{Mf4ChannelReply}
-use Rattle.replies.specs.declared.texts.Mf4Text.{Mf4Text}
+use Rattle.replies.specs.declared.texts.Mf4TextReply.{Mf4TextReply}
 use Rattle.replies.specs.declared.channel.Mf4Channel.{Mf4Channel}
-use Rattle.replies.specs.declared.values.Mf4Value.{Mf4Value}
-use Rattle.replies.specs.declared.valid_values.Mf4ValidValue.{Mf4ValidValue}
-use Rattle.replies.specs.declared.fetches.Mf4Length.{Mf4Length}
-use Rattle.replies.specs.declared.fetches.Mf4Fetched.{Mf4Fetched}
+use Rattle.replies.specs.declared.values.Mf4ValueReply.{Mf4ValueReply}
+use Rattle.replies.specs.declared.valid_values.Mf4ValidValueReply.{Mf4ValidValueReply}
+use Rattle.replies.specs.declared.fetches.Mf4LengthReply.{Mf4LengthReply}
+use Rattle.replies.specs.declared.done.Mf4DoneReply.{Mf4DoneReply}
 use Rattle.replies.specs.declared.stored.Mf4Number.{Mf4Number}
-use Rattle.replies.specs.declared.stored.Mf4Stored.{Mf4Stored}
-use Rattle.replies.proofs.ToldToC.{Tellable, Any, OwnType, Reversible, headerAgain, header-told, writtenAgain, written-told, listAgain, list-told, channelAgain, description-back, channel-told, textAgain, text-told, valueReplyAgain, value-told, validValueAgain, valid-value-told, lengthAgain, length-told, fetchedAgain, fetched-told, storedAgain, stored-told}
+use Rattle.replies.proofs.ToldToC.{Tellable, Any, OwnType, Reversible, headerAgain, header-told, writtenAgain, written-told, listAgain, list-told, channelAgain, description-back, channel-told, textAgain, text-told, valueReplyAgain, value-told, validValueAgain, valid-value-told, lengthAgain, length-told, doneAgain, done-told}
 use Rattle.theorems.specs.ClausesToC.{ReadsHeaderC, WritesHeaderC, ReadsListC, WritesEqualC, WritesVariableC, ReadsChannelC, WritesChannelC, WritesTextC, ReadsValueC, ReadsValidValueC, ReadsLengthC, WritesValueC, ReadsRecordC, ReadsRecordValueC}
 use Rattle.theorems.proofs.Types.TypeCodes.{code-back, code-owned}
 use Rattle.theorems.proofs.Blocks.ChannelAnswers.{channel-stands}
@@ -128,14 +127,14 @@ by-result : {A R : Type 0} (toC : Reply A → R) (back : R → Reply A) {y : R} 
     → returned y after ≡ returnedBy toC o → back (toC (o .reply)) ≡ o .reply → back y ≡ o .reply
 by-result {R = R} toC back p h = ap (λ (x : Returned R). back (x .result)) p ∙ h
 
-pub mf4-read-header-told : (κs : Lfts 1) (bytes : Slice) (y : Mf4Header) → ReadsHeaderC κs bytes y → headerAgain y ≡ headerOf (bytes .now)
+pub mf4-read-header-told : (κs : Lfts 1) (bytes : Slice) (y : Mf4HeaderReply) → ReadsHeaderC κs bytes y → headerAgain y ≡ headerOf (bytes .now)
 mf4-read-header-told κs bytes y p = ap headerAgain p ∙ header-told _ (of-blocks _ (header-numbered (bytes .now)))
 
-pub mf4-write-header-told : (κs : Lfts 1) (header : Mf4BlockHeader) (out : Slice) (y : Mf4Written) (after : List ℕ)
+pub mf4-write-header-told : (κs : Lfts 1) (header : Mf4Header) (out : Slice) (y : Mf4WrittenReply) (after : List ℕ)
     → WritesHeaderC κs header out y after → writtenAgain y ≡ headerWritten (out .now) (headerGiven header) .reply
 mf4-write-header-told κs header out y after p = by-result writtenC writtenAgain p (written-told _ (of-blocks _ (header-written-numbered (out .now) (headerGiven header))))
 
-pub mf4-read-list-told : (κs : Lfts 1) (bytes : Slice) (y : Mf4List) → ReadsListC κs bytes y → listAgain y ≡ listOf (bytes .now)
+pub mf4-read-list-told : (κs : Lfts 1) (bytes : Slice) (y : Mf4ListReply) → ReadsListC κs bytes y → listAgain y ≡ listOf (bytes .now)
 mf4-read-list-told κs bytes y p = ap listAgain p ∙ list-told _ (of-blocks _ (list-numbered (bytes .now)))
 
 -- the type of a block is the one that a code stands for
@@ -165,47 +164,47 @@ mf4-read-channel-code κs bytes y b p e =
     ap (λ (x : Mf4ChannelReply). x .block .channel .«data_type») (p ∙ ap channelC e)
     ∙ ap (λ (x : ChannelBlock). codeOf (x .dataType)) (channel-stands (bytes .now) b e .1) ∙ code-back _
 
-pub mf4-write-channel-told : (κs : Lfts 1) (block : Mf4ChannelBlock) (out : Slice) (y : Mf4Written) (after : List ℕ)
+pub mf4-write-channel-told : (κs : Lfts 1) (block : Mf4ChannelBlock) (out : Slice) (y : Mf4WrittenReply) (after : List ℕ)
     → WritesChannelC κs block out y after → writtenAgain y ≡ channelWritten (out .now) (blockGiven block) .reply
 mf4-write-channel-told κs block out y after p = by-result writtenC writtenAgain p (written-told _ (of-blocks _ (channel-written-numbered (out .now) (blockGiven block))))
 
-pub mf4-write-list-equal-told : (κs : Lfts 2) (next : ℕ) (links : Slice) (length : ℕ) (out : Slice) (y : Mf4Written) (after : List ℕ)
+pub mf4-write-list-equal-told : (κs : Lfts 2) (next : ℕ) (links : Slice) (length : ℕ) (out : Slice) (y : Mf4WrittenReply) (after : List ℕ)
     → WritesEqualC κs next links length out y after → writtenAgain y ≡ listWritten (out .now) next (links .now) (equal length) .reply
 mf4-write-list-equal-told κs next links length out y after p =
     by-result writtenC writtenAgain p (written-told _ (of-blocks _ (list-written-numbered (out .now) next (links .now) (equal length))))
 
-pub mf4-write-list-variable-told : (κs : Lfts 3) (next : ℕ) (links offsets out : Slice) (y : Mf4Written) (after : List ℕ)
+pub mf4-write-list-variable-told : (κs : Lfts 3) (next : ℕ) (links offsets out : Slice) (y : Mf4WrittenReply) (after : List ℕ)
     → WritesVariableC κs next links offsets out y after → writtenAgain y ≡ listWritten (out .now) next (links .now) (variable (offsets .now)) .reply
 mf4-write-list-variable-told κs next links offsets out y after p =
     by-result writtenC writtenAgain p (written-told _ (of-blocks _ (list-written-numbered (out .now) next (links .now) (variable (offsets .now)))))
 
 -- the four calls for texts
-pub mf4-text-told : (e : Encoding) (κs : Lfts 2) (bytes out : Slice) (y : Mf4Text) (after : List ℕ)
+pub mf4-text-told : (e : Encoding) (κs : Lfts 2) (bytes out : Slice) (y : Mf4TextReply) (after : List ℕ)
     → WritesTextC e κs bytes out y after → textAgain y ≡ textWritten (out .now) e (bytes .now) .reply
 mf4-text-told e κs bytes out y after p =
     by-result textC textAgain (text-clause e κs bytes out y after p) (text-told _ (of-blocks _ (text-written-numbered (out .now) e (bytes .now))))
 
-pub mf4-decode-value-told : (κs : Lfts 1) (bytes : Slice) (idSize : ℕ) (channel : Mf4Channel) (y : Mf4Value)
+pub mf4-decode-value-told : (κs : Lfts 1) (bytes : Slice) (idSize : ℕ) (channel : Mf4Channel) (y : Mf4ValueReply)
     → ReadsValueC κs bytes idSize channel y → valueReplyAgain y ≡ valueOf (bytes .now) idSize (channelGiven channel)
 mf4-decode-value-told κs bytes idSize channel y p = ap valueReplyAgain p ∙ value-told _ (value-tellable (bytes .now) idSize (channelGiven channel))
 
-pub mf4-decode-valid-value-told : (κs : Lfts 1) (bytes : Slice) (idSize dataBytes : ℕ) (channel : Mf4Channel) (y : Mf4ValidValue)
+pub mf4-decode-valid-value-told : (κs : Lfts 1) (bytes : Slice) (idSize dataBytes : ℕ) (channel : Mf4Channel) (y : Mf4ValidValueReply)
     → ReadsValidValueC κs bytes idSize dataBytes channel y → validValueAgain y ≡ validValueOf (bytes .now) idSize dataBytes (channelGiven channel)
 mf4-decode-valid-value-told κs bytes idSize dataBytes channel y p =
     ap validValueAgain p ∙ valid-value-told _ (valid-value-tellable (bytes .now) idSize dataBytes (channelGiven channel))
 
-pub mf4-data-length-told : (κs : Lfts 1) (file : Slice) (start : ℕ) (y : Mf4Length) → ReadsLengthC κs file start y → lengthAgain y ≡ dataLength (file .now) start
+pub mf4-data-length-told : (κs : Lfts 1) (file : Slice) (start : ℕ) (y : Mf4LengthReply) → ReadsLengthC κs file start y → lengthAgain y ≡ dataLength (file .now) start
 mf4-data-length-told κs file start y p = ap lengthAgain p ∙ length-told _ (of-blocks _ (length-numbered (file .now) start))
 
-pub mf4-write-value-told : (κs : Lfts 1) (idSize : ℕ) (channel : Mf4Channel) (value : Mf4Number) (bytes : Slice) (y : Mf4Stored) (after : List ℕ)
-    → WritesValueC κs idSize channel value bytes y after → storedAgain y ≡ valueWritten (bytes .now) idSize (channelGiven channel) (numberGiven value) .reply
+pub mf4-write-value-told : (κs : Lfts 1) (idSize : ℕ) (channel : Mf4Channel) (value : Mf4Number) (bytes : Slice) (y : Mf4DoneReply) (after : List ℕ)
+    → WritesValueC κs idSize channel value bytes y after → doneAgain y ≡ valueWritten (bytes .now) idSize (channelGiven channel) (numberGiven value) .reply
 mf4-write-value-told κs idSize channel value bytes y after p =
-    by-result storedC storedAgain p (stored-told _ (of-writing _ (value-written-numbered (bytes .now) idSize (channelGiven channel) (numberGiven value))))
+    by-result doneC doneAgain p (done-told _ (of-writing _ (value-written-numbered (bytes .now) idSize (channelGiven channel) (numberGiven value))))
 
-pub mf4-read-record-told : (κs : Lfts 2) (file : Slice) (start number size : ℕ) (out : Slice) (y : Mf4Fetched) (after : List ℕ)
-    → ReadsRecordC κs file start number size out y after → fetchedAgain y ≡ fetched (file .now) start number size (out .now) .reply
+pub mf4-read-record-told : (κs : Lfts 2) (file : Slice) (start number size : ℕ) (out : Slice) (y : Mf4DoneReply) (after : List ℕ)
+    → ReadsRecordC κs file start number size out y after → doneAgain y ≡ fetched (file .now) start number size (out .now) .reply
 mf4-read-record-told κs file start number size out y after p =
-    by-result fetchedC fetchedAgain p (fetched-told _ (of-blocks _ (fetched-numbered (file .now) start number size (out .now))))
+    by-result doneC doneAgain p (done-told _ (of-blocks _ (fetched-numbered (file .now) start number size (out .now))))
 
 value-fetched-tellable : (f : List ℕ) (start k size idSize dataBytes : ℕ) (c : Channel) (out : List ℕ)
     → Tellable Judged (valueFetched f start k size idSize dataBytes c out .reply)
@@ -217,7 +216,7 @@ value-fetched-tellable f start k size idSize dataBytes c out = go (fetched f sta
     go (answer u) h = valid-value-tellable (take size (fetched f start k size out .buffer)) idSize dataBytes c
     go (refusal n t) h = omega (arith, between 2 17 n (h n t refl) .0)
 
-pub mf4-record-value-told : (κs : Lfts 2) (file : Slice) (start number size idSize dataBytes : ℕ) (channel : Mf4Channel) (out : Slice) (y : Mf4ValidValue) (after : List ℕ)
+pub mf4-record-value-told : (κs : Lfts 2) (file : Slice) (start number size idSize dataBytes : ℕ) (channel : Mf4Channel) (out : Slice) (y : Mf4ValidValueReply) (after : List ℕ)
     → ReadsRecordValueC κs file start number size idSize dataBytes channel out y after
     → validValueAgain y ≡ valueFetched (file .now) start number size idSize dataBytes (channelGiven channel) (out .now) .reply
 mf4-record-value-told κs file start number size idSize dataBytes channel out y after p =

@@ -15,8 +15,8 @@ use Rattle.fields.specs.declared.value.ValidValueRead.{ValidValueRead}
 use Rattle.chain.specs.declared.place.FileAddress.{FileAddress}
 use Rattle.replies.specs.Values.{channelGiven}
 use Rattle.replies.specs.declared.channel.Mf4Channel.{Mf4Channel}
-use Rattle.replies.specs.declared.values.Mf4Value.{Mf4Value}
-use Rattle.replies.specs.declared.valid_values.Mf4ValidValue.{Mf4ValidValue}
+use Rattle.replies.specs.declared.values.Mf4ValueReply.{Mf4ValueReply}
+use Rattle.replies.specs.declared.valid_values.Mf4ValidValueReply.{Mf4ValidValueReply}
 use Rattle.replies.proofs.ToldToC.{valueReplyAgain, validValueAgain}
 use Rattle.mf4.specs.Clauses.{Slice}
 use Rattle.theorems.specs.Exactly.{Fetchable}
@@ -49,17 +49,17 @@ record-value-replies κs file start number size idSize dataBytes channel out y a
 
 -- ---- for C: of the reply that the struct tells
 
-pub mf4-decode-value-replies : (κs : Lfts 1) (bytes : Slice) (idSize : ℕ) (channel : Mf4Channel) (y : Mf4Value)
+pub mf4-decode-value-replies : (κs : Lfts 1) (bytes : Slice) (idSize : ℕ) (channel : Mf4Channel) (y : Mf4ValueReply)
     → ReadsValueC κs bytes idSize channel y → FieldReplies (bytes .now) idSize (channelGiven channel) (valueReplyAgain y)
 mf4-decode-value-replies κs bytes idSize channel y p =
     as-defined (mf4-decode-value-told κs bytes idSize channel y p) (value-replies (bytes .now) idSize (channelGiven channel))
 
-pub mf4-decode-valid-value-replies : (κs : Lfts 1) (bytes : Slice) (idSize dataBytes : ℕ) (channel : Mf4Channel) (y : Mf4ValidValue)
+pub mf4-decode-valid-value-replies : (κs : Lfts 1) (bytes : Slice) (idSize dataBytes : ℕ) (channel : Mf4Channel) (y : Mf4ValidValueReply)
     → ReadsValidValueC κs bytes idSize dataBytes channel y → FieldReplies (bytes .now) idSize (channelGiven channel) (validValueAgain y)
 mf4-decode-valid-value-replies κs bytes idSize dataBytes channel y p =
     as-defined (mf4-decode-valid-value-told κs bytes idSize dataBytes channel y p) (valid-value-replies (bytes .now) idSize dataBytes (channelGiven channel))
 
-pub mf4-record-value-replies : (κs : Lfts 2) (file : Slice) (start number size idSize dataBytes : ℕ) (channel : Mf4Channel) (out : Slice) (y : Mf4ValidValue) (after : List ℕ)
+pub mf4-record-value-replies : (κs : Lfts 2) (file : Slice) (start number size idSize dataBytes : ℕ) (channel : Mf4Channel) (out : Slice) (y : Mf4ValidValueReply) (after : List ℕ)
     → ReadsRecordValueC κs file start number size idSize dataBytes channel out y after → (h : Fetchable (file .now) start number size (out .now))
     → FieldReplies (span (joined (file .now) (h .blocks)) (number * size) size) idSize (channelGiven channel) (validValueAgain y)
 mf4-record-value-replies κs file start number size idSize dataBytes channel out y after p h =

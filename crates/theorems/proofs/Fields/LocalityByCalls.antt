@@ -29,8 +29,8 @@ use Rattle.theorems.proofs.Calls.ToldToC.{mf4-decode-value-told, mf4-de
 use Rattle.replies.specs.Replies.{flagC}
 use Rattle.replies.specs.Values.{channelGiven, valueC, validValueC}
 use Rattle.replies.specs.declared.channel.Mf4Channel.{Mf4Channel}
-use Rattle.replies.specs.declared.values.Mf4Value.{Mf4Value}
-use Rattle.replies.specs.declared.valid_values.Mf4ValidValue.{Mf4ValidValue}
+use Rattle.replies.specs.declared.values.Mf4ValueReply.{Mf4ValueReply}
+use Rattle.replies.specs.declared.valid_values.Mf4ValidValueReply.{Mf4ValidValueReply}
 
 -- records of one length, that hold a fixed field's bits alike, or its bytes where it is no number
 pub record Alike (s t : List ℕ) (idSize : ℕ) (c : Channel) : Type 0 where
@@ -100,26 +100,26 @@ validity-alike κs s t idSize dataBytes channel e y z p q = p ∙ one-bit (s .no
 -- ---- for C
 
 module _ (κs : Lfts 1) (s t : Slice) (idSize : ℕ) (channel : Mf4Channel) (h : Alike (s .now) (t .now) idSize (channelGiven channel)) where
-  pub mf4-decode-value-alike : (y z : Mf4Value) → ReadsValueC κs s idSize channel y → ReadsValueC κs t idSize channel z → y ≡ z
+  pub mf4-decode-value-alike : (y z : Mf4ValueReply) → ReadsValueC κs s idSize channel y → ReadsValueC κs t idSize channel z → y ≡ z
   mf4-decode-value-alike y z p q = p ∙ ap valueC (same-value (s .now) (t .now) idSize (channelGiven channel) h) ∙ sym q
 
-  pub mf4-decode-double-alike : (y z : ℕ) → ReadsDoubleC κs s idSize channel y → ReadsDoubleC κs t idSize channel z → y ≡ z
-  mf4-decode-double-alike y z p q = p ∙ same-double (s .now) (t .now) idSize (channelGiven channel) h ∙ sym q
+  pub mf4-decode-double-bits-alike : (y z : ℕ) → ReadsDoubleC κs s idSize channel y → ReadsDoubleC κs t idSize channel z → y ≡ z
+  mf4-decode-double-bits-alike y z p q = p ∙ same-double (s .now) (t .now) idSize (channelGiven channel) h ∙ sym q
 
   pub mf4-decode-valid-value-alike : (dataBytes : ℕ) → invalidationBitIn (s .now) idSize dataBytes (channelGiven channel) ≡ invalidationBitIn (t .now) idSize dataBytes (channelGiven channel)
-      → (y z : Mf4ValidValue) → ReadsValidValueC κs s idSize dataBytes channel y → ReadsValidValueC κs t idSize dataBytes channel z → y ≡ z
+      → (y z : Mf4ValidValueReply) → ReadsValidValueC κs s idSize dataBytes channel y → ReadsValidValueC κs t idSize dataBytes channel z → y ≡ z
   mf4-decode-valid-value-alike dataBytes e y z p q =
       p ∙ ap validValueC (same-valid-value (s .now) (t .now) idSize (channelGiven channel) h dataBytes e) ∙ sym q
 
 -- of the reply that the struct tells
 module _ (κs : Lfts 1) (s t : Slice) (idSize : ℕ) (channel : Mf4Channel) (long : length (s .now) ≡ length (t .now)) (n m : ℕ) where
-  pub mf4-decode-value-refused : (y z : Mf4Value) → ReadsValueC κs s idSize channel y → ReadsValueC κs t idSize channel z
+  pub mf4-decode-value-refused : (y z : Mf4ValueReply) → ReadsValueC κs s idSize channel y → ReadsValueC κs t idSize channel z
       → valueReplyAgain y ≡ refusal n m → valueReplyAgain z ≡ refusal n m
   mf4-decode-value-refused y z p q e =
       mf4-decode-value-told κs t idSize channel z q
       ∙ same-refusal (s .now) (t .now) idSize (channelGiven channel) long n m (sym (mf4-decode-value-told κs s idSize channel y p) ∙ e)
 
-  pub mf4-decode-valid-value-refused : (dataBytes : ℕ) (y z : Mf4ValidValue) → ReadsValidValueC κs s idSize dataBytes channel y
+  pub mf4-decode-valid-value-refused : (dataBytes : ℕ) (y z : Mf4ValidValueReply) → ReadsValidValueC κs s idSize dataBytes channel y
       → ReadsValidValueC κs t idSize dataBytes channel z → validValueAgain y ≡ refusal n m → validValueAgain z ≡ refusal n m
   mf4-decode-valid-value-refused dataBytes y z p q e =
       mf4-decode-valid-value-told κs t idSize dataBytes channel z q

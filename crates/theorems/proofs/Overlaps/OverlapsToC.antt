@@ -15,7 +15,7 @@ use Rattle.definitions.specs.Overlap.{Overlap, pair, none, channelLimit, overla
 use Rattle.replies.specs.Values.{channelGiven}
 use Rattle.replies.specs.Overlaps.{overlapC}
 use Rattle.replies.specs.declared.channel.Mf4Channel.{Mf4Channel}
-use Rattle.replies.specs.declared.overlap.Mf4Overlap.{Mf4Overlap}
+use Rattle.replies.specs.declared.overlap.Mf4OverlapReply.{Mf4OverlapReply}
 use Rattle.replies.proofs.ToldToC.{Tellable, Any, overlapAgain, overlap-told}
 use Rattle.mf4.proofs.Border.{mf4-first-overlap-clauses}
 use Rattle.mf4.proofs.mf4_first_overlap as mf4-first-overlap
@@ -27,7 +27,7 @@ use Rattle.theorems.proofs.Calls.AnswersToC.{zero-exactly}
 use Rattle.theorems.proofs.Overlaps.Overlaps.{OfOverlaps, overlap-ends, overlap-numbered, overlap-exactly, pair-is-first, first-is-given, none-is-clear, clear-gives-none, refused-exactly, many-refused, other-refused}
 
 -- the clause, as a fact of the lent list and the result
-abbrev pub FindsOverlapC : RefT (List Mf4Channel) → Mf4Overlap → Type 0
+abbrev pub FindsOverlapC : RefT (List Mf4Channel) → Mf4OverlapReply → Type 0
 FindsOverlapC list y = y ≡ overlapC (overlapOf (map channelGiven (list .now)))
 
 pub mf4-first-overlap-settled : SettledByHand mf4-first-overlap.ended mf4-first-overlap-clauses (λ κs a y b. FindsOverlapC (a .0) y)
@@ -51,15 +51,15 @@ tellable (refusal n t) h = some-number n t (h n t refl)
 
 -- ---- what the fields tell
 
-module _ (y : Mf4Overlap) where
+module _ (y : Mf4OverlapReply) where
   not-both : y .found ≡ 0 → y .found ≡ 1 → ⊥
   not-both e h = omega arith
 
   -- of no reply but a pair it is told that one is found
   pair-told : (r : Reply Overlap) → y ≡ overlapC r → y .found ≡ 1 → r ≡ answer (pair (y .first) (y .second))
-  pair-told (answer (pair i j)) p h = ap (λ (x : Mf4Overlap). answer (pair (x .first) (x .second))) (sym p)
-  pair-told (answer none) p h = absurd (not-both (ap (λ (x : Mf4Overlap). x .found) p) h)
-  pair-told (refusal n t) p h = absurd (not-both (ap (λ (x : Mf4Overlap). x .found) p) h)
+  pair-told (answer (pair i j)) p h = ap (λ (x : Mf4OverlapReply). answer (pair (x .first) (x .second))) (sym p)
+  pair-told (answer none) p h = absurd (not-both (ap (λ (x : Mf4OverlapReply). x .found) p) h)
+  pair-told (refusal n t) p h = absurd (not-both (ap (λ (x : Mf4OverlapReply). x .found) p) h)
 
   -- what is made again of a reply of 0 where none is found, and of a refusal
   none-again : y .reply ≡ 0 → y .found ≡ 0 → overlapAgain y ≡ answer none
@@ -71,7 +71,7 @@ module _ (y : Mf4Overlap) where
 -- ---- the call
 
 -- `other` stands past the end of the list, and is never asked
-module _ (other : Channel) (list : RefT (List Mf4Channel)) (y : Mf4Overlap) (p : FindsOverlapC list y) where
+module _ (other : Channel) (list : RefT (List Mf4Channel)) (y : Mf4OverlapReply) (p : FindsOverlapC list y) where
   abbrev cs : List Channel
   cs = map channelGiven (list .now)
 

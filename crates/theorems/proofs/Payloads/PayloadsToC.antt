@@ -11,7 +11,7 @@ use Rattle.definitions.specs.Payload.{PayloadValue, Outcomes, payloadFetched}
 use Rattle.mf4.specs.Clauses.{Slice}
 use Rattle.replies.specs.Values.{channelGiven, ReturnedBoth}
 use Rattle.replies.specs.declared.channel.Mf4Channel.{Mf4Channel}
-use Rattle.replies.specs.declared.payload.Mf4Payload.{Mf4Payload}
+use Rattle.replies.specs.declared.payload.Mf4PayloadReply.{Mf4PayloadReply}
 use Rattle.replies.proofs.ToldToC.{Tellable, Reversible, payloadAgain, payload-told}
 use Rattle.theorems.specs.ClausesToC.{ReadsPayloadC}
 use Rattle.theorems.specs.Exactly.{ExactlyZero, PayloadFetchable}
@@ -47,20 +47,20 @@ module _ (f : List ℕ) (start k size idSize dataBytes : ℕ) (c : Channel) (out
 -- ---- the call
 
 module _ (κs : Lfts 3) (file : Slice) (start number size idSize dataBytes : ℕ) (channel : Mf4Channel) (out room : Slice)
-    (y : Mf4Payload) (after later : List ℕ) (p : ReadsPayloadC κs file start number size idSize dataBytes channel out room y after later) where
+    (y : Mf4PayloadReply) (after later : List ℕ) (p : ReadsPayloadC κs file start number size idSize dataBytes channel out room y after later) where
   abbrev given : Outcomes PayloadValue
   given = payloadFetched (file .now) start number size idSize dataBytes (channelGiven channel) (out .now) (room .now)
 
   pub mf4-record-payload-told : payloadAgain y ≡ given .reply
   mf4-record-payload-told =
-      ap (λ (x : ReturnedBoth Mf4Payload). payloadAgain (x .result)) p
+      ap (λ (x : ReturnedBoth Mf4PayloadReply). payloadAgain (x .result)) p
       ∙ payload-told _ (payload-tellable (file .now) start number size idSize dataBytes (channelGiven channel) (out .now) (room .now))
 
   pub mf4-record-payload-ends : PayloadEnds (file .now) start number size idSize dataBytes (channelGiven channel) (out .now) (room .now)
       (record { reply = payloadAgain y; recordBuffer = after; payloadBuffer = later })
   mf4-record-payload-ends =
-      let left : after ≡ given .recordBuffer = ap (λ (x : ReturnedBoth Mf4Payload). x .recordBuffer) p in
-      let kept : later ≡ given .payloadBuffer = ap (λ (x : ReturnedBoth Mf4Payload). x .payloadBuffer) p in
+      let left : after ≡ given .recordBuffer = ap (λ (x : ReturnedBoth Mf4PayloadReply). x .recordBuffer) p in
+      let kept : later ≡ given .payloadBuffer = ap (λ (x : ReturnedBoth Mf4PayloadReply). x .payloadBuffer) p in
       rw (mf4-record-payload-told, left, kept)
       (payload-ends (file .now) start number size idSize dataBytes (channelGiven channel) (out .now) (room .now))
 

@@ -23,7 +23,7 @@ use Rattle.payloads.proofs.Back.{payload-fetched-one}
 use Rattle.mf4.specs.Clauses.{Slice}
 use Rattle.replies.specs.Values.{channelGiven, payloadC, returnedBoth, returnedBothBy}
 use Rattle.replies.specs.declared.channel.Mf4Channel.{Mf4Channel}
-use Rattle.replies.specs.declared.payload.Mf4Payload.{Mf4Payload}
+use Rattle.replies.specs.declared.payload.Mf4PayloadReply.{Mf4PayloadReply}
 use Rattle.theorems.specs.Clauses.{ReadsPayload}
 use Rattle.theorems.specs.ClausesToC.{ReadsPayloadC}
 use Rattle.theorems.proofs.Chains.AcceptedChains.{accepts}
@@ -164,7 +164,7 @@ module _ (κs : Lfts 3) (number size idSize dataBytes : ℕ) where
 
   -- ---- mf4_record_payload
 
-  abbrev pub PayloadSaysC : Slice → ℕ → Mf4Channel → Slice → Slice → Mf4Payload → List ℕ → List ℕ → Type 0
+  abbrev pub PayloadSaysC : Slice → ℕ → Mf4Channel → Slice → Slice → Mf4PayloadReply → List ℕ → List ℕ → Type 0
   PayloadSaysC file start channel out room = ReadsPayloadC κs file start number size idSize dataBytes channel out room
 
   pub mf4-record-payload-of-joined : OfJoined (λ a. a) channelGiven PayloadSaysC returnedBoth (returnedBothBy payloadC) number size idSize dataBytes

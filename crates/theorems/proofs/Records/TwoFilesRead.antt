@@ -19,12 +19,12 @@ use Rattle.fields.specs.declared.channel.Channel.{Channel}
 use Rattle.fields.specs.declared.value.ValidValueRead.{ValidValueRead}
 use Rattle.fields.proofs.Back.{valid-value-one}
 use Rattle.records.specs.Meaning.{valueFetchedBy}
-use Rattle.replies.specs.Replies.{Returned, returned, returnedBy}
-use Rattle.replies.specs.Values.{channelGiven, validValueC, lengthC, fetchedC}
-use Rattle.replies.specs.declared.fetches.Mf4Length.{Mf4Length}
-use Rattle.replies.specs.declared.fetches.Mf4Fetched.{Mf4Fetched}
+use Rattle.replies.specs.Replies.{Returned, returned, returnedBy, doneC}
+use Rattle.replies.specs.Values.{channelGiven, validValueC, lengthC}
+use Rattle.replies.specs.declared.fetches.Mf4LengthReply.{Mf4LengthReply}
+use Rattle.replies.specs.declared.done.Mf4DoneReply.{Mf4DoneReply}
 use Rattle.replies.specs.declared.channel.Mf4Channel.{Mf4Channel}
-use Rattle.replies.specs.declared.valid_values.Mf4ValidValue.{Mf4ValidValue}
+use Rattle.replies.specs.declared.valid_values.Mf4ValidValueReply.{Mf4ValidValueReply}
 use Rattle.mf4.specs.Clauses.{Slice}
 use Rattle.theorems.specs.Clauses.{ReadsLength, ReadsRecord, ReadsRecordValue}
 use Rattle.theorems.specs.ClausesToC.{ReadsLengthC, ReadsRecordC, ReadsRecordValueC}
@@ -59,7 +59,7 @@ pub data-length-of-joined : (κs : Lfts 1) (j : List ℕ) (file : Slice) (start 
     → Joins (file .now) (start .0) j → ReadsLength κs file start y → chainReply y ≡ answer (length j)
 data-length-of-joined κs j file start y h p = p ∙ length-of-joined (file .now) (start .0) j h
 
-pub mf4-data-length-of-joined : (κs : Lfts 1) (j : List ℕ) (file : Slice) (start : ℕ) (y : Mf4Length)
+pub mf4-data-length-of-joined : (κs : Lfts 1) (j : List ℕ) (file : Slice) (start : ℕ) (y : Mf4LengthReply)
     → Joins (file .now) start j → ReadsLengthC κs file start y → y ≡ lengthC (answer (length j))
 mf4-data-length-of-joined κs j file start y h p = p ∙ ap lengthC (length-of-joined (file .now) start j h)
 
@@ -80,17 +80,17 @@ module _ (κs : Lfts 2) (j : List ℕ) (number size : ℕ) where
 
   -- ---- mf4_read_record
 
-  abbrev pub RecordSaysC : Slice → ℕ → Slice → Mf4Fetched → List ℕ → Type 0
+  abbrev pub RecordSaysC : Slice → ℕ → Slice → Mf4DoneReply → List ℕ → Type 0
   RecordSaysC file start buffer = ReadsRecordC κs file start number size buffer
 
-  pub mf4-read-record-of-joined : OfJoined (λ s. s) j RecordSaysC returned (λ out. returnedBy fetchedC (recordIn j number size out))
+  pub mf4-read-record-of-joined : OfJoined (λ s. s) j RecordSaysC returned (λ out. returnedBy doneC (recordIn j number size out))
   mf4-read-record-of-joined file start buffer y after h p =
-      p ∙ ap (returnedBy fetchedC) (record-of-joined (file .now) start j h number size (buffer .now))
+      p ∙ ap (returnedBy doneC) (record-of-joined (file .now) start j h number size (buffer .now))
 
-  pub mf4-read-record-alike : Alike (λ s. s) j RecordSaysC returned (λ out. returnedBy fetchedC (recordIn j number size out))
+  pub mf4-read-record-alike : Alike (λ s. s) j RecordSaysC returned (λ out. returnedBy doneC (recordIn j number size out))
   mf4-read-record-alike =
-      alike (λ s. s) j RecordSaysC returned (λ out. returnedBy fetchedC (recordIn j number size out))
-      (λ y z after later e. (ap (λ (l : Returned Mf4Fetched). l .result) e, ap (λ (l : Returned Mf4Fetched). l .buffer) e))
+      alike (λ s. s) j RecordSaysC returned (λ out. returnedBy doneC (recordIn j number size out))
+      (λ y z after later e. (ap (λ (l : Returned Mf4DoneReply). l .result) e, ap (λ (l : Returned Mf4DoneReply). l .buffer) e))
       mf4-read-record-of-joined
 
 module _ (κs : Lfts 2) (j : List ℕ) (number size idSize dataBytes : ℕ) where
@@ -116,10 +116,10 @@ module _ (κs : Lfts 2) (j : List ℕ) (number size idSize dataBytes : ℕ) wher
   -- ---- mf4_record_value
 
   module _ (channel : Mf4Channel) where
-    abbrev pub ValueSaysC : Slice → ℕ → Slice → Mf4ValidValue → List ℕ → Type 0
+    abbrev pub ValueSaysC : Slice → ℕ → Slice → Mf4ValidValueReply → List ℕ → Type 0
     ValueSaysC file start buffer = ReadsRecordValueC κs file start number size idSize dataBytes channel buffer
 
-    abbrev valueGivenC : List ℕ → Returned Mf4ValidValue
+    abbrev valueGivenC : List ℕ → Returned Mf4ValidValueReply
     valueGivenC out = returnedBy validValueC (valueIn j number size idSize dataBytes (channelGiven channel) out)
 
     pub mf4-record-value-of-joined : OfJoined (λ s. s) j ValueSaysC returned valueGivenC
@@ -129,5 +129,5 @@ module _ (κs : Lfts 2) (j : List ℕ) (number size idSize dataBytes : ℕ) wher
     pub mf4-record-value-alike : Alike (λ s. s) j ValueSaysC returned valueGivenC
     mf4-record-value-alike =
         alike (λ s. s) j ValueSaysC returned valueGivenC
-        (λ y z after later e. (ap (λ (l : Returned Mf4ValidValue). l .result) e, ap (λ (l : Returned Mf4ValidValue). l .buffer) e))
+        (λ y z after later e. (ap (λ (l : Returned Mf4ValidValueReply). l .result) e, ap (λ (l : Returned Mf4ValidValueReply). l .buffer) e))
         mf4-record-value-of-joined

@@ -18,14 +18,14 @@ use Rattle.definitions.proofs.Shared.{Within}
 use Rattle.words.proofs.Numbers.{Bytes}
 use Rattle.doubles.proofs.Narrowed.{ComesBack}
 use Rattle.encoder.specs.Meaning.{valueGiven}
-use Rattle.replies.specs.Replies.{Returned, returned, returnedBy, flagC}
+use Rattle.replies.specs.Replies.{Returned, returned, returnedBy, flagC, doneC}
 use Rattle.replies.specs.Values.{channelGiven, wordOf, numberC, decodedC, answerC, valueC}
-use Rattle.replies.specs.Stored.{givenBy, numberGiven, storedC}
+use Rattle.replies.specs.Stored.{givenBy, numberGiven}
 use Rattle.replies.proofs.ToldToC.{valueAgain}
 use Rattle.replies.specs.declared.channel.Mf4Channel.{Mf4Channel}
-use Rattle.replies.specs.declared.values.Mf4Value.{Mf4Value}
+use Rattle.replies.specs.declared.values.Mf4ValueReply.{Mf4ValueReply}
 use Rattle.replies.specs.declared.stored.Mf4Number.{Mf4Number}
-use Rattle.replies.specs.declared.stored.Mf4Stored.{Mf4Stored}
+use Rattle.replies.specs.declared.done.Mf4DoneReply.{Mf4DoneReply}
 use Rattle.mf4.specs.Clauses.{Slice}
 use Rattle.theorems.specs.ClausesToC.{ReadsValueC, ChecksValidityC, ReadsDoubleC, WritesValueC}
 use Rattle.theorems.specs.Exactly.{ExactlyZero, Takes, Writable}
@@ -106,11 +106,11 @@ number-sized kind number l = go (eqb kind 1) (eqb kind 2) (eqb kind 3)
 
 -- ---- the call
 
-module _ (κs : Lfts 1) (idSize : ℕ) (channel : Mf4Channel) (value : Mf4Number) (bytes : Slice) (y : Mf4Stored) (after : List ℕ)
+module _ (κs : Lfts 1) (idSize : ℕ) (channel : Mf4Channel) (value : Mf4Number) (bytes : Slice) (y : Mf4DoneReply) (after : List ℕ)
     (p : WritesValueC κs idSize channel value bytes y after)
   where
     same-buffer : after ≡ valueWritten (bytes .now) idSize (channelGiven channel) (numberGiven value) .buffer
-    same-buffer = ap (λ (x : Returned Mf4Stored). x .buffer) p
+    same-buffer = ap (λ (x : Returned Mf4DoneReply). x .buffer) p
 
     pub value-write-zero : ExactlyZero (Writable (bytes .now) idSize (channelGiven channel) (numberGiven value)) (y .reply)
     value-write-zero =
@@ -121,10 +121,10 @@ module _ (κs : Lfts 1) (idSize : ℕ) (channel : Mf4Channel) (value : Mf4Number
     replied e = written-exactly (bytes .now) idSize (channelGiven channel) (numberGiven value) .answers (value-write-zero .only e) .1
 
     -- the way in which it ends: a refusal changes nothing
-    pub mf4-write-value-ends : (o : Outcome (Unit {0})) × (WrittenEnds (bytes .now) idSize (channelGiven channel) (numberGiven value) o × (y ≡ storedC (o .reply)) × (after ≡ o .buffer))
+    pub mf4-write-value-ends : (o : Outcome (Unit {0})) × (WrittenEnds (bytes .now) idSize (channelGiven channel) (numberGiven value) o × (y ≡ doneC (o .reply)) × (after ≡ o .buffer))
     mf4-write-value-ends = (
       valueWritten (bytes .now) idSize (channelGiven channel) (numberGiven value),
-      (value-ends (bytes .now) idSize (channelGiven channel) (numberGiven value), ap (λ (x : Returned Mf4Stored). x .result) p, same-buffer),
+      (value-ends (bytes .now) idSize (channelGiven channel) (numberGiven value), ap (λ (x : Returned Mf4DoneReply). x .result) p, same-buffer),
     )
 
     module _ (b : Bytes (bytes .now)) (sized : value .number < 2 ^ 64) where
@@ -141,7 +141,7 @@ module _ (κs : Lfts 1) (idSize : ℕ) (channel : Mf4Channel) (value : Mf4Number
       module _ (d : Mf4Channel) (fixed : variableLength (channelGiven d) ≡ false) (number : isNumber (kindOf (channelGiven d .dataType)) ≡ true)
           (far : shareABit (channelGiven channel) (channelGiven d) ≡ false) (ρs σs : Lfts 1) (written : Slice) (same : written .now ≡ after)
         where
-          pub write-keeps-value : (z w : Mf4Value) → ReadsValueC ρs bytes idSize d z → ReadsValueC σs written idSize d w → w ≡ z
+          pub write-keeps-value : (z w : Mf4ValueReply) → ReadsValueC ρs bytes idSize d z → ReadsValueC σs written idSize d w → w ≡ z
           write-keeps-value z w q r =
               r ∙ ap (λ (t : List ℕ). valueC (valueOf t idSize (channelGiven d))) same ∙ ap valueC (value-write-keeps .others (channelGiven d) fixed number far .0) ∙ sym q
 
@@ -162,7 +162,7 @@ module _ (κs : Lfts 1) (idSize : ℕ) (channel : Mf4Channel) (value : Mf4Number
             (written-decoded (bytes .now) idSize (channelGiven channel) (numberGiven value) b fits (replied done))
 
         -- mf4_decode_value answers the kind and the number that were given
-        pub write-then-decode : (ρs : Lfts 1) (written : Slice) (z : Mf4Value) → written .now ≡ after → ReadsValueC ρs written idSize channel z
+        pub write-then-decode : (ρs : Lfts 1) (written : Slice) (z : Mf4ValueReply) → written .now ≡ after → ReadsValueC ρs written idSize channel z
             → z ≡ answerC (numberC (value .kind) (value .number))
         write-then-decode ρs written z e q =
             q ∙ ap (λ (t : List ℕ). valueC (valueOf t idSize (channelGiven channel))) e ∙ ap valueC (decodes .value)
@@ -176,7 +176,7 @@ module _ (κs : Lfts 1) (idSize : ℕ) (channel : Mf4Channel) (value : Mf4Number
     pub decode-then-write : Bytes (bytes .now) → variableLength (channelGiven channel) ≡ false
         → (isFloating (kindOf (channelGiven channel .dataType)) ≡ true → channelGiven channel .bitCount ≡ 32
         → ComesBack (numberIn (orderOf (channelGiven channel .dataType)) (bytes .now) (startOf idSize (channelGiven channel)) (channelGiven channel)))
-        → (ρs : Lfts 1) (z : Mf4Value) → ReadsValueC ρs bytes idSize channel z → z .reply ≡ 0 → 0 < z .kind → z .kind ≤ 3
+        → (ρs : Lfts 1) (z : Mf4ValueReply) → ReadsValueC ρs bytes idSize channel z → z .reply ≡ 0 → 0 < z .kind → z .kind ≤ 3
         → value .kind ≡ z .kind → value .number ≡ z .number → (y .reply ≡ 0) × (after ≡ bytes .now)
     decode-then-write b fixed comes ρs z q answered some few ek en =
         let told : valueOf (bytes .now) idSize (channelGiven channel) ≡ answer (valueAgain (z .kind) (z .number) (z .at) (z .length)) =
@@ -185,5 +185,5 @@ module _ (κs : Lfts 1) (idSize : ℕ) (channel : Mf4Channel) (value : Mf4Number
         let is-number : IsNumber (numberGiven value) = subst (λ (k : ℕ). IsNumber (givenBy k (value .number))) (sym ek) (given-number (z .kind) (value .number) some few) in
         let same = decoded-written (bytes .now) idSize (channelGiven channel) (numberGiven value) b fixed is-number
         (told ∙ ap answer (given-again (z .kind) (z .number) (z .at) (z .length) some few) ∙ ap₂ (λ (k n : ℕ). answer (valueGiven (givenBy k n))) (sym ek) (sym en)) comes in
-        let after-is : returned y after ≡ returned (storedC (answer tt)) (bytes .now) = p ∙ ap (returnedBy storedC) same in
-        (ap (λ (x : Returned Mf4Stored). x .result .reply) after-is, ap (λ (x : Returned Mf4Stored). x .buffer) after-is)
+        let after-is : returned y after ≡ returned (doneC (answer tt)) (bytes .now) = p ∙ ap (returnedBy doneC) same in
+        (ap (λ (x : Returned Mf4DoneReply). x .result .reply) after-is, ap (λ (x : Returned Mf4DoneReply). x .buffer) after-is)

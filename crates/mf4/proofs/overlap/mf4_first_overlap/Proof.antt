@@ -53,12 +53,12 @@ use Rattle.definitions.specs.Overlap.{overlapOf}
 use Rattle.overlaps.specs.Meaning.{overlapReply, beginOf, stepOf, Ready}
 use Rattle.replies.specs.Overlaps.{overlapC}
 use Rattle.overlaps.specs.declared.search.Search.{Search}
-use Rattle.replies.specs.declared.overlap.Mf4Overlap.{Mf4Overlap}
+use Rattle.replies.specs.declared.overlap.Mf4OverlapReply.{Mf4OverlapReply}
 use Rattle.overlaps.proofs.Steps.{Ok, At as Places, begin-ok, ready, step-ok, toGo, nearer}
 use Rattle.overlaps.proofs.search.Search as search
 use Rattle.overlaps.proofs.search.Search.Laws as search-laws
-use Rattle.replies.proofs.overlap.Mf4Overlap as overlap
-use Rattle.replies.proofs.overlap.Mf4Overlap.Laws as overlap-laws
+use Rattle.replies.proofs.overlap.Mf4OverlapReply as overlap
+use Rattle.replies.proofs.overlap.Mf4OverlapReply.Laws as overlap-laws
 use Rattle.overlaps.proofs.begin_search as begin
 use Rattle.overlaps.proofs.begin_search.Symbol as begin-def
 use Rattle.overlaps.proofs.begin_search.Symbol.{name as #begin}
@@ -110,7 +110,7 @@ OverlapR = overlap.the-row
 abbrev searchVal : Search → Val
 searchVal = LL.val search.the-type search-laws.the-laws
 
-abbrev overlapVal : Mf4Overlap → Val
+abbrev overlapVal : Mf4OverlapReply → Val
 overlapVal = LL.val overlap.the-type overlap-laws.the-laws
 
 abbrev channelVals : Mf4Channel → List Val
@@ -179,7 +179,7 @@ module _ {M : Type 1} (𝓤 : URA M) (H : Heap 𝓤) (A : Atoms 𝓤) (mem : Mem
       (λ ws. snd∗ 𝓤 (sem 𝓤 H A (lasts step.ended tt (n, (s, (a, (b, tt)))) ws))
       (fact 𝓤 (r ≡ stepOf n s (channelGiven a) (channelGiven b))))
 
-  reply-said : (s : Search) (r : Mf4Overlap) → ent 𝓤 (ensured 𝓤 H A reply.ended (reply.clauses 𝓤 H A mem run) tt (s, tt) tt r)
+  reply-said : (s : Search) (r : Mf4OverlapReply) → ent 𝓤 (ensured 𝓤 H A reply.ended (reply.clauses 𝓤 H A mem run) tt (s, tt) tt r)
       (fact 𝓤 (r ≡ overlapC (overlapReply (s .answer))))
   reply-said s r = exE 𝓤 _
       (λ ws. snd∗ 𝓤 (sem 𝓤 H A (lasts reply.ended tt (s, tt) ws)) (fact 𝓤 (r ≡ overlapC (overlapReply (s .answer)))))
@@ -281,7 +281,7 @@ module _ {M : Type 1} (𝓤 : URA M) (H : Heap 𝓤) (A : Atoms 𝓤) (W : Given
   opens = qed W (Token ∷ ‵ (owns (ShrSlice (named 0) κ ChannelR ∷ []) (x, tt) args) ∷ []) ∵ frame ! $ fsplit ! $
       keep ! (0 ∷ []) $ done !
 
-  exits : (r : Mf4Overlap) → Is OverlapR r (overlapVal r ∷ []) → r ≡ overlapC (overlapOf (map channelGiven ys))
+  exits : (r : Mf4OverlapReply) → Is OverlapR r (overlapVal r ∷ []) → r ≡ overlapC (overlapOf (map channelGiven ys))
       → ent 𝓤 (⋆ 𝓤 H A (Token ∷ ‵ Lent ∷ [])) (Post (overlapVal r))
   exits r is e =
       qed W (Token ∷ ‵ Lent ∷ []) ∵
@@ -309,13 +309,13 @@ module _ {M : Type 1} (𝓤 : URA M) (H : Heap 𝓤) (A : Atoms 𝓤) (W : Given
   search-is : (s : Search) (u : Val) → Is SearchR s (u ∷ []) → Is SearchR s (searchVal s ∷ [])
   search-is s u is = subst (Is SearchR s) (LL.tells search.the-type search-laws.the-laws s (u ∷ []) is) is
 
-  overlap-typed : (r : Mf4Overlap) (u : Val) → Is OverlapR r (u ∷ []) → T (hasTy overlapTy u) × WT u
+  overlap-typed : (r : Mf4OverlapReply) (u : Val) → Is OverlapR r (u ∷ []) → T (hasTy overlapTy u) × WT u
   overlap-typed r u is = LL.lawful overlap.the-type overlap-laws.the-laws 𝓤 H A W .typed r (u ∷ []) is .0
 
-  overlap-val : (r : Mf4Overlap) (u : Val) → Is OverlapR r (u ∷ []) → u ≡ overlapVal r
+  overlap-val : (r : Mf4OverlapReply) (u : Val) → Is OverlapR r (u ∷ []) → u ≡ overlapVal r
   overlap-val r u is = ap only (LL.tells overlap.the-type overlap-laws.the-laws r (u ∷ []) is)
 
-  overlap-is : (r : Mf4Overlap) (u : Val) → Is OverlapR r (u ∷ []) → Is OverlapR r (overlapVal r ∷ [])
+  overlap-is : (r : Mf4OverlapReply) (u : Val) → Is OverlapR r (u ∷ []) → Is OverlapR r (overlapVal r ∷ [])
   overlap-is r u is = subst (Is OverlapR r) (LL.tells overlap.the-type overlap-laws.the-laws r (u ∷ []) is) is
 
   module _ (𝓣 : Tables 𝓤 H) (gn : Room ChannelR n) (known-begin : Triple 𝓤 (𝓣 .C #begin) (Begin 𝓤 H A mem run))
@@ -426,7 +426,7 @@ module _ {M : Type 1} (𝓤 : URA M) (H : Heap 𝓤) (A : Atoms 𝓤) (W : Given
             use1 W (raw (Reply 𝓤 H A mem run .pre (reply-args 𝓤 H A mem run W s))) (reply-goes 𝓤 H A mem run W s) $
             calls-at ! fm (Reply 𝓤 H A mem run) known-reply (reply-args 𝓤 H A mem run W s)
             (and-then ! (load ! (from ! (stop !)) (look ! 21 refl)) (no-more !)) (λ v.
-            use1 W (later (some (λ (r : Mf4Overlap). (‵ ftrue ⊛ ‵ (OverlapR .own r (v ∷ []))) ⊛ raw
+            use1 W (later (some (λ (r : Mf4OverlapReply). (‵ ftrue ⊛ ‵ (OverlapR .own r (v ∷ []))) ⊛ raw
             (ensured 𝓤 H A reply.ended (reply.clauses 𝓤 H A mem run) tt (s, tt) tt r)))) (id⊢ 𝓤 _) $ await ! tt $ pick ! (λ r.
             split ! $ move ! (1 ∷ []) $
             use1 W (raw (fact 𝓤 (r ≡ overlapC (overlapReply (s .answer))))) (reply-said 𝓤 H A mem run s r) $

@@ -3,7 +3,7 @@ use denote.Ref.{now}
 use Rattle.definitions.specs.Channel.{Channel}
 use Rattle.definitions.specs.WrittenValue.{Given, valueWritten}
 use Rattle.encoder.specs.Meaning.{writtenReply}
-use Rattle.replies.specs.Stored.{storedC}
+use Rattle.replies.specs.Replies.{doneC}
 use Rattle.replies.proofs.Handed.{handed-back}
 use borrow.Author.Needs.{needs}
 use Rattle.mf4.proofs.stored.mf4_write_value.Statement.{statement}
@@ -15,7 +15,7 @@ returns c =
     let number = call .before .before in
     let channel = number .before in
     let a = channel .before .before .args in
-    handed-back storedC writtenReply (call .encode-channel-value .result) (c .stored-reply .ensures)
+    handed-back doneC writtenReply (call .encode-channel-value .result) (c .stored-reply .ensures)
     (call .encode-channel-value .ensures
     ∙ ap₂ (λ (ch : Channel) (v : Given). valueWritten (now (a .«record»)) (a .«record-id-size») ch v) (channel .channel-of .ensures) (number .number-of .ensures))
 

@@ -17,7 +17,7 @@ returns c =
       bitCount = g .«bit_count»;
       flags = g .flags;
       invalidationBit = g .«pos_invalidation_bit»;
-      dataLink = g .data;
+      dataLink = g .«data_addr»;
     })
     (c .from-u8 .ensures)
 

@@ -14,7 +14,7 @@ returns c =
       «bit_count» = d .«bit_count»;
       flags = d .flags;
       «pos_invalidation_bit» = d .«pos_invalidation_bit»;
-      «data» = d .«data»;
+      «data_addr» = d .«data»;
     }
 
 pub description-told-spec : {M : Type 1} → statement M

@@ -1,6 +1,6 @@
 use mathlib.Core.Path.{refl}
 use Rattle.records.specs.Meaning.{recordReply}
-use Rattle.replies.specs.Values.{fetchedC}
+use Rattle.replies.specs.Replies.{doneC}
 use Rattle.replies.proofs.Handed.{handed, by-numbers}
 use borrow.Author.Needs.{needs}
 use Rattle.replies.proofs.fetches.fetched_reply.Statement.{statement}
@@ -9,10 +9,10 @@ use Rattle.replies.proofs.fetches.fetched_reply.Tie as tie
 returns : tie.Need-returns
 returns c =
     let why = c .before .before .refusal in
-    handed fetchedC recordReply (by-numbers fetchedC (why .result) (c .before .number .ensures) (c .told .ensures)) (why .ensures)
+    handed doneC recordReply (by-numbers doneC (why .result) (c .before .number .ensures) (c .told .ensures)) (why .ensures)
 
 returns-2 : tie.Need-returns-2
-returns-2 c = handed fetchedC recordReply refl (c .enum-told .given .1)
+returns-2 c = handed doneC recordReply refl (c .enum-told .given .1)
 
 pub fetched-reply-spec : {M : Type 1} → statement M
 fetched-reply-spec =

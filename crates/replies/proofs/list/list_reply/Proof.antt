@@ -13,14 +13,14 @@ returns c =
       reply = c .before .before .number .ensures i;
       told = c .before .told .ensures i;
       header = c .no-header .ensures i;
-      next = 0;
-      «links_at» = 0;
-      links = 0;
+      «next_addr» = 0;
+      «data_links_at» = 0;
+      «data_link_count» = 0;
       flags = 0;
       reserved1 = 0;
-      «data_block_nr» = 0;
+      «data_block_count» = 0;
       «rest_at» = 0;
-      rest = 0;
+      «rest_count» = 0;
     })
     (c .before .before .before .refusal .ensures)
 
@@ -34,14 +34,14 @@ returns-2 c =
       reply = 0;
       told = 0;
       header = c .header-told .ensures i;
-      next = d .next;
-      «links_at» = d .«links_at»;
-      links = d .links;
+      «next_addr» = d .next;
+      «data_links_at» = d .«links_at»;
+      «data_link_count» = d .links;
       flags = d .flags;
       reserved1 = d .reserved1;
-      «data_block_nr» = d .«data_block_nr»;
+      «data_block_count» = d .«data_block_nr»;
       «rest_at» = d .«rest_at»;
-      rest = d .rest;
+      «rest_count» = d .rest;
     })
     (list .1)
 

@@ -1,6 +1,6 @@
 use mathlib.Core.Path.{refl}
 use Rattle.encoder.specs.Meaning.{writtenReply}
-use Rattle.replies.specs.Stored.{storedC}
+use Rattle.replies.specs.Replies.{doneC}
 use Rattle.replies.proofs.Handed.{handed, by-numbers}
 use borrow.Author.Needs.{needs}
 use Rattle.replies.proofs.stored.stored_reply.Statement.{statement}
@@ -9,10 +9,10 @@ use Rattle.replies.proofs.stored.stored_reply.Tie as tie
 returns : tie.Need-returns
 returns c =
     let why = c .before .before .refusal in
-    handed storedC writtenReply (by-numbers storedC (why .result) (c .before .number .ensures) (c .told .ensures)) (why .ensures)
+    handed doneC writtenReply (by-numbers doneC (why .result) (c .before .number .ensures) (c .told .ensures)) (why .ensures)
 
 returns-2 : tie.Need-returns-2
-returns-2 c = handed storedC writtenReply refl (c .enum-told .given .1)
+returns-2 c = handed doneC writtenReply refl (c .enum-told .given .1)
 
 pub stored-reply-spec : {M : Type 1} → statement M
 stored-reply-spec =
