@@ -115,11 +115,11 @@ ReadsValue κs bytes idSize channel y =
     Allows 1 value-read-kinds.ps value-read-kinds.r value-read.Learnt κs (bytes, (idSize, (channel, tt))) y (tt, (tt, (tt, tt)))
 
 abbrev pub ReadsValidValue : Lfts 1 → Slice → ℕ → ℕ → Channel → ValidValueRead → Type 0
-ReadsValidValue κs bytes idSize dataBytes channel y =
+ReadsValidValue κs bytes g channel y =
     Allows 1 valid-value-read-kinds.ps valid-value-read-kinds.r valid-value-read.Learnt κs (bytes, (idSize, (dataBytes, (channel, tt)))) y (tt, (tt, (tt, (tt, tt))))
 
 abbrev pub ChecksValidity : Lfts 1 → Slice → ℕ → ℕ → Channel → Bool → Type 0
-ChecksValidity κs bytes idSize dataBytes channel y =
+ChecksValidity κs bytes g channel y =
     Allows 1 validity-kinds.ps validity-kinds.r validity.Learnt κs (bytes, (idSize, (dataBytes, (channel, tt)))) y (tt, (tt, (tt, (tt, tt))))
 
 abbrev pub ReadsDouble : Lfts 1 → Slice → ℕ → Channel → ℕ → Type 0
@@ -148,7 +148,7 @@ ReadsRecord κs file start number size out y after =
     (file, (start, (number, (size, (out, tt))))) y (tt, (tt, (tt, (tt, (after, tt)))))
 
 abbrev pub ReadsRecordValue : Lfts 2 → Slice → FileAddress → ℕ → ℕ → ℕ → ℕ → Channel → Slice → ValidValueRead → List ℕ → Type 0
-ReadsRecordValue κs file start number size idSize dataBytes channel out y after =
+ReadsRecordValue κs file start number size g channel out y after =
     Allows 2 record-value-kinds.ps record-value-kinds.r record-value.Learnt κs
     (file, (start, (number, (size, (idSize, (dataBytes, (channel, (out, tt)))))))) y
     (tt, (tt, (tt, (tt, (tt, (tt, (tt, (after, tt))))))))
@@ -156,7 +156,7 @@ ReadsRecordValue κs file start number size idSize dataBytes channel out y after
 -- ---- a payload
 
 abbrev pub ReadsPayload : Lfts 3 → Slice → FileAddress → ℕ → ℕ → ℕ → ℕ → Channel → Slice → Slice → PayloadRead → List ℕ → List ℕ → Type 0
-ReadsPayload κs file start number size idSize dataBytes channel out room y after later =
+ReadsPayload κs file start number size g channel out room y after later =
     Allows 3 record-payload-kinds.ps record-payload-kinds.r record-payload.Learnt κs
     (file, (start, (number, (size, (idSize, (dataBytes, (channel, (out, (room, tt))))))))) y
     (tt, (tt, (tt, (tt, (tt, (tt, (tt, (after, (later, tt)))))))))

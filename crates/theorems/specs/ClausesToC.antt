@@ -106,11 +106,11 @@ ReadsValueC κs bytes idSize channel y =
     Allows 1 decode-value-kinds.ps decode-value-kinds.r decode-value.Learnt κs (bytes, (idSize, (channel, tt))) y (tt, (tt, (tt, tt)))
 
 abbrev pub ReadsValidValueC : Lfts 1 → Slice → ℕ → ℕ → Mf4Channel → Mf4ValidValueReply → Type 0
-ReadsValidValueC κs bytes idSize dataBytes channel y =
+ReadsValidValueC κs bytes g channel y =
     Allows 1 decode-valid-value-kinds.ps decode-valid-value-kinds.r decode-valid-value.Learnt κs (bytes, (idSize, (dataBytes, (channel, tt)))) y (tt, (tt, (tt, (tt, tt))))
 
 abbrev pub ChecksValidityC : Lfts 1 → Slice → ℕ → ℕ → Mf4Channel → ℕ → Type 0
-ChecksValidityC κs bytes idSize dataBytes channel y =
+ChecksValidityC κs bytes g channel y =
     Allows 1 check-validity-kinds.ps check-validity-kinds.r check-validity.Learnt κs (bytes, (idSize, (dataBytes, (channel, tt)))) y (tt, (tt, (tt, (tt, tt))))
 
 abbrev pub ReadsDoubleC : Lfts 1 → Slice → ℕ → Mf4Channel → ℕ → Type 0
@@ -132,7 +132,7 @@ ReadsRecordC κs file start number size out y after =
     (file, (start, (number, (size, (out, tt))))) y (tt, (tt, (tt, (tt, (after, tt)))))
 
 abbrev pub ReadsRecordValueC : Lfts 2 → Slice → ℕ → ℕ → ℕ → ℕ → ℕ → Mf4Channel → Slice → Mf4ValidValueReply → List ℕ → Type 0
-ReadsRecordValueC κs file start number size idSize dataBytes channel out y after =
+ReadsRecordValueC κs file start number size g channel out y after =
     Allows 2 record-value-kinds.ps record-value-kinds.r record-value.Learnt κs
     (file, (start, (number, (size, (idSize, (dataBytes, (channel, (out, tt)))))))) y
     (tt, (tt, (tt, (tt, (tt, (tt, (tt, (after, tt))))))))
@@ -140,7 +140,7 @@ ReadsRecordValueC κs file start number size idSize dataBytes channel out y afte
 -- ---- a payload
 
 abbrev pub ReadsPayloadC : Lfts 3 → Slice → ℕ → ℕ → ℕ → ℕ → ℕ → Mf4Channel → Slice → Slice → Mf4PayloadReply → List ℕ → List ℕ → Type 0
-ReadsPayloadC κs file start number size idSize dataBytes channel out room y after later =
+ReadsPayloadC κs file start number size g channel out room y after later =
     Allows 3 record-payload-kinds.ps record-payload-kinds.r record-payload.Learnt κs
     (file, (start, (number, (size, (idSize, (dataBytes, (channel, (out, (room, tt))))))))) y
     (tt, (tt, (tt, (tt, (tt, (tt, (tt, (after, (later, tt)))))))))

@@ -95,10 +95,10 @@ pub value-read-zero : (κs : Lfts 1) (bytes : Slice) (idSize : ℕ) (channel : M
 value-read-zero κs bytes idSize channel y p =
     zero-exactly (y .reply) (y .told) _ _ (mf4-decode-value-told κs bytes idSize channel y p) (value-exactly (bytes .now) idSize (channelGiven channel))
 
-pub valid-value-read-zero : (κs : Lfts 1) (bytes : Slice) (idSize dataBytes : ℕ) (channel : Mf4Channel) (y : Mf4ValidValueReply)
-    → ReadsValidValueC κs bytes idSize dataBytes channel y → ExactlyZero (FieldStands (bytes .now) idSize (channelGiven channel)) (y .reply)
-valid-value-read-zero κs bytes idSize dataBytes channel y p =
-    zero-exactly (y .reply) (y .told) _ _ (mf4-decode-valid-value-told κs bytes idSize dataBytes channel y p) (valid-value-exactly (bytes .now) idSize (channelGiven channel) dataBytes)
+pub valid-value-read-zero : (κs : Lfts 1) (bytes : Slice) (g : Group) (channel : Mf4Channel) (y : Mf4ValidValueReply)
+    → ReadsValidValueC κs bytes g channel y → ExactlyZero (FieldStands (bytes .now) idSize (channelGiven channel)) (y .reply)
+valid-value-read-zero κs bytes g channel y p =
+    zero-exactly (y .reply) (y .told) _ _ (mf4-decode-valid-value-told κs bytes g channel y p) (valid-value-exactly (bytes .now) idSize (channelGiven channel) dataBytes)
 
 -- ---- the joined data, a record of it, and a value in that
 
@@ -111,9 +111,9 @@ pub record-read-zero : (κs : Lfts 2) (file : Slice) (start number size : ℕ) (
 record-read-zero κs file start number size out y after p =
     zero-exactly (y .reply) (y .told) _ _ (mf4-read-record-told κs file start number size out y after p) (fetched-exactly (file .now) start number size (out .now))
 
-pub record-value-zero : (κs : Lfts 2) (file : Slice) (start number size idSize dataBytes : ℕ) (channel : Mf4Channel) (out : Slice) (y : Mf4ValidValueReply) (after : List ℕ)
-    → ReadsRecordValueC κs file start number size idSize dataBytes channel out y after
+pub record-value-zero : (κs : Lfts 2) (file : Slice) (start number size : ℕ) (g : Group) (channel : Mf4Channel) (out : Slice) (y : Mf4ValidValueReply) (after : List ℕ)
+    → ReadsRecordValueC κs file start number size g channel out y after
     → ExactlyZero (ValueFetchable (file .now) start number size idSize (channelGiven channel) (out .now)) (y .reply)
-record-value-zero κs file start number size idSize dataBytes channel out y after p =
-    zero-exactly (y .reply) (y .told) _ _ (mf4-record-value-told κs file start number size idSize dataBytes channel out y after p)
-    (value-fetched-exactly (file .now) start number size (out .now) idSize dataBytes (channelGiven channel))
+record-value-zero κs file start number size g channel out y after p =
+    zero-exactly (y .reply) (y .told) _ _ (mf4-record-value-told κs file start number size g channel out y after p)
+    (value-fetched-exactly (file .now) start number size (out .now) g (channelGiven channel))

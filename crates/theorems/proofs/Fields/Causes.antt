@@ -182,6 +182,6 @@ module _ {A B : Type 0} (g : A → B) where
     no-other = λ n t e. h .no-other n t (made-refused r n t e);
   }
 
-pub valid-value-replies : (s : List ℕ) (idSize dataBytes : ℕ) (c : Channel) → FieldReplies s idSize c (validValueOf s idSize dataBytes c)
+pub valid-value-replies : (s : List ℕ) (g : Group) (c : Channel) → FieldReplies s idSize c (validValueOf s g c)
 unfolding validValueOf
-valid-value-replies s idSize dataBytes c = made-of _ (valueOf s idSize c) (valid-value-exactly s idSize c dataBytes) (value-replies s idSize c)
+valid-value-replies s g c = made-of _ (valueOf s idSize c) (valid-value-exactly s idSize c dataBytes) (value-replies s idSize c)

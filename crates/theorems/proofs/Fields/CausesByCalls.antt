@@ -35,17 +35,17 @@ pub value-read-replies : (κs : Lfts 1) (bytes : Slice) (idSize : ℕ) (channel 
     → ReadsValue κs bytes idSize channel y → FieldReplies (bytes .now) idSize (channelMeant channel) (valueReply y)
 value-read-replies κs bytes idSize channel y p = as-defined p (value-replies (bytes .now) idSize (channelMeant channel))
 
-pub valid-value-read-replies : (κs : Lfts 1) (bytes : Slice) (idSize dataBytes : ℕ) (channel : Channel) (y : ValidValueRead)
-    → ReadsValidValue κs bytes idSize dataBytes channel y → FieldReplies (bytes .now) idSize (channelMeant channel) (validValueReply y)
-valid-value-read-replies κs bytes idSize dataBytes channel y p = as-defined p (valid-value-replies (bytes .now) idSize dataBytes (channelMeant channel))
+pub valid-value-read-replies : (κs : Lfts 1) (bytes : Slice) (g : Group) (channel : Channel) (y : ValidValueRead)
+    → ReadsValidValue κs bytes g channel y → FieldReplies (bytes .now) idSize (channelMeant channel) (validValueReply y)
+valid-value-read-replies κs bytes g channel y p = as-defined p (valid-value-replies (bytes .now) g (channelMeant channel))
 
 -- of a record that can be fetched, on its own bytes
-pub record-value-replies : (κs : Lfts 2) (file : Slice) (start : FileAddress) (number size idSize dataBytes : ℕ) (channel : Channel) (out : Slice) (y : ValidValueRead) (after : List ℕ)
-    → ReadsRecordValue κs file start number size idSize dataBytes channel out y after → (h : Fetchable (file .now) (start .0) number size (out .now))
+pub record-value-replies : (κs : Lfts 2) (file : Slice) (start : FileAddress) (number size : ℕ) (g : Group) (channel : Channel) (out : Slice) (y : ValidValueRead) (after : List ℕ)
+    → ReadsRecordValue κs file start number size g channel out y after → (h : Fetchable (file .now) (start .0) number size (out .now))
     → FieldReplies (span (joined (file .now) (h .blocks)) (number * size) size) idSize (channelMeant channel) (validValueReply y)
-record-value-replies κs file start number size idSize dataBytes channel out y after p h =
-    as-defined (ap (λ (o : Outcome ValidValue). o .reply) p ∙ value-of-record (file .now) (start .0) number size (out .now) idSize dataBytes (channelMeant channel) h)
-    (valid-value-replies _ idSize dataBytes (channelMeant channel))
+record-value-replies κs file start number size g channel out y after p h =
+    as-defined (ap (λ (o : Outcome ValidValue). o .reply) p ∙ value-of-record (file .now) (start .0) number size (out .now) g (channelMeant channel) h)
+    (valid-value-replies _ g (channelMeant channel))
 
 -- ---- for C: of the reply that the struct tells
 
@@ -54,16 +54,16 @@ pub mf4-decode-value-replies : (κs : Lfts 1) (bytes : Slice) (idSize : ℕ) (ch
 mf4-decode-value-replies κs bytes idSize channel y p =
     as-defined (mf4-decode-value-told κs bytes idSize channel y p) (value-replies (bytes .now) idSize (channelGiven channel))
 
-pub mf4-decode-valid-value-replies : (κs : Lfts 1) (bytes : Slice) (idSize dataBytes : ℕ) (channel : Mf4Channel) (y : Mf4ValidValueReply)
-    → ReadsValidValueC κs bytes idSize dataBytes channel y → FieldReplies (bytes .now) idSize (channelGiven channel) (validValueAgain y)
-mf4-decode-valid-value-replies κs bytes idSize dataBytes channel y p =
-    as-defined (mf4-decode-valid-value-told κs bytes idSize dataBytes channel y p) (valid-value-replies (bytes .now) idSize dataBytes (channelGiven channel))
+pub mf4-decode-valid-value-replies : (κs : Lfts 1) (bytes : Slice) (g : Group) (channel : Mf4Channel) (y : Mf4ValidValueReply)
+    → ReadsValidValueC κs bytes g channel y → FieldReplies (bytes .now) idSize (channelGiven channel) (validValueAgain y)
+mf4-decode-valid-value-replies κs bytes g channel y p =
+    as-defined (mf4-decode-valid-value-told κs bytes g channel y p) (valid-value-replies (bytes .now) g (channelGiven channel))
 
-pub mf4-record-value-replies : (κs : Lfts 2) (file : Slice) (start number size idSize dataBytes : ℕ) (channel : Mf4Channel) (out : Slice) (y : Mf4ValidValueReply) (after : List ℕ)
-    → ReadsRecordValueC κs file start number size idSize dataBytes channel out y after → (h : Fetchable (file .now) start number size (out .now))
+pub mf4-record-value-replies : (κs : Lfts 2) (file : Slice) (start number size : ℕ) (g : Group) (channel : Mf4Channel) (out : Slice) (y : Mf4ValidValueReply) (after : List ℕ)
+    → ReadsRecordValueC κs file start number size g channel out y after → (h : Fetchable (file .now) start number size (out .now))
     → FieldReplies (span (joined (file .now) (h .blocks)) (number * size) size) idSize (channelGiven channel) (validValueAgain y)
-mf4-record-value-replies κs file start number size idSize dataBytes channel out y after p h =
+mf4-record-value-replies κs file start number size g channel out y after p h =
     as-defined
-    (mf4-record-value-told κs file start number size idSize dataBytes channel out y after p
-    ∙ value-of-record (file .now) start number size (out .now) idSize dataBytes (channelGiven channel) h)
-    (valid-value-replies _ idSize dataBytes (channelGiven channel))
+    (mf4-record-value-told κs file start number size g channel out y after p
+    ∙ value-of-record (file .now) start number size (out .now) g (channelGiven channel) h)
+    (valid-value-replies _ g (channelGiven channel))

@@ -55,11 +55,11 @@ module _ (s t : List ℕ) (idSize : ℕ) (c : Channel) (h : Alike s t idSize c) 
   same-double = sym (double-fixed s idSize c (h .fixed)) ∙ ap doubleIn same-value ∙ double-fixed t idSize c (h .fixed)
 
   -- with the invalidation bit alike, the value with its validity
-  pub same-valid-value : (dataBytes : ℕ) → invalidationBitIn s idSize dataBytes c ≡ invalidationBitIn t idSize dataBytes c
-      → validValueOf s idSize dataBytes c ≡ validValueOf t idSize dataBytes c
+  pub same-valid-value : (dataBytes : ℕ) → invalidationBitIn s g c ≡ invalidationBitIn t g c
+      → validValueOf s g c ≡ validValueOf t g c
   unfolding validValueOf
   same-valid-value dataBytes e =
-      ap₂ (λ (r : Reply Value) (b : Bool). andThen r (λ v. answer (record { value = v; valid = b }))) same-value (one-bit s t idSize dataBytes c e)
+      ap₂ (λ (r : Reply Value) (b : Bool). andThen r (λ v. answer (record { value = v; valid = b }))) same-value (one-bit s t g c e)
 
 module _ (κs : Lfts 1) (s t : Slice) (idSize : ℕ) (channel : Description) (h : Alike (s .now) (t .now) idSize (channelMeant channel)) where
   pub value-read-alike : (y z : ValueRead) → ReadsValue κs s idSize channel y → ReadsValue κs t idSize channel z → y ≡ z
@@ -68,8 +68,8 @@ module _ (κs : Lfts 1) (s t : Slice) (idSize : ℕ) (channel : Description) (h 
   pub double-read-alike : (y z : ℕ) → ReadsDouble κs s idSize channel y → ReadsDouble κs t idSize channel z → y ≡ z
   double-read-alike y z p q = p ∙ same-double (s .now) (t .now) idSize (channelMeant channel) h ∙ sym q
 
-  pub valid-value-read-alike : (dataBytes : ℕ) → invalidationBitIn (s .now) idSize dataBytes (channelMeant channel) ≡ invalidationBitIn (t .now) idSize dataBytes (channelMeant channel)
-      → (y z : ValidValueRead) → ReadsValidValue κs s idSize dataBytes channel y → ReadsValidValue κs t idSize dataBytes channel z → y ≡ z
+  pub valid-value-read-alike : (dataBytes : ℕ) → invalidationBitIn (s .now) g (channelMeant channel) ≡ invalidationBitIn (t .now) g (channelMeant channel)
+      → (y z : ValidValueRead) → ReadsValidValue κs s g channel y → ReadsValidValue κs t g channel z → y ≡ z
   valid-value-read-alike dataBytes e y z p q = valid-value-one y z (p ∙ same-valid-value (s .now) (t .now) idSize (channelMeant channel) h dataBytes e ∙ sym q)
 
 -- ---- a refusal
@@ -78,7 +78,7 @@ module _ (s t : List ℕ) (idSize : ℕ) (c : Channel) (long : length s ≡ leng
   pub same-refusal : valueOf s idSize c ≡ refusal n m → valueOf t idSize c ≡ refusal n m
   same-refusal e = refusal-locality s t idSize c n m long e
 
-  pub same-valid-refusal : (dataBytes : ℕ) → validValueOf s idSize dataBytes c ≡ refusal n m → validValueOf t idSize dataBytes c ≡ refusal n m
+  pub same-valid-refusal : (dataBytes : ℕ) → validValueOf s g c ≡ refusal n m → validValueOf t g c ≡ refusal n m
   unfolding validValueOf
   same-valid-refusal dataBytes e = refused-made _ (valueOf t idSize c) n m (same-refusal (made-refused _ (valueOf s idSize c) n m e))
 
@@ -87,15 +87,15 @@ module _ (κs : Lfts 1) (s t : Slice) (idSize : ℕ) (channel : Description) (lo
       → valueReply y ≡ refusal n m → valueReply z ≡ refusal n m
   value-read-refused y z p q e = q ∙ same-refusal (s .now) (t .now) idSize (channelMeant channel) long n m (sym p ∙ e)
 
-  pub valid-value-read-refused : (dataBytes : ℕ) (y z : ValidValueRead) → ReadsValidValue κs s idSize dataBytes channel y
-      → ReadsValidValue κs t idSize dataBytes channel z → validValueReply y ≡ refusal n m → validValueReply z ≡ refusal n m
+  pub valid-value-read-refused : (dataBytes : ℕ) (y z : ValidValueRead) → ReadsValidValue κs s g channel y
+      → ReadsValidValue κs t g channel z → validValueReply y ≡ refusal n m → validValueReply z ≡ refusal n m
   valid-value-read-refused dataBytes y z p q e = q ∙ same-valid-refusal (s .now) (t .now) idSize (channelMeant channel) long n m dataBytes (sym p ∙ e)
 
 -- validity alone reads that one bit
-pub validity-alike : (κs : Lfts 1) (s t : Slice) (idSize dataBytes : ℕ) (channel : Description)
-    → invalidationBitIn (s .now) idSize dataBytes (channelMeant channel) ≡ invalidationBitIn (t .now) idSize dataBytes (channelMeant channel)
-    → (y z : Bool) → ChecksValidity κs s idSize dataBytes channel y → ChecksValidity κs t idSize dataBytes channel z → y ≡ z
-validity-alike κs s t idSize dataBytes channel e y z p q = p ∙ one-bit (s .now) (t .now) idSize dataBytes (channelMeant channel) e ∙ sym q
+pub validity-alike : (κs : Lfts 1) (s t : Slice) (g : Group) (channel : Description)
+    → invalidationBitIn (s .now) g (channelMeant channel) ≡ invalidationBitIn (t .now) g (channelMeant channel)
+    → (y z : Bool) → ChecksValidity κs s g channel y → ChecksValidity κs t g channel z → y ≡ z
+validity-alike κs s t g channel e y z p q = p ∙ one-bit (s .now) (t .now) g (channelMeant channel) e ∙ sym q
 
 -- ---- for C
 
@@ -106,8 +106,8 @@ module _ (κs : Lfts 1) (s t : Slice) (idSize : ℕ) (channel : Mf4Channel) (h :
   pub mf4-decode-double-bits-alike : (y z : ℕ) → ReadsDoubleC κs s idSize channel y → ReadsDoubleC κs t idSize channel z → y ≡ z
   mf4-decode-double-bits-alike y z p q = p ∙ same-double (s .now) (t .now) idSize (channelGiven channel) h ∙ sym q
 
-  pub mf4-decode-valid-value-alike : (dataBytes : ℕ) → invalidationBitIn (s .now) idSize dataBytes (channelGiven channel) ≡ invalidationBitIn (t .now) idSize dataBytes (channelGiven channel)
-      → (y z : Mf4ValidValueReply) → ReadsValidValueC κs s idSize dataBytes channel y → ReadsValidValueC κs t idSize dataBytes channel z → y ≡ z
+  pub mf4-decode-valid-value-alike : (dataBytes : ℕ) → invalidationBitIn (s .now) g (channelGiven channel) ≡ invalidationBitIn (t .now) g (channelGiven channel)
+      → (y z : Mf4ValidValueReply) → ReadsValidValueC κs s g channel y → ReadsValidValueC κs t g channel z → y ≡ z
   mf4-decode-valid-value-alike dataBytes e y z p q =
       p ∙ ap validValueC (same-valid-value (s .now) (t .now) idSize (channelGiven channel) h dataBytes e) ∙ sym q
 
@@ -119,14 +119,14 @@ module _ (κs : Lfts 1) (s t : Slice) (idSize : ℕ) (channel : Mf4Channel) (lon
       mf4-decode-value-told κs t idSize channel z q
       ∙ same-refusal (s .now) (t .now) idSize (channelGiven channel) long n m (sym (mf4-decode-value-told κs s idSize channel y p) ∙ e)
 
-  pub mf4-decode-valid-value-refused : (dataBytes : ℕ) (y z : Mf4ValidValueReply) → ReadsValidValueC κs s idSize dataBytes channel y
-      → ReadsValidValueC κs t idSize dataBytes channel z → validValueAgain y ≡ refusal n m → validValueAgain z ≡ refusal n m
+  pub mf4-decode-valid-value-refused : (dataBytes : ℕ) (y z : Mf4ValidValueReply) → ReadsValidValueC κs s g channel y
+      → ReadsValidValueC κs t g channel z → validValueAgain y ≡ refusal n m → validValueAgain z ≡ refusal n m
   mf4-decode-valid-value-refused dataBytes y z p q e =
-      mf4-decode-valid-value-told κs t idSize dataBytes channel z q
-      ∙ same-valid-refusal (s .now) (t .now) idSize (channelGiven channel) long n m dataBytes (sym (mf4-decode-valid-value-told κs s idSize dataBytes channel y p) ∙ e)
+      mf4-decode-valid-value-told κs t g channel z q
+      ∙ same-valid-refusal (s .now) (t .now) idSize (channelGiven channel) long n m dataBytes (sym (mf4-decode-valid-value-told κs s g channel y p) ∙ e)
 
-pub mf4-check-validity-alike : (κs : Lfts 1) (s t : Slice) (idSize dataBytes : ℕ) (channel : Mf4Channel)
-    → invalidationBitIn (s .now) idSize dataBytes (channelGiven channel) ≡ invalidationBitIn (t .now) idSize dataBytes (channelGiven channel)
-    → (y z : ℕ) → ChecksValidityC κs s idSize dataBytes channel y → ChecksValidityC κs t idSize dataBytes channel z → y ≡ z
-mf4-check-validity-alike κs s t idSize dataBytes channel e y z p q =
-    p ∙ ap flagC (one-bit (s .now) (t .now) idSize dataBytes (channelGiven channel) e) ∙ sym q
+pub mf4-check-validity-alike : (κs : Lfts 1) (s t : Slice) (g : Group) (channel : Mf4Channel)
+    → invalidationBitIn (s .now) g (channelGiven channel) ≡ invalidationBitIn (t .now) g (channelGiven channel)
+    → (y z : ℕ) → ChecksValidityC κs s g channel y → ChecksValidityC κs t g channel z → y ≡ z
+mf4-check-validity-alike κs s t g channel e y z p q =
+    p ∙ ap flagC (one-bit (s .now) (t .now) g (channelGiven channel) e) ∙ sym q

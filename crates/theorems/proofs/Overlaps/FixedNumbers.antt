@@ -11,8 +11,7 @@ use lib.ListN.{length}
 use borrow.Author.Tests.{leb-true, le-leb, le-ltb, ltb-false, eqb-false, ne-eqb}
 use Rattle.definitions.specs.Reply.{answer}
 use Rattle.definitions.specs.DataType.{Kind, integer, floating, whole, undecoded, kindOf}
-use Rattle.definitions.specs.Channel.{Channel, Value, variableLength, isNumber, bitSpan, valueOf}
-use Rattle.definitions.specs.Overlap.{isFixedNumber}
+use Rattle.definitions.specs.Channel.{Channel, Value, variableLength, isNumber, bitSpan, valueOf, isSoundNumber}
 use Rattle.fields.proofs.Tests.{float-width}
 use Rattle.fields.proofs.Locality.{number-span}
 use Rattle.overlaps.proofs.Entries.{overWord, noWidth, by-tests, each-passed}
@@ -39,7 +38,7 @@ module _ (c : Channel) where
   width-passes : (c .bitCount ≡ 32) ⊎ (c .bitCount ≡ 64) → (eqb (c .bitCount) 0 ≡ false) × (eqb (c .bitCount) 32 || eqb (c .bitCount) 64 ≡ true)
   width-passes h = ⊎-elim (λ e. rw e (refl, refl)) (λ e. rw e (refl, refl)) h
 
-  passes : (k : Kind) → kindOf (c .dataType) ≡ k → isNumber k ≡ true → variableLength c ≡ false → Legal k c → isFixedNumber c ≡ true
+  passes : (k : Kind) → kindOf (c .dataType) ≡ k → isNumber k ≡ true → variableLength c ≡ false → Legal k c → isSoundNumber c ≡ true
   passes integer e n f (some, few, low) =
       let nonzero : c .bitCount ≡ 0 → ⊥ = λ z. omega arith in
       by-tests c e n f (ne-eqb _ _ nonzero) (le-leb _ _ low) (le-ltb _ _ few) refl
@@ -49,22 +48,22 @@ module _ (c : Channel) where
 
   -- ---- exactly the fixed numbers
 
-  pub fixed-number : isFixedNumber c ≡ true → FixedNumber c
+  pub fixed-number : isSoundNumber c ≡ true → FixedNumber c
   fixed-number e =
       let (n, f, z, l, w, x) = each-passed c e in
       record { number = n; in-record = f; legal = legal-by (kindOf (c .dataType)) n z (leb-true _ _ l) w x }
 
-  pub number-fixed : FixedNumber c → isFixedNumber c ≡ true
+  pub number-fixed : FixedNumber c → isSoundNumber c ≡ true
   number-fixed f = passes (kindOf (c .dataType)) refl (f .number) (f .in-record) (f .legal)
 
   -- ---- which decode
 
   module _ (s : List ℕ) (idSize : ℕ) where
-    pub fixed-decodes : isFixedNumber c ≡ true → idSize + c .byteOffset + bitSpan c ≤ length s → (v : Value) × (valueOf s idSize c ≡ answer v)
+    pub fixed-decodes : isSoundNumber c ≡ true → idSize + c .byteOffset + bitSpan c ≤ length s → (v : Value) × (valueOf s idSize c ≡ answer v)
     fixed-decodes e long =
         let f = fixed-number e in
         value-exactly s idSize c .answers
         (record { legal = f .legal; inside = rw (f .in-record, number-span (kindOf (c .dataType)) false (length s) c (f .number)) long })
 
-    pub decodes-fixed : isNumber (kindOf (c .dataType)) ≡ true → variableLength c ≡ false → (v : Value) → valueOf s idSize c ≡ answer v → isFixedNumber c ≡ true
+    pub decodes-fixed : isNumber (kindOf (c .dataType)) ≡ true → variableLength c ≡ false → (v : Value) → valueOf s idSize c ≡ answer v → isSoundNumber c ≡ true
     decodes-fixed number in-record v e = number-fixed (record { number = number; in-record = in-record; legal = value-exactly s idSize c .only v e .legal })

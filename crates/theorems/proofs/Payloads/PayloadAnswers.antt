@@ -73,9 +73,9 @@ module _ (f s : List ℕ) (idSize : ℕ) (c : Channel) where
 
 -- ---- the call
 
-module _ (f : List ℕ) (start k size idSize dataBytes : ℕ) (c : Channel) (out room : List ℕ) where
+module _ (f : List ℕ) (start k size : ℕ) (g : Group) (c : Channel) (out room : List ℕ) where
   -- from an answer
-  module _ (a : PayloadValue) (r : Answered f start k size idSize dataBytes c out room a) where
+  module _ (a : PayloadValue) (r : Answered f start k size g c out room a) where
     abbrev at : ℕ
     at = u64At (recordBytes f start k size out (r .fetchable)) (idSize + c .byteOffset)
 
@@ -136,15 +136,15 @@ module _ (f : List ℕ) (start k size idSize dataBytes : ℕ) (c : Channel) (out
 
     -- what is answered
     abbrev judged : PayloadValue
-    judged = record { value = value; valid = validOf (recordBytes f start k size out (q .fetchable)) idSize dataBytes c; size = length payload }
+    judged = record { value = value; valid = validOf (recordBytes f start k size out (q .fetchable)) g c; size = length payload }
 
-    replied : payloadFetched f start k size idSize dataBytes c out room .reply ≡ answer judged
+    replied : payloadFetched f start k size g c out room .reply ≡ answer judged
     unfolding payloadValueOf
     replied =
         let told = told-found f (recordBytes f start k size out (q .fetchable)) idSize c payload found in
         let fits : length payload ≤ length room = omega (arith, long, q .fits) in
-        ap (λ (o : Outcomes PayloadValue). o .reply) (by-record f start k size idSize dataBytes c out room (q .positioned) (q .fetchable))
+        ap (λ (o : Outcomes PayloadValue). o .reply) (by-record f start k size g c out room (q .positioned) (q .fetchable))
         ∙ rw (told, le-ltb _ _ fits, value-is)
 
-  pub payload-exactly : Exactly (PayloadFetchable f start k size idSize c out room) (payloadFetched f start k size idSize dataBytes c out room .reply)
-  payload-exactly = record { answers = λ q. (judged q, replied q); only = λ a e. of-answer a (payload-answered f start k size idSize dataBytes c out room a e) }
+  pub payload-exactly : Exactly (PayloadFetchable f start k size idSize c out room) (payloadFetched f start k size g c out room .reply)
+  payload-exactly = record { answers = λ q. (judged q, replied q); only = λ a e. of-answer a (payload-answered f start k size g c out room a e) }

@@ -28,7 +28,7 @@ recordIn j k size out =
     if badSize size (length out) then record { reply = refusal 15 0; buffer = out } else recordOf j k size out
 
 abbrev pub valueIn : List ℕ → ℕ → ℕ → ℕ → ℕ → Channel → List ℕ → Outcome ValidValue
-valueIn j k size idSize dataBytes c out = fieldOf size idSize dataBytes c (recordIn j k size out)
+valueIn j k size g c out = fieldOf size g c (recordIn j k size out)
 
 module _ (f : List ℕ) (start : ℕ) (j : List ℕ) (h : Joins f start j) where
   -- every answer is the one on the joined bytes
@@ -43,17 +43,17 @@ module _ (f : List ℕ) (start : ℕ) (j : List ℕ) (h : Joins f start j) where
       let n : total (h .blocks) ≡ length j = sym (joined-length f (h .blocks) (chain-stands idDT f start (h .blocks) e .inside)) ∙ ap length (h .same) in
       rw (le-ltb _ _ (h .short), e, n)
 
-  pub value-of-joined : (k size idSize dataBytes : ℕ) (c : Channel) (out : List ℕ)
-      → valueFetched f start k size idSize dataBytes c out ≡ valueIn j k size idSize dataBytes c out
+  pub value-of-joined : (k size : ℕ) (g : Group) (c : Channel) (out : List ℕ)
+      → valueFetched f start k size g c out ≡ valueIn j k size g c out
   unfolding valueFetched
-  value-of-joined k size idSize dataBytes c out = ap (fieldOf size idSize dataBytes c) (record-of-joined k size out)
+  value-of-joined k size g c out = ap (fieldOf size g c) (record-of-joined k size out)
 
 -- so two such files are not told apart
 module _ (f g : List ℕ) (a b : ℕ) (j : List ℕ) (h : Joins f a j) (i : Joins g b j) where
   pub same-record : (k size : ℕ) (out : List ℕ) → fetched f a k size out ≡ fetched g b k size out
   same-record k size out = record-of-joined f a j h k size out ∙ sym (record-of-joined g b j i k size out)
 
-  pub same-value : (k size idSize dataBytes : ℕ) (c : Channel) (out : List ℕ)
-      → valueFetched f a k size idSize dataBytes c out ≡ valueFetched g b k size idSize dataBytes c out
-  same-value k size idSize dataBytes c out =
-      value-of-joined f a j h k size idSize dataBytes c out ∙ sym (value-of-joined g b j i k size idSize dataBytes c out)
+  pub same-value : (k size : ℕ) (g : Group) (c : Channel) (out : List ℕ)
+      → valueFetched f a k size g c out ≡ valueFetched g b k size g c out
+  same-value k size g c out =
+      value-of-joined f a j h k size g c out ∙ sym (value-of-joined g b j i k size g c out)

@@ -93,19 +93,19 @@ module _ (κs : Lfts 2) (j : List ℕ) (number size : ℕ) where
       (λ y z after later e. (ap (λ (l : Returned Mf4DoneReply). l .result) e, ap (λ (l : Returned Mf4DoneReply). l .buffer) e))
       mf4-read-record-of-joined
 
-module _ (κs : Lfts 2) (j : List ℕ) (number size idSize dataBytes : ℕ) where
+module _ (κs : Lfts 2) (j : List ℕ) (number size : ℕ) (g : Group) where
   -- ---- read_value
 
   module _ (channel : Channel) where
     abbrev pub ValueSays : Slice → FileAddress → Slice → ValidValueRead → List ℕ → Type 0
-    ValueSays file start buffer = ReadsRecordValue κs file start number size idSize dataBytes channel buffer
+    ValueSays file start buffer = ReadsRecordValue κs file start number size g channel buffer
 
     abbrev valueGiven : List ℕ → Outcome ValidValue
-    valueGiven = valueIn j number size idSize dataBytes (channelMeant channel)
+    valueGiven = valueIn j number size g (channelMeant channel)
 
     pub read-value-of-joined : OfJoined (λ (s : FileAddress). s .0) j ValueSays valueFetchedBy valueGiven
     read-value-of-joined file start buffer y after h p =
-        p ∙ value-of-joined (file .now) (start .0) j h number size idSize dataBytes (channelMeant channel) (buffer .now)
+        p ∙ value-of-joined (file .now) (start .0) j h number size g (channelMeant channel) (buffer .now)
 
     pub read-value-alike : Alike (λ (s : FileAddress). s .0) j ValueSays valueFetchedBy valueGiven
     read-value-alike =
@@ -117,14 +117,14 @@ module _ (κs : Lfts 2) (j : List ℕ) (number size idSize dataBytes : ℕ) wher
 
   module _ (channel : Mf4Channel) where
     abbrev pub ValueSaysC : Slice → ℕ → Slice → Mf4ValidValueReply → List ℕ → Type 0
-    ValueSaysC file start buffer = ReadsRecordValueC κs file start number size idSize dataBytes channel buffer
+    ValueSaysC file start buffer = ReadsRecordValueC κs file start number size g channel buffer
 
     abbrev valueGivenC : List ℕ → Returned Mf4ValidValueReply
-    valueGivenC out = returnedBy validValueC (valueIn j number size idSize dataBytes (channelGiven channel) out)
+    valueGivenC out = returnedBy validValueC (valueIn j number size g (channelGiven channel) out)
 
     pub mf4-record-value-of-joined : OfJoined (λ s. s) j ValueSaysC returned valueGivenC
     mf4-record-value-of-joined file start buffer y after h p =
-        p ∙ ap (returnedBy validValueC) (value-of-joined (file .now) start j h number size idSize dataBytes (channelGiven channel) (buffer .now))
+        p ∙ ap (returnedBy validValueC) (value-of-joined (file .now) start j h number size g (channelGiven channel) (buffer .now))
 
     pub mf4-record-value-alike : Alike (λ s. s) j ValueSaysC returned valueGivenC
     mf4-record-value-alike =

@@ -6,8 +6,8 @@ use Prim.Native.Nat.{ℕ, _+_, _*_}
 use contract.Lifetimes.{Lfts}
 use Rattle.definitions.specs.Reply.{Outcome, answer}
 use Rattle.definitions.specs.DataType.{kindOf, orderOf}
-use Rattle.definitions.specs.Channel.{variableLength, startOf, numberIn, isNumber, isFloating, valueOf, doubleIn, recordDouble, validOf}
-use Rattle.definitions.specs.Overlap.{bitPlace, shareABit}
+use Rattle.definitions.specs.Channel.{variableLength, startOf, numberIn, isNumber, isFloating, valueOf, doubleIn, recordDouble, validOf, bitPlace}
+use Rattle.definitions.specs.Overlap.{shareABit}
 use Rattle.definitions.specs.WrittenValue.{valueWritten}
 use Rattle.definitions.proofs.Shared.{Within}
 use Rattle.words.proofs.Numbers.{Bytes}
@@ -67,9 +67,9 @@ module _ (κs : Lfts 1) (idSize : ℕ) (channel : Channel) (given : NumberGiven)
 
       -- and a channel, this one or another, its validity, where the field has not its invalidation bit
       pub write-keeps-validity : (dataBytes : ℕ) (d : Channel) → ((k : ℕ) → Within (channelMeant channel) k → bitPlace (channelMeant channel) k ≡ dataBytes * 8 + channelMeant d .invalidationBit → ⊥)
-          → (ρs σs : Lfts 1) (written : Slice) (z w : Bool) → written .now ≡ after → ChecksValidity ρs bytes idSize dataBytes d z → ChecksValidity σs written idSize dataBytes d w → w ≡ z
+          → (ρs σs : Lfts 1) (written : Slice) (z w : Bool) → written .now ≡ after → ChecksValidity ρs bytes g d z → ChecksValidity σs written g d w → w ≡ z
       write-keeps-validity dataBytes d far ρs σs written z w same q r =
-          r ∙ ap (λ (t : List ℕ). validOf t idSize dataBytes (channelMeant d)) same ∙ value-write-keeps .validity dataBytes (channelMeant d) far ∙ sym q
+          r ∙ ap (λ (t : List ℕ). validOf t g (channelMeant d)) same ∙ value-write-keeps .validity dataBytes (channelMeant d) far ∙ sym q
 
       module _ (done : y ≡ Done) where
         decodes : DecodesTo after idSize (channelMeant channel) (givenMeant given)

@@ -11,9 +11,9 @@ use borrow.Author.Tests.{ltb-false, eqb-true}
 use Rattle.definitions.specs.Reply.{Outcome, answer, refusal, if_then_else_}
 use Rattle.definitions.specs.Bytes.{twosComplement}
 use Rattle.definitions.specs.DataType.{DataType, unsignedInteger, signedInteger, float, complex, string, byteArray, mimeSample, mimeStream, canOpenDate, canOpenTime, unknown, kindOf, orderOf}
-use Rattle.definitions.specs.Channel.{variableLength, startOf, numberIn, isNumber, isFloating, valueOf, doubleIn, recordDouble, validOf}
+use Rattle.definitions.specs.Channel.{variableLength, startOf, numberIn, isNumber, isFloating, valueOf, doubleIn, recordDouble, validOf, bitPlace}
 use Rattle.definitions.specs.WrittenValue.{givenUnsigned, givenSigned, givenDouble, givenOther, valueWritten}
-use Rattle.definitions.specs.Overlap.{bitPlace, shareABit}
+use Rattle.definitions.specs.Overlap.{shareABit}
 use Rattle.definitions.proofs.Shared.{Within}
 use Rattle.words.proofs.Numbers.{Bytes}
 use Rattle.doubles.proofs.Narrowed.{ComesBack}
@@ -151,9 +151,9 @@ module _ (κs : Lfts 1) (idSize : ℕ) (channel : Mf4Channel) (value : Mf4Number
 
       -- and a channel, this one or another, its validity, where the field has not its invalidation bit
       pub write-keeps-validity : (dataBytes : ℕ) (d : Mf4Channel) → ((k : ℕ) → Within (channelGiven channel) k → bitPlace (channelGiven channel) k ≡ dataBytes * 8 + channelGiven d .invalidationBit → ⊥)
-          → (ρs σs : Lfts 1) (written : Slice) (z w : ℕ) → written .now ≡ after → ChecksValidityC ρs bytes idSize dataBytes d z → ChecksValidityC σs written idSize dataBytes d w → w ≡ z
+          → (ρs σs : Lfts 1) (written : Slice) (z w : ℕ) → written .now ≡ after → ChecksValidityC ρs bytes g d z → ChecksValidityC σs written g d w → w ≡ z
       write-keeps-validity dataBytes d far ρs σs written z w same q r =
-          r ∙ ap (λ (t : List ℕ). flagC (validOf t idSize dataBytes (channelGiven d))) same ∙ ap flagC (value-write-keeps .validity dataBytes (channelGiven d) far) ∙ sym q
+          r ∙ ap (λ (t : List ℕ). flagC (validOf t g (channelGiven d))) same ∙ ap flagC (value-write-keeps .validity dataBytes (channelGiven d) far) ∙ sym q
 
       module _ (done : y .reply ≡ 0) where
         decodes : DecodesTo after idSize (channelGiven channel) (numberGiven value)
