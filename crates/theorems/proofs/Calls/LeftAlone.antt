@@ -16,7 +16,7 @@ use Rattle.definitions.specs.Unicode.{Encoding, TextWritten, textOf, writtenTex
 use Rattle.definitions.specs.Header.{Header, headerBytes, headerWritten}
 use Rattle.definitions.specs.DataList.{Lengths, listBytes, listSize, flagsFor, restFor, unwritable, listWritten}
 use Rattle.definitions.specs.ChannelBlock.{ChannelBlock, channelBytes, channelWritten}
-use Rattle.definitions.specs.Channel.{Channel}
+use Rattle.definitions.specs.Channel.{Channel, Group}
 use Rattle.definitions.specs.Chain.{Block, idDT, fileLimit, joined, chainOf, badSize, recordOf, fetched, valueFetched}
 use Rattle.definitions.proofs.Replies.{not-answered}
 use Rattle.words.proofs.Spans.{length-span}
