@@ -8,13 +8,13 @@ static lent lend_numbers(enum role role, const uint64_t *numbers, size_t count)
     return count == 0 ? no_bytes() : lend_copy(role, numbers, 8 * count);
 }
 
-static mf4_written write_equal(lent out, const uint64_t *links, size_t count)
+static mf4_written_reply write_equal(lent out, const uint64_t *links, size_t count)
 {
     lent lent_links = lend_numbers(LINKS, links, count);
     return mf4_write_list_equal(9, numbers_of(lent_links), count, 10, out.bytes, out.length);
 }
 
-static mf4_written write_variable(lent out, const uint64_t *links, size_t count, const uint64_t *offsets,
+static mf4_written_reply write_variable(lent out, const uint64_t *links, size_t count, const uint64_t *offsets,
                                   size_t offset_count)
 {
     lent lent_links = lend_numbers(LINKS, links, count), lent_offsets = lend_numbers(OFFSETS, offsets, offset_count);

@@ -3,25 +3,26 @@
 
 #include "list_bytes.h"
 
-static int list_refused(mf4_list a, uint32_t reply, uint64_t told)
+static int list_refused(mf4_list_reply a, uint32_t reply, uint64_t told)
 {
-    return a.reply == reply && a.told == told && is_header(a.header, 0, 0, 0, 0) && a.next == 0 && a.links_at == 0
-        && a.links == 0 && a.flags == 0 && a.reserved1 == 0 && a.data_block_nr == 0 && a.rest_at == 0 && a.rest == 0;
+    return a.reply == reply && a.told == told && is_header(a.header, 0, 0, 0, 0) && a.next_addr == 0 && a.data_links_at == 0
+        && a.data_link_count == 0 && a.flags == 0 && a.reserved1 == 0 && a.data_block_count == 0 && a.rest_at == 0
+        && a.rest_count == 0;
 }
 
-static int list_is(mf4_list a, uint64_t links, uint8_t flags, uint32_t count, uint64_t rest_at, uint64_t rest)
+static int list_is(mf4_list_reply a, uint64_t links, uint8_t flags, uint32_t count, uint64_t rest_at, uint64_t rest)
 {
-    return a.reply == 0 && a.told == 0 && a.links_at == 32 && a.links == links && a.flags == flags
-        && a.data_block_nr == count && a.rest_at == rest_at && a.rest == rest;
+    return a.reply == 0 && a.told == 0 && a.data_links_at == 32 && a.data_link_count == links && a.flags == flags
+        && a.data_block_count == count && a.rest_at == rest_at && a.rest_count == rest;
 }
 
-static mf4_list read_list(const char *text)
+static mf4_list_reply read_list(const char *text)
 {
     lent input = hex(text);
     return mf4_read_list(input.bytes, input.length);
 }
 
-static mf4_list read_first(const char *text, size_t count)
+static mf4_list_reply read_first(const char *text, size_t count)
 {
     lent input = first_of(text, count);
     return mf4_read_list(input.bytes, input.length);
@@ -29,11 +30,11 @@ static mf4_list read_first(const char *text, size_t count)
 
 static void check_list_of_one_link(void)
 {
-    mf4_list answer;
+    mf4_list_reply answer;
     name_case("read a list of one link");
     answer = read_list(DL LEN("28") LINKS_NR("01") "88 77 66 55 44 33 22 11 " ZERO8);
     CHECK(list_is(answer, 0, 0, 0, 40, 0));
-    CHECK(is_header(answer.header, MF4_ID_DL, 0, 40, 1) && answer.next == UINT64_C(0x1122334455667788));
+    CHECK(is_header(answer.header, MF4_ID_DL, 0, 40, 1) && answer.next_addr == UINT64_C(0x1122334455667788));
     CHECK(list_refused(read_list(DL LEN("28") LINKS_NR("01") ZERO8 "01 00 00 00 00 00 00 00"), 2, 48));
     CHECK(list_refused(read_list(DL LEN("28") LINKS_NR("01") ZERO8 LEN("01") "00 00 00 00 00 00 00"), 2, 48));
     CHECK(list_is(read_list(DL LEN("28") LINKS_NR("01") ZERO8 "01 00 00 00 00 00 00 00 " ZERO8), 0, 1, 0, 40, 1));

@@ -19,7 +19,7 @@ typedef struct payload_query {
 
 /* What is due: the answer, and what is written into the front of each buffer. */
 typedef struct payload_due {
-    mf4_payload answer;
+    mf4_payload_reply answer;
     uint8_t record[MOST_ROOM], payload[MOST_ROOM];
     size_t record_written, payload_written;
 } payload_due;
@@ -39,7 +39,7 @@ static int holds_position(mf4_channel channel)
 
 static int take_record(payload_query asked, payload_due *due)
 {
-    mf4_fetched fetched;
+    mf4_done_reply fetched;
     if (!holds_position(asked.how.channel))
         return refuse(due, MF4_NO_POSITION, 0);
     fetched = mf4_read_record(asked.file.bytes, asked.file.length, asked.start, asked.number, asked.record_size, due->record,
@@ -84,7 +84,7 @@ static int take_payload(payload_query asked, payload_due *due, uint64_t position
 static void take_value(payload_query asked, payload_due *due)
 {
     const reading how = asked.how;
-    const mf4_value value = mf4_decode_value(due->payload, due->payload_written, how.id_size, how.channel);
+    const mf4_value_reply value = mf4_decode_value(due->payload, due->payload_written, how.id_size, how.channel);
     refuse(due, value.reply, value.told);
     due->answer.kind = value.kind;
     due->answer.number = value.number;
@@ -105,14 +105,14 @@ static void work_out(payload_query asked, payload_due *due)
         take_value(asked, due);
 }
 
-static mf4_payload record_payload(payload_query asked, size_t file_length, lent record, lent payload)
+static mf4_payload_reply record_payload(payload_query asked, size_t file_length, lent record, lent payload)
 {
     return mf4_record_payload(asked.file.bytes, file_length, asked.start, asked.number, asked.record_size, asked.how.id_size,
                               asked.how.data_bytes, asked.how.channel, record.bytes, record.length, payload.bytes,
                               payload.length);
 }
 
-static int same_payload(mf4_payload a, mf4_payload b)
+static int same_payload(mf4_payload_reply a, mf4_payload_reply b)
 {
     return a.reply == b.reply && a.kind == b.kind && a.told == b.told && a.number == b.number && a.at == b.at
         && a.length == b.length && a.payload_length == b.payload_length && a.is_valid == b.is_valid;
@@ -124,7 +124,7 @@ static int holds_only(lent buffer, const uint8_t *written, size_t count)
 }
 
 /* Beside the reply the kind counts, and whether a chain is refused in front of the record or behind it. */
-static void note_payload(mf4_payload answer, int is_fetched)
+static void note_payload(mf4_payload_reply answer, int is_fetched)
 {
     note(RECORD_PAYLOAD, 55 + answer.kind);
     if (is_fetched && answer.reply <= MF4_UNTRUE_DECLARATION)
@@ -134,7 +134,7 @@ static void note_payload(mf4_payload answer, int is_fetched)
 static void exercise_answer(payload_query asked, lent record, lent payload)
 {
     static payload_due due;
-    mf4_payload answer = record_payload(asked, asked.file.length, record, payload);
+    mf4_payload_reply answer = record_payload(asked, asked.file.length, record, payload);
     check_reply(RECORD_PAYLOAD, answer.reply, answer.told, PAYLOAD_REPLIES);
     work_out(asked, &due);
     note_payload(answer, due.record_written > 0);
@@ -154,7 +154,7 @@ static uint32_t reply_of_long_file(payload_query asked)
 
 static void exercise_long_file(payload_query asked, lent record, lent payload)
 {
-    mf4_payload expected;
+    mf4_payload_reply expected;
     memset(&expected, 0, sizeof expected);
     expected.reply = reply_of_long_file(asked);
     MUST(same_payload(record_payload(asked, (size_t)MF4_MAX_FILE_SIZE + 1, record, payload), expected));

@@ -4,7 +4,7 @@
 /* A list of a chain, and what it declares for the whole of it. */
 typedef struct slow_list {
     const uint8_t *bytes;
-    mf4_list read;
+    mf4_list_reply read;
     int is_one_length;
     uint64_t one_length;
 } slow_list;
@@ -21,9 +21,9 @@ static int has_header(lent file, uint64_t address)
     return address != 0 && file.length >= MF4_HEADER_SIZE && address <= file.length - MF4_HEADER_SIZE;
 }
 
-static int agrees(mf4_list read)
+static int agrees(mf4_list_reply read)
 {
-    return read.data_block_nr == read.links && read.header.block_len >= read.rest_at + 8 * read.rest;
+    return read.data_block_count == read.links && read.header.block_len >= read.rest_at + 8 * read.rest;
 }
 
 static int take_list(lent file, uint64_t address, slow_chain *chain, slow_list *list)
@@ -70,7 +70,7 @@ static int is_true(const slow_list *list, uint64_t index, uint64_t before, uint6
 
 static int take_fragment(lent file, const slow_list *list, uint64_t index, uint32_t data_id, slow_chain *chain)
 {
-    const uint64_t address = little(list->bytes + list->read.links_at + 8 * index, 8);
+    const uint64_t address = little(list->bytes + list->read.data_links_at + 8 * index, 8);
     uint64_t size;
     if (!has_header(file, address))
         return refuse(chain, MF4_NO_BLOCK_THERE, 0);

@@ -248,13 +248,13 @@ static slice *next_numbers(void)
 static const uint64_t *numbers_of(const slice *numbers) { return (const uint64_t *)(const void *)numbers->bytes; }
 static size_t count_of_numbers(const slice *numbers) { return numbers->length / sizeof(uint64_t); }
 
-static mf4_block_header next_header(void)
+static mf4_header next_header(void)
 {
-    mf4_block_header header;
+    mf4_header header;
     header.id = next_u32();
     header.reserved0 = next_u32();
     header.block_len = next_u64();
-    header.links_nr = next_u64();
+    header.link_count = next_u64();
     return header;
 }
 
@@ -341,12 +341,12 @@ static mf4_channel_block next_channel_block(void)
     block.unit_addr = next_u64();
     block.comment_addr = next_u64();
     block.more_links_at = next_u64();
-    block.more_links = next_u64();
+    block.more_link_count = next_u64();
     block.channel = next_channel();
     block.sync_type = next_u8();
     block.precision = next_u8();
     block.reserved1 = next_u8();
-    block.attachment_nr = next_u16();
+    block.attachment_count = next_u16();
     block.min_raw_value = next_u64();
     block.max_raw_value = next_u64();
     block.lower_limit = next_u64();
@@ -372,12 +372,12 @@ static void print_reply(uint32_t reply, uint64_t told)
     print_number("told", told);
 }
 
-static void print_header(mf4_block_header header)
+static void print_header(mf4_header header)
 {
     print_number("id", header.id);
     print_number("reserved0", header.reserved0);
     print_number("block_len", header.block_len);
-    print_number("links_nr", header.links_nr);
+    print_number("links_nr", header.link_count);
 }
 
 static void print_channel(mf4_channel channel)
@@ -403,12 +403,12 @@ static void print_channel_block(mf4_channel_block block)
     print_number("unit_addr", block.unit_addr);
     print_number("comment_addr", block.comment_addr);
     print_number("more_links_at", block.more_links_at);
-    print_number("more_links", block.more_links);
+    print_number("more_links", block.more_link_count);
     print_channel(block.channel);
     print_number("sync_type", block.sync_type);
     print_number("precision", block.precision);
     print_number("reserved1", block.reserved1);
-    print_number("attachment_nr", block.attachment_nr);
+    print_number("attachment_nr", block.attachment_count);
     print_number("min_raw_value", block.min_raw_value);
     print_number("max_raw_value", block.max_raw_value);
     print_number("lower_limit", block.lower_limit);
@@ -428,14 +428,14 @@ static void print_out(const slice *out)
     }
 }
 
-static void print_written(mf4_written written, const slice *out)
+static void print_written(mf4_written_reply written, const slice *out)
 {
     print_reply(written.reply, written.told);
     print_number("count", written.count);
     print_out(out);
 }
 
-static void print_value(mf4_value answer)
+static void print_value(mf4_value_reply answer)
 {
     print_number("reply", answer.reply);
     print_number("kind", answer.kind);
@@ -445,22 +445,22 @@ static void print_value(mf4_value answer)
     print_number("length", answer.length);
 }
 
-static void print_valid_value(mf4_valid_value answer)
+static void print_valid_value(mf4_valid_value_reply answer)
 {
-    mf4_value value = { answer.reply, answer.kind, answer.told, answer.number, answer.at, answer.length };
+    mf4_value_reply value = { answer.reply, answer.kind, answer.told, answer.number, answer.at, answer.length };
     print_value(value);
     print_number("is_valid", answer.is_valid);
 }
 
-static void print_payload(mf4_payload answer)
+static void print_payload(mf4_payload_reply answer)
 {
-    mf4_value value = { answer.reply, answer.kind, answer.told, answer.number, answer.at, answer.length };
+    mf4_value_reply value = { answer.reply, answer.kind, answer.told, answer.number, answer.at, answer.length };
     print_value(value);
     print_number("payload_length", answer.payload_length);
     print_number("is_valid", answer.is_valid);
 }
 
-static void print_text(mf4_text answer, const slice *out)
+static void print_text(mf4_text_reply answer, const slice *out)
 {
     print_reply(answer.reply, answer.told);
     print_number("count", answer.count);
@@ -473,7 +473,7 @@ static void print_text(mf4_text answer, const slice *out)
 static void read_header(void)
 {
     slice *bytes = next_input();
-    mf4_header answer;
+    mf4_header_reply answer;
     if (is_malformed)
         return;
     answer = mf4_read_header(bytes->bytes, bytes->length);
@@ -483,7 +483,7 @@ static void read_header(void)
 
 static void write_header(void)
 {
-    mf4_block_header header = next_header();
+    mf4_header header = next_header();
     slice *out = next_output();
     if (is_malformed)
         return;
@@ -509,18 +509,18 @@ static void default_bits(void)
 static void read_list(void)
 {
     slice *bytes = next_input();
-    mf4_list answer;
+    mf4_list_reply answer;
     if (is_malformed)
         return;
     answer = mf4_read_list(bytes->bytes, bytes->length);
     print_reply(answer.reply, answer.told);
     print_header(answer.header);
     print_number("next", answer.next);
-    print_number("links_at", answer.links_at);
+    print_number("links_at", answer.data_links_at);
     print_number("links", answer.links);
     print_number("flags", answer.flags);
     print_number("reserved1", answer.reserved1);
-    print_number("data_block_nr", answer.data_block_nr);
+    print_number("data_block_nr", answer.data_block_count);
     print_number("rest_at", answer.rest_at);
     print_number("rest", answer.rest);
 }
@@ -609,7 +609,7 @@ static void decode_double(void)
     mf4_channel channel = next_channel();
     if (is_malformed)
         return;
-    print_number("answer", mf4_decode_double(record->bytes, record->length, record_id_size, channel));
+    print_number("answer", mf4_decode_double_bits(record->bytes, record->length, record_id_size, channel));
 }
 
 static void write_value(void)
@@ -618,7 +618,7 @@ static void write_value(void)
     mf4_channel channel = next_channel();
     mf4_number value = next_number_given();
     slice *record = next_output();
-    mf4_stored answer;
+    mf4_done_reply answer;
     if (is_malformed)
         return;
     answer = mf4_write_value(record_id_size, channel, value, record->bytes, record->length);
@@ -630,7 +630,7 @@ static void first_overlap(void)
 {
     slice *list = next_channels();
     const mf4_channel *channels = (const mf4_channel *)(const void *)list->bytes;
-    mf4_overlap answer;
+    mf4_overlap_reply answer;
     if (is_malformed)
         return;
     answer = mf4_first_overlap(channels, list->length / sizeof(mf4_channel));
@@ -640,7 +640,7 @@ static void first_overlap(void)
     print_number("second", answer.second);
 }
 
-static void text(mf4_text (*call)(const uint8_t *, size_t, uint8_t *, size_t))
+static void text(mf4_text_reply (*call)(const uint8_t *, size_t, uint8_t *, size_t))
 {
     slice *bytes = next_input();
     slice *out = next_output();
@@ -676,7 +676,7 @@ static void data_length(void)
 {
     slice *file = next_input();
     uint64_t start = next_u64();
-    mf4_length answer;
+    mf4_length_reply answer;
     if (is_malformed)
         return;
     answer = mf4_data_length(file->bytes, file->length, start);
@@ -691,7 +691,7 @@ static void read_record(void)
     uint64_t number = next_u64();
     uint64_t record_size = next_u64();
     slice *buffer = next_output();
-    mf4_fetched answer;
+    mf4_done_reply answer;
     if (is_malformed)
         return;
     answer = mf4_read_record(file->bytes, file->length, start, number, record_size, buffer->bytes, buffer->length);
