@@ -528,14 +528,15 @@ static inline size_t mf4_text_room(size_t bytes_len)
  * each offset is the length of all data before its block. Anything else is MF4_UNTRUE_DECLARATION (13).
  *
  * If the data link is the address of a single ##DT block, the calls refuse with MF4_OTHER_ID (3). Then write a list of that
- * one block behind a copy of the file, where the copy has 56 bytes of room, and start there; it need not be aligned. For a
- * single ##SD block do the same with MF4_ID_SD, and let channel.data_addr be the list's address.
+ * one block behind a copy of the file, where the copy has 56 bytes of room, and start there. The list need not be aligned.
  *
  *     mf4_header_reply h = mf4_read_header(file + address, file_len - address);
- *     if (h.reply == MF4_ANSWER && h.header.id == MF4_ID_DT && h.header.block_len <= file_len - address) {
+ *     if (h.header.id == id && h.header.block_len <= file_len - address) {
  *         start = file_len;
  *         file_len += mf4_write_list_equal(0, &address, 1, h.header.block_len - 24, file + file_len, 56).count;
  *     }
+ *
+ * Here id is MF4_ID_DT; for a single block of payloads it is MF4_ID_SD, and start is then the channel's data_addr.
  */
 
 typedef struct mf4_length_reply {

@@ -53,6 +53,7 @@ void check_damages(void);
 void check_one_length(void);
 void check_long_chains(void);
 void check_long_files(void);
+void check_single_blocks(void);
 void check_payloads(void);
 void check_refused_payloads(void);
 

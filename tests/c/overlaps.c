@@ -1,7 +1,7 @@
 /* The first two descriptions of a list whose fields share a bit: which pair is told, what is refused, how long a list may be. */
 #include "values.h"
 
-enum { MOST_ENTRIES = MF4_MAX_CHANNELS + 44 };
+enum { MOST_ENTRIES = MF4_MAX_CHANNELS + 44, MOST_IN_ROW = 5 };
 
 static int overlap_is(mf4_overlap_reply a, uint32_t reply, uint64_t told, uint8_t found, uint64_t first, uint64_t second)
 {
@@ -16,7 +16,7 @@ static mf4_overlap_reply asked(lent list)
 }
 
 typedef struct overlap_case {
-    mf4_channel list[5];
+    mf4_channel list[MOST_IN_ROW];
     size_t count;
     uint32_t reply;
     uint64_t told;
@@ -107,6 +107,34 @@ static void check_cases(const char *table, const overlap_case *cases, size_t cou
     }
 }
 
+/* The lines of mf4.h. Gives how many of the channels are fixed numbers. */
+static size_t take_numbers(const mf4_channel *channels, size_t channel_count, mf4_channel *numbers)
+{
+    size_t number_count = 0, i;
+    for (i = 0; i < channel_count; i++)
+        if (mf4_first_overlap(&channels[i], 1).reply == MF4_ANSWER)
+            numbers[number_count++] = channels[i];
+    return number_count;
+}
+
+/* With the others left out, the list is answered as one that never had them. */
+static void check_left_out(void)
+{
+    mf4_channel numbers[MOST_IN_ROW];
+    size_t i;
+    for (i = 0; i < COUNT(no_numbers); i++) {
+        const size_t count = take_numbers(no_numbers[i].list, no_numbers[i].count, numbers);
+        name_row("entries that are no fixed numbers, left out", i);
+        CHECK(count < no_numbers[i].count && asked(lend_list(numbers, count)).reply == MF4_ANSWER);
+    }
+    for (i = 0; i < COUNT(pairs); i++) {
+        const overlap_case *a = &pairs[i];
+        name_row("fixed numbers, none left out", i);
+        CHECK(take_numbers(a->list, a->count, numbers) == a->count);
+        CHECK(overlap_is(asked(lend_list(numbers, a->count)), a->reply, a->told, a->found, a->first, a->second));
+    }
+}
+
 /* Single bits, one behind the other. */
 static void fill_side_by_side(mf4_channel *list, size_t count)
 {
@@ -174,6 +202,7 @@ void check_overlaps(void)
 {
     check_cases("fields that overlap", pairs, COUNT(pairs));
     check_cases("entries that are no fixed numbers", no_numbers, COUNT(no_numbers));
+    check_left_out();
     check_empty_lists();
     check_lengths();
     check_full_list();
