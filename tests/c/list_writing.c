@@ -54,12 +54,12 @@ static void check_write_no_links(void)
     name_case("write a list of no data links");
     out = lend_marked(OUTPUT, 48);
     CHECK(written_is(write_equal(out, NULL, 0), 48));
-    CHECK(holds_only_hex(out, DL LEN("30") LINKS_NR("01") LEN("09") "01 00 00 00 00 00 00 00 " LEN("0A")));
+    CHECK(holds_only_hex(out, DL LEN("30") LINK_COUNT("01") LEN("09") "01 00 00 00 00 00 00 00 " LEN("0A")));
     out = lend_marked(OUTPUT, 47);
     CHECK(write_refused(write_equal(out, NULL, 0), 6, 48) && is_unchanged(out));
     out = lend_marked(OUTPUT, 41);
     CHECK(written_is(write_variable(out, NULL, 0, NULL, 0), 40));
-    CHECK(holds_only_hex(out, DL LEN("28") LINKS_NR("01") LEN("09") ZERO8));
+    CHECK(holds_only_hex(out, DL LEN("28") LINK_COUNT("01") LEN("09") ZERO8));
     out = lend_marked(OUTPUT, 39);
     CHECK(write_refused(write_variable(out, NULL, 0, NULL, 0), 6, 40) && is_unchanged(out));
 }

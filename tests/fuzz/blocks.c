@@ -10,9 +10,10 @@ static int same_block_header(mf4_header a, mf4_header b)
 
 static int same_list(mf4_list_reply a, mf4_list_reply b)
 {
-    return a.reply == b.reply && a.told == b.told && same_block_header(a.header, b.header) && a.next == b.next
-        && a.data_links_at == b.data_links_at && a.links == b.links && a.flags == b.flags && a.reserved1 == b.reserved1
-        && a.data_block_count == b.data_block_count && a.rest_at == b.rest_at && a.rest == b.rest;
+    return a.reply == b.reply && a.told == b.told && same_block_header(a.header, b.header) && a.next_addr == b.next_addr
+        && a.data_links_at == b.data_links_at && a.data_link_count == b.data_link_count && a.flags == b.flags
+        && a.reserved1 == b.reserved1 && a.data_block_count == b.data_block_count && a.rest_at == b.rest_at
+        && a.rest_count == b.rest_count;
 }
 
 int same_written(mf4_written_reply a, mf4_written_reply b)
@@ -77,15 +78,15 @@ static mf4_written_reply write_list(list_given a, lent out)
 /* A list that the writer can make must come out of the writer as the bytes that it was read from. */
 static void exercise_rewriting(lent input, mf4_list_reply list)
 {
-    size_t size = (size_t)(list.rest_at + 8 * list.rest);
-    list_given given = { list.flags & MF4_LIST_EQUAL_LENGTH, list.next, 0, no_bytes(), no_bytes() };
+    size_t size = (size_t)(list.rest_at + 8 * list.rest_count);
+    list_given given = { list.flags & MF4_LIST_EQUAL_LENGTH, list.next_addr, 0, no_bytes(), no_bytes() };
     lent out;
     mf4_written_reply answer;
-    if (list.header.reserved0 != 0 || list.reserved1 != 0 || list.flags > 1 || list.links > MF4_MAX_FRAGMENTS
-        || list.data_block_count != list.links || list.header.block_len != size)
+    if (list.header.reserved0 != 0 || list.reserved1 != 0 || list.flags > 1 || list.data_link_count > MF4_MAX_FRAGMENTS
+        || list.data_block_count != list.data_link_count || list.header.block_len != size)
         return;
-    given.links = lend_copy(LINKS, input.bytes + list.data_links_at, (size_t)(8 * list.links));
-    given.offsets = lend_copy(OFFSETS, input.bytes + list.rest_at, (size_t)(8 * list.rest));
+    given.links = lend_copy(LINKS, input.bytes + list.data_links_at, (size_t)(8 * list.data_link_count));
+    given.offsets = lend_copy(OFFSETS, input.bytes + list.rest_at, (size_t)(8 * list.rest_count));
     if (given.equal)
         memcpy(&given.length, given.offsets.bytes, 8);
     out = lend_marked(OUTPUT, size);
@@ -96,10 +97,10 @@ static void exercise_rewriting(lent input, mf4_list_reply list)
 
 static void check_list_answer(lent input, mf4_list_reply answer)
 {
-    MUST(answer.data_links_at == 32 && answer.links == answer.header.link_count - 1);
-    MUST(answer.links <= input.length / 8 && answer.rest_at == 40 + 8 * answer.links);
-    MUST(answer.rest == ((answer.flags & MF4_LIST_EQUAL_LENGTH) ? 1 : answer.data_block_count));
-    MUST(answer.rest_at <= input.length && answer.rest <= (input.length - answer.rest_at) / 8);
+    MUST(answer.data_links_at == 32 && answer.data_link_count == answer.header.link_count - 1);
+    MUST(answer.data_link_count <= input.length / 8 && answer.rest_at == 40 + 8 * answer.data_link_count);
+    MUST(answer.rest_count == ((answer.flags & MF4_LIST_EQUAL_LENGTH) ? 1 : answer.data_block_count));
+    MUST(answer.rest_at <= input.length && answer.rest_count <= (input.length - answer.rest_at) / 8);
 }
 
 void exercise_list(lent input)
@@ -141,14 +142,14 @@ static size_t choose_link_count(void)
 static void check_readback(list_given given, lent out, mf4_written_reply answer)
 {
     mf4_list_reply list = mf4_read_list(out.bytes, (size_t)answer.count);
-    MUST(list.reply == MF4_ANSWER && list.next == given.next && list.links == count_of(given.links));
+    MUST(list.reply == MF4_ANSWER && list.next_addr == given.next && list.data_link_count == count_of(given.links));
     MUST(list.flags == given.equal && list.header.block_len == answer.count);
     MUST(list.data_block_count == count_of(given.links));
     MUST(same_bytes(out.bytes + list.data_links_at, given.links.bytes, given.links.length));
     if (given.equal)
-        MUST(list.rest == 1 && same_bytes(out.bytes + list.rest_at, &given.length, 8));
+        MUST(list.rest_count == 1 && same_bytes(out.bytes + list.rest_at, &given.length, 8));
     else
-        MUST(list.rest == count_of(given.offsets)
+        MUST(list.rest_count == count_of(given.offsets)
              && same_bytes(out.bytes + list.rest_at, given.offsets.bytes, given.offsets.length));
 }
 

@@ -54,8 +54,8 @@ static mf4_done_reply read_record(query asked, size_t file_length, lent buffer)
 
 static mf4_valid_value_reply record_value(query asked, size_t file_length, lent buffer)
 {
-    return mf4_record_value(asked.file.bytes, file_length, asked.start, asked.number, asked.record_size, asked.how.id_size,
-                            asked.how.data_bytes, asked.how.channel, buffer.bytes, buffer.length);
+    return mf4_record_value(asked.file.bytes, file_length, asked.start, asked.number, asked.record_size, asked.how.group,
+                            asked.how.channel, buffer.bytes, buffer.length);
 }
 
 static mf4_done_reply exercise_record(const log_file *log, query asked, mf4_length_reply length, lent buffer)
@@ -81,8 +81,7 @@ static void exercise_record_value(query asked, mf4_done_reply fetched, lent reco
     check_reply(RECORD_VALUE, answer.reply, answer.told, RECORD_REPLIES | FIELD_REFUSALS);
     note(RECORD_VALUE, 32 + answer.kind);
     if (fetched.reply == MF4_ANSWER)
-        expected = mf4_decode_valid_value(record.bytes, (size_t)asked.record_size, asked.how.id_size, asked.how.data_bytes,
-                                          asked.how.channel);
+        expected = mf4_decode_valid_value(record.bytes, (size_t)asked.record_size, asked.how.group, asked.how.channel);
     else
         expected.reply = fetched.reply, expected.told = fetched.told;
     MUST(same_valid_value(answer, expected));

@@ -23,7 +23,7 @@ static mf4_channel description_due(const uint8_t *block, const uint8_t *fields)
     channel.bit_count = (uint32_t)little(fields + 8, 4);
     channel.flags = (uint32_t)little(fields + 12, 4);
     channel.pos_invalidation_bit = (uint32_t)little(fields + 16, 4);
-    channel.data = little(block + 64, 8);
+    channel.data_addr = little(block + 64, 8);
     return channel;
 }
 
@@ -141,7 +141,7 @@ static void exercise_read(lent input, mf4_channel_block block, reading how)
     how.channel = block.channel;
     exercise_value(input, how);
     if (block.channel.data_type > MF4_TYPE_COMPLEX_BE) {
-        mf4_value_reply value = mf4_decode_value(input.bytes, input.length, how.id_size, how.channel);
+        mf4_value_reply value = mf4_decode_value(input.bytes, input.length, how.group.record_id_size, how.channel);
         MUST(value.reply == MF4_ANSWER ? value.kind == MF4_KIND_UNKNOWN : value.reply == MF4_FIELD_OUTSIDE);
     }
     exercise_rewriting(input, block);
@@ -171,7 +171,7 @@ static void put_little(uint8_t *place, uint64_t number)
 }
 
 /* Any number, or one around the largest whose block has a size below 2^64. */
-static uint64_t choose_links_nr(void)
+static uint64_t choose_many_links(void)
 {
     uint8_t how = choose_byte();
     return how % 2 == 0 ? choose_number() : UINT64_MAX / 8 - how / 2 % 16;
@@ -195,7 +195,7 @@ lent choose_channel_block(void)
     memcpy(bytes, "##CN", 4);
     if (how % 8 == 7)
         bytes[choose_byte() % 4] ^= choose_byte();
-    put_little(bytes + 16, how / 8 % 4 == 3 ? choose_links_nr() : links);
+    put_little(bytes + 16, how / 8 % 4 == 3 ? choose_many_links() : links);
     if (how % 8 < 3)
         put_little(bytes + size - 8 * (1 + choose_byte() % 6), choose_no_number());
     if (how / 32 == 7)

@@ -46,10 +46,9 @@ size_t choose_size(size_t most);
 /* Mostly as many bytes as are needed, or one or two more. */
 size_t choose_room(uint64_t needed);
 
-/* How a channel is read in a record: its description, and the sizes beside it. */
+/* How a channel is read in a record. */
 typedef struct reading {
-    uint64_t id_size;
-    uint32_t data_bytes;
+    mf4_group group;
     mf4_channel channel;
 } reading;
 

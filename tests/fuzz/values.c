@@ -25,22 +25,22 @@ static mf4_channel choose_channel(void)
     channel.bit_count = choose_bit_count();
     channel.flags = choose_byte() % 5;
     channel.pos_invalidation_bit = (uint32_t)choose_number();
-    channel.data = choose_byte() % 2;
+    channel.data_addr = choose_byte() % 2;
     return channel;
 }
 
 reading choose_reading(void)
 {
     reading how;
-    how.id_size = choose_below(9);
-    how.data_bytes = (uint32_t)choose_number();
+    how.group.record_id_size = choose_below(9);
+    how.group.data_bytes = (uint32_t)choose_number();
     how.channel = choose_channel();
     return how;
 }
 
 static int is_payload(mf4_channel channel)
 {
-    return channel.channel_type == MF4_CHANNEL_VARIABLE_LENGTH && channel.data != 0;
+    return channel.channel_type == MF4_CHANNEL_VARIABLE_LENGTH && channel.data_addr != 0;
 }
 
 static int is_integer(mf4_channel channel) { return channel.data_type <= MF4_TYPE_SIGNED_BE; }
@@ -93,7 +93,7 @@ static void check_number(mf4_value_reply value, uint64_t field, mf4_channel chan
 
 static uint64_t start_of(reading how)
 {
-    return is_payload(how.channel) ? 0 : sum_of(how.id_size, how.channel.byte_offset);
+    return is_payload(how.channel) ? 0 : sum_of(how.group.record_id_size, how.channel.byte_offset);
 }
 
 /* All of a payload that is no number; the whole bytes of a text or of bytes; else all that the bits reach into. */
@@ -185,7 +185,7 @@ static int same_value(mf4_value_reply a, mf4_value_reply b)
 
 static mf4_value_reply value_in(mf4_valid_value_reply a)
 {
-    mf4_value_reply value = { a.reply, a.kind, a.told, a.number, a.at, a.length };
+    mf4_value_reply value = { a.reply, a.told, a.kind, a.number, a.at, a.length };
     return value;
 }
 
@@ -196,31 +196,42 @@ int same_valid_value(mf4_valid_value_reply a, mf4_valid_value_reply b)
 
 static uint8_t exercise_validity(lent record, reading how)
 {
-    uint8_t is_valid = mf4_check_validity(record.bytes, record.length, how.id_size, how.data_bytes, how.channel);
+    uint8_t is_valid = mf4_check_validity(record.bytes, record.length, how.group, how.channel);
     note(VALIDITY, is_valid + 2u * (how.channel.flags % 4));
     MUST(is_valid <= 1);
-    MUST(is_valid == mf4_check_validity(record.bytes, record.length, how.id_size, how.data_bytes, how.channel));
+    MUST(is_valid == mf4_check_validity(record.bytes, record.length, how.group, how.channel));
     return is_valid;
 }
 
 static void exercise_both(lent record, reading how, mf4_value_reply value, uint8_t is_valid)
 {
-    mf4_valid_value_reply both = mf4_decode_valid_value(record.bytes, record.length, how.id_size, how.data_bytes, how.channel);
+    mf4_valid_value_reply both = mf4_decode_valid_value(record.bytes, record.length, how.group, how.channel);
     check_reply(DECODE_VALID, both.reply, both.told, REPLY(0) | FIELD_REFUSALS);
     MUST(same_value(value_in(both), value));
     MUST(both.is_valid == (both.reply == MF4_ANSWER ? is_valid : 0));
-    MUST(same_valid_value(both, mf4_decode_valid_value(record.bytes, record.length, how.id_size, how.data_bytes,
-                                                       how.channel)));
+    MUST(same_valid_value(both, mf4_decode_valid_value(record.bytes, record.length, how.group, how.channel)));
+}
+
+/* What mf4.h makes of the pattern, and of the validity. */
+static void check_inline_doubles(lent record, reading how, uint64_t bits, uint8_t is_valid)
+{
+    const double plain = mf4_decode_double(record.bytes, record.length, how.group.record_id_size, how.channel);
+    const double valid = mf4_decode_valid_double(record.bytes, record.length, how.group, how.channel);
+    const uint64_t due = bits_of(mf4_bits_as_double(bits));
+    MUST(bits_of(plain) == due);
+    MUST(bits_of(valid) == (is_valid ? due : NAN_BITS));
 }
 
 void exercise_value(lent record, reading how)
 {
-    mf4_value_reply value = mf4_decode_value(record.bytes, record.length, how.id_size, how.channel);
-    uint64_t bits = mf4_decode_double_bits(record.bytes, record.length, how.id_size, how.channel);
+    const uint8_t is_valid = exercise_validity(record, how);
+    mf4_value_reply value = mf4_decode_value(record.bytes, record.length, how.group.record_id_size, how.channel);
+    uint64_t bits = mf4_decode_double_bits(record.bytes, record.length, how.group.record_id_size, how.channel);
     check_value(record, how, value);
-    MUST(same_value(value, mf4_decode_value(record.bytes, record.length, how.id_size, how.channel)));
-    exercise_both(record, how, value, exercise_validity(record, how));
+    MUST(same_value(value, mf4_decode_value(record.bytes, record.length, how.group.record_id_size, how.channel)));
+    exercise_both(record, how, value, is_valid);
     check_double(bits, value, how.channel);
-    MUST(bits == mf4_decode_double_bits(record.bytes, record.length, how.id_size, how.channel));
+    check_inline_doubles(record, how, bits, is_valid);
+    MUST(bits == mf4_decode_double_bits(record.bytes, record.length, how.group.record_id_size, how.channel));
     MUST(is_unchanged(record));
 }

@@ -7,7 +7,7 @@ enum { MOST_ENTRIES = MF4_MAX_CHANNELS + 2, MOST_SPAN = 9 };
 
 static int is_payload(mf4_channel channel)
 {
-    return channel.channel_type == MF4_CHANNEL_VARIABLE_LENGTH && channel.data != 0;
+    return channel.channel_type == MF4_CHANNEL_VARIABLE_LENGTH && channel.data_addr != 0;
 }
 
 static int is_number(mf4_channel channel) { return channel.data_type <= MF4_TYPE_FLOAT_BE; }
@@ -73,7 +73,7 @@ static uint32_t reply_due(mf4_channel channel, mf4_number number)
 /* In front of the field, behind it, and beside it in its own bytes. */
 static void check_kept(lent record, reading how)
 {
-    const size_t at = (size_t)how.id_size + how.channel.byte_offset, span = (size_t)span_of(how.channel);
+    const size_t at = (size_t)how.group.record_id_size + how.channel.byte_offset, span = (size_t)span_of(how.channel);
     uint8_t marks[MOST_SPAN];
     size_t i;
     mark_bits(how.channel, marks);
@@ -84,7 +84,7 @@ static void check_kept(lent record, reading how)
 
 static void check_stored(lent record, reading how, mf4_number number)
 {
-    const mf4_value_reply read = mf4_decode_value(record.bytes, record.length, how.id_size, how.channel);
+    const mf4_value_reply read = mf4_decode_value(record.bytes, record.length, how.group.record_id_size, how.channel);
     MUST(read.reply == MF4_ANSWER && read.kind == number.kind && read.number == number.number);
     check_kept(record, how);
     note(WRITE_VALUE, 32 + how.channel.data_type * 2u + (span_of(how.channel) == MOST_SPAN));
@@ -93,7 +93,7 @@ static void check_stored(lent record, reading how, mf4_number number)
 /* Whether the field was one of the NaNs of 32 bits that are read as another, 0x7FC00000. */
 static int was_another_nan(lent record, reading how)
 {
-    const uint8_t *span = record.before + how.id_size + how.channel.byte_offset;
+    const uint8_t *span = record.before + how.group.record_id_size + how.channel.byte_offset;
     uint64_t field = 0, k;
     if (!is_float(how.channel) || how.channel.bit_count != 32)
         return 0;
@@ -106,14 +106,14 @@ static int was_another_nan(lent record, reading how)
 static void exercise_same_number(lent input, reading how)
 {
     lent record = lend_copy(OUTPUT, input.bytes, input.length);
-    const mf4_value_reply old = mf4_decode_value(record.bytes, record.length, how.id_size, how.channel);
+    const mf4_value_reply old = mf4_decode_value(record.bytes, record.length, how.group.record_id_size, how.channel);
     mf4_number same;
     mf4_done_reply stored;
     if (is_payload(how.channel) || old.kind < MF4_KIND_UNSIGNED || old.kind > MF4_KIND_DOUBLE)
         return;
     same.kind = old.kind;
     same.number = old.number;
-    stored = mf4_write_value(how.id_size, how.channel, same, record.bytes, record.length);
+    stored = mf4_write_value(how.group.record_id_size, how.channel, same, record.bytes, record.length);
     MUST(stored.reply == MF4_ANSWER && stored.told == 0);
     check_stored(record, how, same);
     MUST(is_unchanged(record) != was_another_nan(record, how));
@@ -122,8 +122,8 @@ static void exercise_same_number(lent input, reading how)
 static void exercise_number(lent input, reading how, mf4_number number)
 {
     lent record = lend_copy(OUTPUT, input.bytes, input.length);
-    const mf4_value_reply old = mf4_decode_value(record.bytes, record.length, how.id_size, how.channel);
-    const mf4_done_reply stored = mf4_write_value(how.id_size, how.channel, number, record.bytes, record.length);
+    const mf4_value_reply old = mf4_decode_value(record.bytes, record.length, how.group.record_id_size, how.channel);
+    const mf4_done_reply stored = mf4_write_value(how.group.record_id_size, how.channel, number, record.bytes, record.length);
     check_reply(WRITE_VALUE, stored.reply, stored.told,
                 REPLY(0) | FIELD_REFUSALS | REPLY(MF4_DOES_NOT_FIT) | REPLY(MF4_OTHER_KIND));
     MUST(stored.reply == (old.reply != MF4_ANSWER ? old.reply : reply_due(how.channel, number)) && stored.told == old.told);
