@@ -62,7 +62,7 @@ def untried(examples):
 
 def differences(compiler, build):
     source, header = Source(SOURCE), Header(HEADER)
-    yield from one_by_one("the number of", {"the version": version(VERSION)}, HEADER, {"the version": header.version})
+    yield from one_by_one("version", version(VERSION), HEADER, header.version)
     yield from one_by_one("reply", replies(REFUSALS), HEADER, header.replies)
     yield from one_by_one("struct", declarations(source.structs), HEADER, declarations(header.structs))
     yield from one_by_one("the layout of", expected_layout(source), HEADER, header.measured(compiler, INCLUDE, build))

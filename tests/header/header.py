@@ -36,8 +36,7 @@ class Header:
         self.comments = spaced(" ".join(COMMENT.findall(commented)).replace("\n *", " "))
         self.examples = [[line.removeprefix(" *").strip() for line in example.splitlines()]
                          for example in EXAMPLE.findall(commented)]
-        version = {part: int(number) for part, number in VERSION.findall(text)}
-        self.version = version["MAJOR"] * 10000 + version["MINOR"] * 100 + version["PATCH"]
+        self.version = dict(VERSION.findall(text))
 
     @staticmethod
     def fields(body):

@@ -12,6 +12,7 @@ STRUCT = re.compile(r"#\[repr\(C\)\]\s*pub struct (\w+) \{(.*?)\}", re.S)
 CALL = re.compile(r'#\[no_mangle\]\s*pub extern "C" fn (\w+)\((.*?)\) -> (\w+)', re.S)
 MARKED = re.compile(r"#\[(?:repr\(C\)|no_mangle)\]")
 NUMBERED = re.compile(r"pub fn number\(self\) -> u32.*?\n    \}\n", re.S)
+VERSION = re.compile(r"^const (MAJOR|MINOR|PATCH): u32 = (\d+);", re.M)
 REFUSAL = re.compile(r"Refusal::(\w+)(?:\(_\))? => (\d+),")
 
 
@@ -57,12 +58,8 @@ def replies(path):
 
 
 def version(path):
-    """The one number that stands in the source of mf4_version, in its code and in its promise."""
-    code = re.sub(r"//[^\n]*", "", Path(path).read_text(encoding="utf-8"))
-    numbers = set(re.findall(r"\b\d+\b", code))
-    if len(numbers) != 1:
-        raise Unreadable(f"{path}: not one number, but {sorted(numbers)}")
-    return int(numbers.pop())
+    """The three numbers of the version by their names."""
+    return dict(VERSION.findall(Path(path).read_text(encoding="utf-8")))
 
 
 class Source:
