@@ -1,21 +1,21 @@
 /*
  * mf4.h: the C interface of a formally verified reader of MDF4 files. It reads block headers, data lists, channel
- * descriptions, records and the variable-length values that they refer to; it decodes and writes values, and detects
- * overlapping channels.
+ * descriptions, records and the variable-length values that they refer to (payloads); it decodes and writes values, and
+ * detects overlapping channels.
  *
  * Three words: `reply` is the status of a call, MF4_ANSWER (0) or the number of a refusal. `told` is the detail of a refusal,
- * for example the size that would be enough, or 0. A buffer is `lent`: it is the caller's, and the library uses it during
- * the call only.
+ * such as the size that would be enough, or 0. A buffer is `lent`: it is the caller's, and the library uses it during the
+ * call only.
  *
  * Every call returns, whatever the input. A call that can refuse returns a struct by value whose name ends in _reply: first
  * reply and told, then the answer's fields, which are all zero on a refusal. "Refuses with" lists the replies in the order of
  * the tests; the first test that fails decides. A refused call changes no buffer, except that mf4_record_value and
  * mf4_record_payload leave a record, or a payload, that they have fetched in its buffer if a later test fails.
  *
- * A buffer is a pointer and a count of elements. NAME with NAME_len is input; NAME with NAME_room is output, and its room is
- * all that the library may write. The pointer may be NULL if the count is 0. An output must overlap no other buffer of the
- * call. Beware: `sizeof buffer` is a room, not a length. A record_len is the length of one record, so pass record_size;
- * with a larger number, fields are read from the stale bytes behind the record.
+ * A buffer is a pointer and a count of elements. NAME with NAME_len is input (mf4_write_value changes its record in place);
+ * NAME with NAME_room is output, and its room is how much fits. The pointer may be NULL if the count is 0. An output must
+ * overlap no other buffer of the call. Beware: `sizeof buffer` is a room, not a length. A record_len is the length of one
+ * record, so pass record_size: with more, a field outside the record is read from stale bytes and not refused.
  *
  * The calls are thread-safe and reentrant: they allocate nothing and keep no state. Lent bytes must not change during a call.
  * A fetch tests the whole chain first and copies the record afterwards: if the file changes in between, the record may be
@@ -70,10 +70,10 @@ enum mf4_reply {
     MF4_UNWRITABLE_LIST = 5,     /* more than 4096 links to write, or not one offset for each link                 */
     MF4_NO_ROOM = 6,             /* an output buffer is too small; told: the room that is needed                   */
     MF4_FILE_TOO_LONG = 7,       /* a file of more than 2^40 bytes                                                 */
-    MF4_TOO_MANY_LISTS = 8,      /* a chain of more than 256 lists, or one that runs in a circle                   */
+    MF4_TOO_MANY_LISTS = 8,      /* a chain of more than 256 lists                                                 */
     MF4_TOO_MANY_FRAGMENTS = 9,  /* a chain of more than 4096 data blocks                                          */
     MF4_LIST_DISAGREES = 10,     /* a list whose count or block length does not match its links                    */
-    MF4_NO_BLOCK_THERE = 11,     /* an address of 0, or one with fewer than 24 bytes of file behind it             */
+    MF4_NO_BLOCK_THERE = 11,     /* an address of 0, or with fewer than 24 bytes of the file from there on         */
     MF4_BAD_DATA_BLOCK = 12,     /* a list links something else than a whole ##DT (or, of payloads, ##SD) block    */
     MF4_UNTRUE_DECLARATION = 13, /* a data block is not as its list declares, or a list not as the first one does  */
     MF4_DATA_TOO_LONG = 14,      /* more joined data than 2^63-1 bytes                                             */
@@ -270,13 +270,13 @@ typedef struct mf4_channel {
     uint32_t bit_count;            /* how wide the field is                                                             */
     uint32_t flags;                /* of enum mf4_channel_flag                                                          */
     uint32_t pos_invalidation_bit; /* the number of its bit behind the data bytes, with MF4_CHANNEL_INVALIDATION_BIT    */
-    uint64_t data_addr;            /* where the chain of its payloads starts, or 0                                      */
+    uint64_t data_addr;            /* of channel type 1: where the chain of its payloads starts                         */
 } mf4_channel;
 
-/* What the channels of a channel group have in common. */
+/* How the records of a channel group are laid out: an id, data bytes, invalidation bits. A record_size is all three. */
 typedef struct mf4_group {
-    uint64_t record_id_size; /* bytes of the record id in front of each record; 0 if the file has none   */
-    uint32_t data_bytes;     /* bytes of channel data behind the id; the invalidation bits follow them   */
+    uint64_t record_id_size; /* bytes of the record id, from the ##DG block; often 0          */
+    uint32_t data_bytes;     /* bytes of channel data behind the id, from the ##CG block      */
 } mf4_group;
 
 #define MF4_CHANNEL_BLOCK_SIZE 160 /* bytes that mf4_write_channel writes */
@@ -327,15 +327,15 @@ mf4_written_reply mf4_write_channel(mf4_channel_block block, uint8_t *out, size_
 /* ---- values ----------------------------------------------------------------------------------------------------- */
 
 enum mf4_kind {
-    MF4_KIND_NOTHING = 0,  /* on a refusal                                                               */
-    MF4_KIND_UNSIGNED = 1, /* number is the value                                                        */
-    MF4_KIND_SIGNED = 2,   /* mf4_bits_as_signed(number) is the value                                    */
-    MF4_KIND_DOUBLE = 3,   /* mf4_bits_as_double(number) is the value                                    */
-    MF4_KIND_TEXT = 4,     /* at, length: the text in the bytes given, without its NUL and what follows  */
-    MF4_KIND_BYTES = 5,    /* at, length                                                                 */
-    MF4_KIND_SAMPLE = 6,   /* at, length                                                                 */
-    MF4_KIND_STREAM = 7,   /* at, length                                                                 */
-    MF4_KIND_UNKNOWN = 8   /* a data type that is not decoded here                                       */
+    MF4_KIND_NOTHING = 0,  /* on a refusal                                                                 */
+    MF4_KIND_UNSIGNED = 1, /* number is the value                                                          */
+    MF4_KIND_SIGNED = 2,   /* mf4_bits_as_signed(number) is the value                                      */
+    MF4_KIND_DOUBLE = 3,   /* mf4_bits_as_double(number) is the value                                      */
+    MF4_KIND_TEXT = 4,     /* at, length: the text in the bytes given, up to its NUL; for mf4_text_by_type */
+    MF4_KIND_BYTES = 5,    /* at, length                                                                   */
+    MF4_KIND_SAMPLE = 6,   /* at, length                                                                   */
+    MF4_KIND_STREAM = 7,   /* at, length                                                                   */
+    MF4_KIND_UNKNOWN = 8   /* a data type that is not decoded here                                         */
 };
 
 /* number, at and length are 0 if the kind does not use them. */
@@ -528,7 +528,8 @@ static inline size_t mf4_text_room(size_t bytes_len)
  * each offset is the length of all data before its block. Anything else is MF4_UNTRUE_DECLARATION (13).
  *
  * If the data link is the address of a single ##DT block, the calls refuse with MF4_OTHER_ID (3). Then write a list of that
- * one block behind a copy of the file, where the copy has 56 bytes of room, and start there. The list need not be aligned.
+ * one block behind a copy of the file, which needs 56 bytes of room there, and start at the list, aligned or not. With an
+ * `address` inside the file:
  *
  *     mf4_header_reply h = mf4_read_header(file + address, file_len - address);
  *     if (h.header.id == id && h.header.block_len <= file_len - address) {
