@@ -95,7 +95,7 @@ ctest: archive | tools
 
 # The library installed into a folder of its own, and README's first use compiled and run against it.
 installed: build/make_log build/libmf4.a $(SHARED)
-	@tests/installed/run
+	@tests/installed
 
 # An independent program, written from the rules alone, gives the same answers.
 check: archive | tools
