@@ -17,11 +17,14 @@
 static mdf_lists lists;
 static mdf_channel channels[MDF_MOST_CHANNELS];
 
-static void print_size(const mdf_group *group, uint64_t length)
+/* What there is of data, and of how many records the channel group tells if it is not as many. */
+static void print_size(const mdf_group *group, uint64_t length, int is_read)
 {
     const uint64_t records = length / group->record_size, tail = length % group->record_size;
     if (group->data == 0)
         printf("\n  no data: the link to it is 0");
+    else if (!is_read)
+        printf("\n  data at %" PRIu64 ": refused", group->data);
     else
         printf("\n  data at %" PRIu64 ": %" PRIu64 " bytes, %" PRIu64 " records of %" PRIu64, group->data, length, records,
                group->record_size);
@@ -65,17 +68,17 @@ static int show_group(mdf_file *file, uint64_t address, mdf_group *group)
 {
     size_t count;
     uint64_t length;
-    int is_whole = mdf_read_channels(file, &lists, group, channels, &count);
+    int is_read, is_whole = mdf_read_channels(file, &lists, group, channels, &count);
     printf("\ndata group at %" PRIu64 "%s%s%s: %u channels\n", address, group->name[0] != '\0' ? ", \"" : "", group->name,
            group->name[0] != '\0' ? "\"" : "", (unsigned)count);
     if (!is_whole)
         mdf_complain(file);
-    is_whole = (mdf_data_length(file, group, &length) || mdf_complain(file)) && is_whole;
+    is_read = mdf_data_length(file, group, &length) || mdf_complain(file);
     print_channels(file, group, channels, count, length / group->record_size);
-    print_size(group, length);
+    print_size(group, length, is_read);
     if (length >= group->record_size)
-        is_whole = (show_records(file, group, count, length / group->record_size) || mdf_complain(file)) && is_whole;
-    return is_whole;
+        is_read = show_records(file, group, count, length / group->record_size) || mdf_complain(file);
+    return is_whole && is_read;
 }
 
 static int show_groups(mdf_file *file, uint64_t first)
