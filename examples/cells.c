@@ -4,7 +4,6 @@
 #include <string.h>
 
 #include "cells.h"
-#include "mdf_blame.h"
 
 enum { MOST_BYTES = 16, FEWEST_DIGITS_OF_SINGLE = 7, FEWEST_DIGITS = 15, MOST_DIGITS = 17 };
 
@@ -89,10 +88,10 @@ static void spell_bytes(const mdf_value *value, char cell[CELL_ROOM])
 
 /* ---- values ----------------------------------------------------------------------------------------------------- */
 
-/* Of payloads, what may differ between records is said in words. */
-static void spell_refusal(const mf4_channel *channel, const mf4_valid_value_reply *told, char cell[CELL_ROOM])
+/* What is refused in one record alone is said in words. */
+static void spell_refusal(const mdf_group *group, const mf4_valid_value_reply *told, char cell[CELL_ROOM])
 {
-    const int is_told_elsewhere = mdf_place_of(channel) != MDF_PAYLOAD || mdf_is_of_chain(told->reply);
+    const int is_told_elsewhere = mdf_is_in_every_record(group, told->reply, told->told);
     snprintf(cell, CELL_ROOM, "refused (%" PRIu32 ")%s%s", told->reply, is_told_elsewhere ? "" : ": ",
              is_told_elsewhere ? "" : mf4_reply_text(told->reply));
 }
@@ -102,7 +101,7 @@ void spell_value(mdf_record *record, const mdf_channel *channel, char cell[CELL_
     const mdf_value value = mdf_read_value(record, &channel->described);
     const mf4_valid_value_reply *told = &value.told;
     if (told->reply != MF4_ANSWER)
-        spell_refusal(&channel->described, told, cell);
+        spell_refusal(record->group, told, cell);
     else if (told->kind == MF4_KIND_NOTHING)
         strcpy(cell, "not read");
     else if (!told->is_valid)

@@ -53,7 +53,7 @@ static void print_place(const mf4_channel *channel)
 {
     const enum mdf_place place = mdf_place_of(channel);
     if (place == MDF_VIRTUAL) {
-        printf("  no field: virtual, the record's number");
+        printf("  no field: virtual, its raw value is the record's number");
         return;
     }
     printf("  byte %" PRIu32, channel->byte_offset);
@@ -103,19 +103,30 @@ void print_refusal(const mdf_group *group, mf4_value_reply refused)
     printf("\n");
 }
 
-/* What holds for every record: a field that is refused, or the chain of the payloads, of which the first record tells. */
-static void print_trouble(mdf_file *file, const mdf_group *group, const mf4_channel *channel, uint64_t records)
+/* Why the payloads are refused in every record, by what is said of the first. */
+static void print_trouble_of_payloads(mdf_file *file, const mdf_group *group, const mf4_channel *channel)
 {
     mdf_record first = { .file = file, .group = group };
-    mf4_value_reply field = mdf_field_reply(group, channel);
-    if (mdf_place_of(channel) == MDF_PAYLOAD && records > 0) {
-        const mf4_payload_reply payload = mdf_read_payload(&first, *channel);
-        if (mdf_is_of_chain(payload.reply)) {
-            mdf_blame_chain(file, "payloads", channel->data_addr, MF4_ID_SD, payload.reply);
-            printf("    %s\n", file->trouble);
-        }
-        free(first.payload);
+    const mf4_payload_reply payload = mdf_read_payload(&first, *channel);
+    const mf4_value_reply refused = { .reply = payload.reply, .told = payload.told };
+    free(first.payload);
+    if (!mdf_is_in_every_record(group, refused.reply, refused.told))
+        return;
+    if (mdf_is_of_chain(refused.reply)) {
+        mdf_blame_chain(file, "payloads", channel->data_addr, MF4_ID_SD, refused.reply);
+        printf("    %s\n", file->trouble);
+    } else {
+        printf("    ");
+        print_refusal(group, refused);
     }
+}
+
+/* What is refused in every record is said once. */
+static void print_trouble(mdf_file *file, const mdf_group *group, const mf4_channel *channel, uint64_t records)
+{
+    const mf4_value_reply field = mdf_field_reply(group, channel);
+    if (mdf_place_of(channel) == MDF_PAYLOAD && records > 0)
+        print_trouble_of_payloads(file, group, channel);
     if (field.reply != MF4_ANSWER) {
         printf("    ");
         print_refusal(group, field);

@@ -17,6 +17,11 @@
 static mdf_lists lists;
 static mdf_channel channels[MDF_MOST_CHANNELS];
 
+static const char *plural(uint64_t count)
+{
+    return count == 1 ? "" : "s";
+}
+
 /* What there is of data, and of how many records the channel group tells if it is not as many. */
 static void print_size(const mdf_group *group, uint64_t length, int is_read)
 {
@@ -26,12 +31,12 @@ static void print_size(const mdf_group *group, uint64_t length, int is_read)
     else if (!is_read)
         printf("\n  data at %" PRIu64 ": refused", group->data);
     else
-        printf("\n  data at %" PRIu64 ": %" PRIu64 " bytes, %" PRIu64 " records of %" PRIu64, group->data, length, records,
-               group->record_size);
+        printf("\n  data at %" PRIu64 ": %" PRIu64 " bytes, %" PRIu64 " record%s of %" PRIu64, group->data, length, records,
+               plural(records), group->record_size);
     if (tail != 0)
-        printf(", and %" PRIu64 " trailing bytes that are none", tail);
+        printf(" and a rest of %" PRIu64 " that is none", tail);
     if (group->counted != records)
-        printf("; the file counts %" PRIu64 " records", group->counted);
+        printf("; the file counts %" PRIu64 " record%s", group->counted, plural(group->counted));
     printf("\n");
 }
 
@@ -69,8 +74,8 @@ static int show_group(mdf_file *file, uint64_t address, mdf_group *group)
     size_t count;
     uint64_t length;
     int is_read, is_whole = mdf_read_channels(file, &lists, group, channels, &count);
-    printf("\ndata group at %" PRIu64 "%s%s%s: %u channels\n", address, group->name[0] != '\0' ? ", \"" : "", group->name,
-           group->name[0] != '\0' ? "\"" : "", (unsigned)count);
+    printf("\ndata group at %" PRIu64 "%s%s%s: %u channel%s\n", address, group->name[0] != '\0' ? ", \"" : "", group->name,
+           group->name[0] != '\0' ? "\"" : "", (unsigned)count, plural(count));
     if (!is_whole)
         mdf_complain(file);
     is_read = mdf_data_length(file, group, &length) || mdf_complain(file);

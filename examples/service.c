@@ -115,7 +115,7 @@ void print_service(const service_list *list)
     for (i = 0; i < list->count; i++)
         print_pump(&list->pumps[i], width);
     if (list->nameless != 0)
-        printf("  %" PRIu64 " records name no pump: their serial is empty, invalid, damaged or no text\n", list->nameless);
+        printf("  records whose serial is empty, invalid, damaged or no text: %" PRIu64 "\n", list->nameless);
 }
 
 void free_service(service_list *list)

@@ -41,7 +41,7 @@ static void add_group(void)
     put(group + 24 + 16, data, 8);
     add_header(data, "##DT", 24 + 48, 0);
     memcpy(bad.bytes + data + 24, good.bytes + block("##DT", 0) + 24, 48);
-    must_say(&bad, "two groups", 0, "48 bytes, 1 records of 48; the file counts 6 records\n");
+    must_say(&bad, "two groups", 0, "48 bytes, 1 record of 48; the file counts 6 records\n");
     must_hold(times_said("       0          0.25  PX1  ") == 2 && times_said("dock 3      -\n") == 2, "a single data block", 0);
     put(data + 8, 24 + 49, 8);
     must_say(&bad, "a single block past the end", 1, " has a length of 73, and the file ends at ");
@@ -68,7 +68,7 @@ static void add_group_behind_unsorted(void)
     must_hold(times_said("       0          0.25  PX1  ") == 1, "behind an unsorted group", 0);
 }
 
-/* The sites in a single block: the log's last 32 bytes of a payload's length and text, twice. */
+/* The sites in a single block, behind the log's end: four letters for the first record, and nothing for the others. */
 static void add_single_payload(void)
 {
     const uint64_t payloads = behind();
@@ -101,7 +101,7 @@ static void add_lists_with_offsets(void)
         put(list + 44, 1, 4);
         put(list + 48, 55 * (uint64_t)i, 8);
     }
-    must_say(&bad, "lists with offsets", 0, "110 bytes, 2 records of 48, and 14 trailing bytes that are none; the file counts 6");
+    must_say(&bad, "lists with offsets", 0, "110 bytes, 2 records of 48 and a rest of 14 that is none; the file counts 6");
     put(first + 56 + 48, 54, 8);
     must_say(&bad, "an untrue offset", 1, " begins at byte 55, and ##DL at ");
 }

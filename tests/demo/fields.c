@@ -55,7 +55,7 @@ static void change_fields(void)
     changed(record + 8 + 2, 0x9B, 1, 0, "  PX??    ");
     changed(record + 8, 0, 1, 0, "     0          0.25  -  ");
     changed(unit_of(HOURS), UINT64_C(0x6868686868686868), 8, 0, "hours [hhhhhhhh] ");
-    changed(block("##DG", 0) + 56, 1, 1, 0, "6 records of 49, and 1 trailing bytes that are none");
+    changed(block("##DG", 0) + 56, 1, 1, 0, "6 records of 49 and a rest of 1 that is none");
     changed(record, UINT64_C(0x7FF0000000000001), 8, 0, "     0           nan  PX1 ");
     changed(record, UINT64_C(0x3FD3333333333334), 8, 0, "     0  0.30000000000000004  PX1 ");
     changed(record + 23, 0x3DCCCCCD, 4, 0, "  180           0.1         86.75  ");
@@ -84,7 +84,7 @@ static void refuse_fields(void)
     changed_field(hours + 4, 1000, 4, 21, OUTSIDE("1009"));
     must_hold(times_said("  unknown: no record has valid hours\n") == 4, "refused hours", 0);
     changed_field(serial + 4, 43, 4, 21, OUTSIDE("49"));
-    must_hold(times_said("  6 records name no pump") == 1, "refused serials", 0);
+    must_hold(times_said("damaged or no text: 6\n") == 1, "refused serials", 0);
     changed_field(oil + 8, 16, 4, 22, "the description gives the float neither 32 nor 64 bits");
 }
 

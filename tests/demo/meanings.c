@@ -10,9 +10,9 @@ static void change_types(void)
     const uint64_t serial = fields_of(SERIAL), hours = fields_of(HOURS);
     changed(serial, MF4_CHANNEL_MAX_LENGTH, 1, 0, "byte 8; not read: of maximum length, and how much of it counts is told by ");
     must_hold(times_said("  not read  ") == 6 && times_said("PX") == 0, "a text of maximum length", 0);
-    changed(hours, MF4_CHANNEL_VIRTUAL, 1, 0, "no field: virtual, the record's number\n");
+    changed(hours, MF4_CHANNEL_VIRTUAL, 1, 0, "no field: virtual, its raw value is the record's number\n");
     must_hold(times_said("  PX2                        1  ") == 1, "a virtual channel", 0);
-    changed(hours, MF4_CHANNEL_VIRTUAL_MASTER, 1, 0, "no field: virtual, the record's number; the master: of no kind\n");
+    changed(hours, MF4_CHANNEL_VIRTUAL_MASTER, 1, 0, "no field: virtual, its raw value is the record's number; the master: of no kind\n");
     changed(fields_of(TIME) + 1, 2, 1, 0, "byte 0; the master: angle\n");
     changed(hours, MF4_CHANNEL_SYNC, 1, 0, "byte 14, bit 4\n");
     changed(hours, 7, 1, 0, "byte 14, bit 4; not read: channel type 7 is unknown here\n");
@@ -53,11 +53,11 @@ static void change_service(void)
     changed(name_of(SERIAL), 'S', 1, 0, "\n  nothing is said of service: no channel is named serial\n");
     changed(hours, 16 * 600, 8, 0, "  PX1     DUE      512 hours in record 2\n");
     changed(serial + 3, 0x393939, 3, 0, "  PX1999  not due  180 hours in record 0\n");
-    changed(serial, 0, 1, 0, "  1 records name no pump: ");
+    changed(serial, 0, 1, 0, "damaged or no text: 1\n");
     changed(fields_of(HOURS) + 12, 1, 4, 0, "  byte 14, bit 4; all invalid\n");
     must_hold(times_said("  unknown: no record has valid hours\n") == 4, "invalid hours", 0);
     changed(fields_of(SERIAL) + 2, 7, 1, 0, "  <Invalid UTF8>  ");
-    must_hold(times_said("  1 records name no pump: ") == 1, "a damaged serial", 0);
+    must_hold(times_said("damaged or no text: 1\n") == 1, "a damaged serial", 0);
 }
 
 void damage_meanings(void)

@@ -14,44 +14,44 @@ static void changed_payload(uint64_t at, uint64_t value, int size, unsigned numb
     must_hold(times_said(cell) == records, cell, at);
 }
 
+/* What is refused in all six records alike: once below the channel why, and in each record the number. */
+static void changed_everywhere(uint64_t at, uint64_t value, int size, unsigned number, const char *why)
+{
+    char refused[32], because[32];
+    snprintf(refused, sizeof refused, "refused (%u)", number);
+    snprintf(because, sizeof because, "refused (%u): ", number);
+    changed(at, value, size, 0, why);
+    must_hold(times_said(because) == 1 && times_said(refused) == 7, why, number);
+}
+
 /* A position is a field of 64 bits from bit 0 on, inside the record; and hours, from bit 4 on, are none. */
 static void change_positions(void)
 {
     const uint64_t hours = fields_of(HOURS), remark = fields_of(REMARK), record = block("##DT", 0) + 24;
-    changed_payload(remark + 3, 1, 1, 35, 6);
-    changed_payload(remark + 8, 63, 4, 35, 6);
-    changed_payload(remark + 8, 65, 4, 35, 6);
-    changed_payload(remark + 4, 41, 4, 21, 6);
+    changed_everywhere(remark + 3, 1, 1, 35, "refused (35): the channel holds no position of a payload\n");
+    changed_everywhere(remark + 8, 63, 4, 35, "refused (35): ");
+    changed_everywhere(remark + 8, 65, 4, 35, "refused (35): ");
+    changed_everywhere(remark + 4, 41, 4, 21, "; it needs 49 bytes, the record has 48\n");
     changed_payload(record + 39, 114, 8, 23, 1);
     changed_payload(record + 39, UINT64_MAX, 8, 23, 1);
     changed_payload(record + 39, UINT64_MAX - 3, 8, 23, 1);
     bad = good;
     put(hours, MF4_CHANNEL_VARIABLE_LENGTH, 1);
     put(link_at("##CN", HOURS, 5), block("##DL", 3), 8);
-    must_say(&bad, "hours of any length", 0, "  PX1     refused (35): the channel holds no position of a payload");
-}
-
-/* A chain of payloads that is refused: once below its channel for which block, and in each of the six records the number. */
-static void changed_chain(uint64_t at, uint64_t value, int size, unsigned number, const char *why)
-{
-    char cell[32], line[48];
-    snprintf(cell, sizeof cell, "  refused (%u)", number);
-    snprintf(line, sizeof line, "\n    payloads: refused (%u): ", number);
-    changed(at, value, size, 0, why);
-    must_hold(times_said(line) == 1 && times_said(cell) == 6, why, number);
+    must_say(&bad, "hours of any length", 0, "  PX1             refused (35)  ");
 }
 
 /* Sites in blocks 0 to 2 of one length, 28 bytes; remarks in blocks 3 to 5 with offsets. */
 static void change_chains(void)
 {
     const uint64_t sites = link_at("##CN", SITE, 5), remarks = link_at("##CN", REMARK, 5);
-    changed_chain(remarks, block("##DL", 0), 8, 12, "##DT stands at 640, and ##SD was expected\n");
-    changed_chain(remarks, good.length, 8, 11, ": ##DL was expected at ");
-    changed_chain(remarks, block("##CG", 0), 8, 3, "(unsorted data), which are not read here: sort the log first\n");
-    changed_chain(block("##DL", 3) + 72, 20, 8, 13, " begins at byte 21, and ##DL at 1664 has 20 for it\n");
-    changed_chain(block("##SD", 1) + 8, 24 + 27, 8, 13, " has 27 bytes of data, and ##DL at 1392 declares 28 for it\n");
-    changed_chain(block("##SD", 4) + 8, 24 + 21, 8, 13, " begins at byte 42, and ##DL at 1664 has 43 for it\n");
-    changed_chain(block("##SD", 4) + 3, 'Z', 1, 12, " stands at ");
+    changed_everywhere(remarks, block("##DL", 0), 8, 12, "##DT stands at 640, and ##SD was expected\n");
+    changed_everywhere(remarks, good.length, 8, 11, ": ##DL was expected at ");
+    changed_everywhere(remarks, block("##CG", 0), 8, 3, "(unsorted data), which are not read here: sort the log first\n");
+    changed_everywhere(block("##DL", 3) + 72, 20, 8, 13, " begins at byte 21, and ##DL at 1664 has 20 for it\n");
+    changed_everywhere(block("##SD", 1) + 8, 24 + 27, 8, 13, " has 27 bytes of data, and ##DL at 1392 declares 28 for it\n");
+    changed_everywhere(block("##SD", 4) + 8, 24 + 21, 8, 13, " begins at byte 42, and ##DL at 1664 has 43 for it\n");
+    changed_everywhere(block("##SD", 4) + 3, 'Z', 1, 12, " stands at ");
     changed_payload(block("##SD", 2) + 8, 24 + 23, 8, 23, 1);
     changed_payload(block("##SD", 5) + 8, 24 + 73, 8, 23, 1);
     changed_payload(block("##SD", 0) + 24, 77, 4, 23, 1);
