@@ -193,22 +193,34 @@ static void spell_heading(const mdf_channel *channel, char heading[HEADING_ROOM]
         snprintf(heading, HEADING_ROOM, "%s [%s]", channel->name, unit);
 }
 
-/* Wide enough for the heading and for most values: the digits of an integer, six digits of a float, a short text. Where a
- * channel has payloads, its bits are those of a position. */
+static int at_most(uint32_t a, int b)
+{
+    return a < (uint32_t)b ? (int)a : b;
+}
+
+/* What most values take: the digits of an integer, some digits of a float, a short text. Where a channel has payloads, its
+ * bits are those of a position. */
+static int width_of_values(const mdf_channel *channel)
+{
+    const uint32_t bits = channel->described.bit_count;
+    const uint8_t type = channel->described.data_type;
+    if (is_number(channel) && (type > MF4_TYPE_SIGNED_BE || mdf_is_linear(&channel->conversion)))
+        return columns_of("-1.23456e+78");
+    if (is_number(channel))
+        return at_most(bits, 64) * 3 / 10 + 1 + (type >= MF4_TYPE_SIGNED_LE);
+    if (mdf_place_of(&channel->described) == MDF_PAYLOAD)
+        return PAYLOAD_WIDTH;
+    return type == MF4_TYPE_BYTE_ARRAY ? at_most(3 * (bits / 8), MOST_TEXT_WIDTH) - 1 : at_most(bits / 8, MOST_TEXT_WIDTH);
+}
+
 static int width_of(const mdf_channel *channel)
 {
-    const int has_payloads = mdf_place_of(&channel->described) == MDF_PAYLOAD;
-    const uint32_t bits = has_payloads ? 8 * PAYLOAD_WIDTH : channel->described.bit_count;
-    const uint8_t type = channel->described.data_type;
+    const char *other = mdf_is_read(&channel->described) ? "invalid" : "not read";
     char heading[HEADING_ROOM];
     spell_heading(channel, heading);
-    if (type <= MF4_TYPE_SIGNED_BE)
-        return larger(columns_of(heading), (int)(bits < 64 ? bits : 64) * 3 / 10 + 1 + (type >= MF4_TYPE_SIGNED_LE));
-    if (is_number(channel))
-        return larger(columns_of(heading), columns_of("-1.23456e+78"));
-    if (type == MF4_TYPE_BYTE_ARRAY)
-        return larger(columns_of(heading), (int)(bits / 8 < MOST_TEXT_WIDTH / 3 ? 3 * bits / 8 : MOST_TEXT_WIDTH) - 1);
-    return larger(columns_of(heading), (int)(bits / 8 < MOST_TEXT_WIDTH ? bits / 8 : MOST_TEXT_WIDTH));
+    if (channel->described.flags == 0 && mdf_is_read(&channel->described))
+        other = "";
+    return larger(larger(columns_of(heading), columns_of(other)), width_of_values(channel));
 }
 
 /* No blanks stand behind a text that is the last in its line. */

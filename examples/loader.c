@@ -5,7 +5,8 @@
  *
  *     loader FILE
  *
- * A group that cannot be read gets a message, and those behind it are read. The status is 1 then, and 0 if all went well.
+ * A group that cannot be read gets a message, and those behind it are read; the status is 1 then. A value that is refused is
+ * told in its place.
  */
 #include <inttypes.h>
 #include <stdio.h>
@@ -81,7 +82,7 @@ static int show_group(mdf_file *file, uint64_t address, mdf_group *group)
     is_read = mdf_data_length(file, group, &length) || mdf_complain(file);
     print_channels(file, group, channels, count, length / group->record_size);
     print_size(group, length, is_read);
-    if (length >= group->record_size)
+    if (count > 0 && length >= group->record_size)
         is_read = show_records(file, group, count, length / group->record_size) || mdf_complain(file);
     return is_whole && is_read;
 }
@@ -109,6 +110,10 @@ int main(int count, char **words)
     int is_whole;
     if (count != 2) {
         fputs("use: loader FILE\n", stderr);
+        return 2;
+    }
+    if (!mf4_version_matches()) {
+        fputs("loader: the library is of another version than mf4.h, with which this program was compiled\n", stderr);
         return 2;
     }
     is_whole = (mdf_copy(&file, words[1]) && mdf_read_start(&file, &start)) || mdf_complain(&file);

@@ -17,6 +17,12 @@ enum mdf_place mdf_place_of(const mf4_channel *channel)
     }
 }
 
+int mdf_is_read(const mf4_channel *channel)
+{
+    const enum mdf_place place = mdf_place_of(channel);
+    return place == MDF_FIELD || place == MDF_PAYLOAD || place == MDF_VIRTUAL;
+}
+
 int mdf_is_master(const mf4_channel *channel)
 {
     return channel->channel_type == MF4_CHANNEL_MASTER || channel->channel_type == MF4_CHANNEL_VIRTUAL_MASTER;

@@ -30,6 +30,9 @@ enum mdf_place {
 
 enum mdf_place mdf_place_of(const mf4_channel *channel);
 
+/* Whether its values are read here: those of a field, of payloads, and a record's number. */
+int mdf_is_read(const mf4_channel *channel);
+
 int mdf_is_master(const mf4_channel *channel);
 
 /* The channels of a group, into a table with room for MDF_MOST_CHANNELS; where it gives 0, those in front of the trouble. */

@@ -6,8 +6,9 @@
 #include <string.h>
 #include <mf4.h>
 
-enum { MOST_CHANNELS = 100 };
+enum { MOST_CHANNELS = 1000 };
 
+static const char *path;
 static uint8_t *file;        /* a copy of the log: it must not change while it is read */
 static size_t file_len;
 static uint64_t start, size; /* where the chain of records starts; the bytes of a record */
@@ -15,13 +16,15 @@ static mf4_group group;
 static mf4_channel channels[MOST_CHANNELS];
 static uint8_t record[MF4_MAX_RECORD_SIZE], payload[MF4_MAX_RECORD_SIZE], text[2 * MF4_MAX_RECORD_SIZE];
 
-static void stop(const char *path, const char *why)
+static void stop_if(int is_wrong, const char *why)
 {
+    if (!is_wrong)
+        return;
     fprintf(stderr, "%s: %s\n", path, why);
     exit(1);
 }
 
-static void read_file(const char *path)
+static void read_file(void)
 {
     FILE *log = fopen(path, "rb");
     size_t room = 0;
@@ -30,8 +33,7 @@ static void read_file(const char *path)
         file = (uint8_t *)realloc(file, room);
         file_len += file != NULL ? fread(file + file_len, 1, room - file_len, log) : 0;
     }
-    if (log == NULL || file == NULL || ferror(log))
-        stop(path, strerror(errno));
+    stop_if(log == NULL || file == NULL || ferror(log), strerror(errno));
     fclose(log);
 }
 
@@ -60,10 +62,10 @@ static uint64_t chain_at(uint64_t address, uint64_t linked_by)
 static size_t read_channels(uint64_t address)
 {
     size_t found = 0;
-    while (address > 0 && address < file_len && found < MOST_CHANNELS) {
+    while (address != 0) {
+        stop_if(address >= file_len || found == MOST_CHANNELS, "a channel outside the file, or too many");
         mf4_channel_reply c = mf4_read_channel(file + address, file_len - address);
-        if (c.reply != MF4_ANSWER)
-            break;
+        stop_if(c.reply != MF4_ANSWER, mf4_reply_text(c.reply));
         channels[found] = c.block.channel;
         channels[found++].data_addr = chain_at(c.block.channel.data_addr, address);
         address = c.block.next_ch_addr;
@@ -108,16 +110,15 @@ static void print_channel(uint64_t k, mf4_channel c)
 
 int main(int count, char **words)
 {
-    if (count != 2)
-        stop("use", "values FILE");
-    const char *path = words[1];
-    read_file(path);
-    if (file_len < 64 || memcmp(file, "MDF     ", 8) != 0)
-        stop(path, "no MDF file, or not a finished one: it does not begin with \"MDF     \"");
-    if (number_at(28, 2) / 100 != 4)
-        stop(path, "an MDF file, but of another version than 4.xx");
+    path = count == 2 ? words[1] : "values";
+    stop_if(count != 2, "name one log");
+    read_file();
+    stop_if(file_len < 64 || memcmp(file, "MDF     ", 8) != 0, "no MDF file, or one that its writer has not finished");
+    stop_if(number_at(28, 2) / 100 != 4, "an MDF file of another version than 4.xx");
     uint64_t data_group = number_at(64 + 24, 8);            /* the first link of the header block, which is at 64 */
     uint64_t channel_group = number_at(data_group + 32, 8); /* ASAM MDF 4.1 says where links and fields stand     */
+    stop_if(data_group == 0 || channel_group == 0, "no group");
+    stop_if(number_at(channel_group + 24, 8) != 0, "a data group with two channel groups: sort the log first");
     group.record_id_size = number_at(data_group + 56, 1);
     group.data_bytes = (uint32_t)number_at(channel_group + 96, 4);
     size = group.record_id_size + group.data_bytes + number_at(channel_group + 100, 4);
@@ -131,7 +132,6 @@ int main(int count, char **words)
         printf("\n");
         reply = mf4_read_record(file, file_len, start, k + 1, size, record, sizeof record).reply;
     }
-    if (reply != MF4_NO_SUCH_RECORD) /* which marks the end */
-        stop(path, mf4_reply_text(reply));
+    stop_if(reply != MF4_NO_SUCH_RECORD, mf4_reply_text(reply)); /* that one marks the end */
     return 0;
 }
