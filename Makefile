@@ -62,12 +62,12 @@ $(SHARED): build/libmf4.a | tools
 	@$(CC) -shared -nostdlib -Wl,-z,defs -Wl,-soname,$(SONAME) -Wl,--version-script,build/exports \
 	    -Wl,--whole-archive build/libmf4.a -o $@
 
-# What reads a log, from its first byte to the cells of a table; tests/demo compiles it too.
+# What reads a log, from its first byte to the values in its records, and lists its channels; tests/demo compiles it too.
 READER := $(wildcard examples/mdf_*.c) examples/cells.c examples/listing.c
 PROGRAMS := build/make_log build/loader build/refusals build/values
 
 build/make_log: examples/make_log.c examples/pump_records.c examples/new_file.c
-build/loader: examples/loader.c examples/service.c $(READER)
+build/loader: examples/loader.c examples/service.c examples/table.c $(READER)
 build/refusals: examples/refusals.c $(READER)
 build/values: examples/values.c
 $(PROGRAMS): $(wildcard examples/*.h) include/mf4.h build/libmf4.a | tools

@@ -1,5 +1,5 @@
 /*
- * What the loader prints of a file, its channels and its records: tables, whose columns the channels themselves tell.
+ * What the loader prints of a file and of its channels.
  */
 #ifndef LISTING_H
 #define LISTING_H
@@ -14,11 +14,5 @@ void print_channels(mdf_file *file, const mdf_group *group, const mdf_channel *c
 
 /* Why a field is refused, up to the line's end, with the bytes that it needs where they are told. */
 void print_refusal(const mdf_group *group, mf4_value_reply refused);
-
-/* The names and units above the values. */
-void print_heading(const mdf_channel *channels, size_t count);
-
-/* The values of a record, with their payloads, without the line's end. */
-void print_values(mdf_record *record, const mdf_channel *channels, size_t count);
 
 #endif

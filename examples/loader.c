@@ -14,6 +14,7 @@
 
 #include "listing.h"
 #include "service.h"
+#include "table.h"
 
 static mdf_lists lists;
 static mdf_channel channels[MDF_MOST_CHANNELS];
@@ -49,13 +50,9 @@ static int show_records(mdf_file *file, const mdf_group *group, size_t count, ui
     service_channels of_service;
     const char *no_service = find_service_channels(channels, count, &of_service);
     uint32_t reply = MF4_ANSWER;
-    printf("  record");
     print_heading(channels, count);
-    printf("\n");
     for (; record.number < records && (reply = mdf_read_record(&record).reply) == MF4_ANSWER; record.number++) {
-        printf("  %6" PRIu64, record.number);
         print_values(&record, channels, count);
-        printf("\n");
         if (no_service == NULL)
             note_service(&service, &record, &of_service);
     }

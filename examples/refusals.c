@@ -99,6 +99,7 @@ static int show_file(mdf_file *file)
         return 0;
     if (length == 0)
         return mdf_trouble(file, "the first group has no data");
+    printf("\nFour damages, made up here, and what the library says of each:\n");
     if (!show_record_behind(file, &group, length) || !show_field_outside(file, &group, count))
         return 0;
     show_payload_outside(file, &group, count);

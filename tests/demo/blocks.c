@@ -68,19 +68,22 @@ static void add_group_behind_unsorted(void)
     must_hold(times_said("       0          0.25  PX1  ") == 1, "behind an unsorted group", 0);
 }
 
-/* The sites in a single block, behind the log's end: four letters for the first record, and nothing for the others. */
+/* The sites in a single block, behind the log's end: four letters for the first record, and nothing for the others. A second
+ * data group has the same channels, so each of them is read twice. */
 static void add_single_payload(void)
 {
-    const uint64_t payloads = behind();
+    const uint64_t group = behind(), payloads = group + 64;
     bad = good;
     bad.length = payloads + 24 + 128;
+    memcpy(bad.bytes + group, good.bytes + block("##DG", 0), 64);
+    put(link_at("##DG", 0, 0), group, 8);
     memset(bad.bytes + payloads, 0, 24 + 128);
     add_header(payloads, "##SD", 24 + 128, 0);
     put(payloads + 24, 4, 4);
     memcpy(bad.bytes + payloads + 28, "here", 4);
     put(link_at("##CN", SITE, 5), payloads, 8);
     must_say(&bad, "a single block of payloads", 0, "          71.5         86.75  00 01   here  ");
-    must_hold(times_said("  refused (") == 0, "a single block of payloads", 0);
+    must_hold(times_said("  here  ") == 2 && times_said("  refused (") == 0, "a single block of payloads", 0);
     put(payloads + 8, 24 + 129, 8);
     must_say(&bad, "a single block of payloads past the end", 0, "payloads: refused (12)");
 }

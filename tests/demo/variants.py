@@ -46,11 +46,6 @@ def types(data):
         put(data, addresses(data, "CN")[channel] + 88, kind, 1)
 
 
-def long(data):
-    """More bytes than a reader takes at a time."""
-    data += bytes(200_000)
-
-
 def single(data):
     """The records, the sites and the remarks each in a single block, without a list."""
     log = legal.Log(bytes(data))
@@ -65,8 +60,14 @@ def single(data):
                 data += struct.pack("<4s4xQQ", b"##" + data_kind.encode(), 24 + len(joined), 0) + joined
 
 
+def long(data):
+    """The same, behind more bytes than a reader takes at a time."""
+    data += bytes(200_000)
+    single(data)
+
+
 def cut_single(data):
-    """The same, and the last byte of the last block is missing."""
+    """The last byte of the last single block is missing."""
     single(data)
     del data[-1:]
 
@@ -74,7 +75,7 @@ def cut_single(data):
 def main():
     with open(sys.argv[1], "rb") as file:
         good = file.read()
-    for change in no_link, no_size, unsorted, types, long, single, cut_single:
+    for change in no_link, no_size, unsorted, types, single, long, cut_single:
         data = bytearray(good)
         change(data)
         with open(os.path.join(sys.argv[2], change.__name__ + ".mf4"), "wb") as file:
