@@ -60,8 +60,14 @@ def single(data):
                 data += struct.pack("<4s4xQQ", b"##" + data_kind.encode(), 24 + len(joined), 0) + joined
 
 
+def loop(data):
+    """The last channel links the first as its next."""
+    channels = addresses(data, "CN")
+    put(data, channels[-1] + 24, channels[0], 8)
+
+
 def long(data):
-    """The same, behind more bytes than a reader takes at a time."""
+    """Single blocks, behind more bytes than a reader takes at a time."""
     data += bytes(200_000)
     single(data)
 
@@ -75,7 +81,7 @@ def cut_single(data):
 def main():
     with open(sys.argv[1], "rb") as file:
         good = file.read()
-    for change in no_link, no_size, unsorted, types, single, long, cut_single:
+    for change in no_link, no_size, unsorted, types, single, loop, long, cut_single:
         data = bytearray(good)
         change(data)
         with open(os.path.join(sys.argv[2], change.__name__ + ".mf4"), "wb") as file:
