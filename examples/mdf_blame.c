@@ -118,17 +118,17 @@ static int is_list_good(chain_walk *walk)
 /* ---- data blocks ------------------------------------------------------------------------------------------------ */
 
 /* Every block has the one length, but the chain's last may have less; or it begins at its offset. */
-static int is_as_declared(chain_walk *walk, uint64_t number, uint64_t address, uint64_t size)
+static int is_as_declared(chain_walk *walk, uint64_t number, const char *id, uint64_t address, uint64_t size)
 {
     const mf4_list_reply *list = &walk->list;
     const uint64_t rest = number_in_list(walk, walk->at, list->rest_at + (has_one_length(list) ? 0 : 8 * number));
     const int is_last = list->next_addr == 0 && number + 1 == list->data_link_count;
     if (!has_one_length(list) && rest != walk->before)
-        return bad(walk, MF4_UNTRUE_DECLARATION, "the data of the block at %" PRIu64 " begins at byte %" PRIu64
-                   ", and ##DL at %" PRIu64 " has %" PRIu64 " for it", address, walk->before, walk->at, rest);
+        return bad(walk, MF4_UNTRUE_DECLARATION, "the data of %s at %" PRIu64 " begins at byte %" PRIu64 ", and ##DL at %"
+                   PRIu64 " has %" PRIu64 " for it", id, address, walk->before, walk->at, rest);
     if (has_one_length(list) && (size > rest || (size < rest && !is_last)))
-        return bad(walk, MF4_UNTRUE_DECLARATION, "the block at %" PRIu64 " has %" PRIu64 " bytes of data, and ##DL at %"
-                   PRIu64 " declares %" PRIu64 "%s", address, size, walk->at, rest, is_last ? " at most" : " for it");
+        return bad(walk, MF4_UNTRUE_DECLARATION, "%s at %" PRIu64 " has %" PRIu64 " bytes of data, and ##DL at %" PRIu64
+                   " declares %" PRIu64 "%s", id, address, size, walk->at, rest, is_last ? " at most" : " for it");
     walk->before += size;
     return 1;
 }
@@ -151,7 +151,7 @@ static int is_block_good(chain_walk *walk, uint64_t number)
     if (size < MF4_HEADER_SIZE || size > end - address)
         return bad(walk, MF4_BAD_DATA_BLOCK, "%s at %" PRIu64 " has a length of %" PRIu64 ", and the file ends at %" PRIu64,
                    id, address, size, end);
-    return is_as_declared(walk, number, address, size - MF4_HEADER_SIZE);
+    return is_as_declared(walk, number, id, address, size - MF4_HEADER_SIZE);
 }
 
 static int are_blocks_good(chain_walk *walk)

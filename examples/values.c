@@ -14,7 +14,8 @@ static size_t file_len;
 static uint64_t start, size; /* where the chain of records starts; the bytes of a record */
 static mf4_group group;
 static mf4_channel channels[MOST_CHANNELS];
-static uint8_t record[MF4_MAX_RECORD_SIZE], payload[MF4_MAX_RECORD_SIZE], text[2 * MF4_MAX_RECORD_SIZE];
+static uint8_t record[MF4_MAX_RECORD_SIZE], payload[MF4_MAX_RECORD_SIZE];
+static uint8_t text[2 * MF4_MAX_RECORD_SIZE]; /* mf4_text_room of either */
 
 static void stop_if(int is_wrong, const char *why)
 {

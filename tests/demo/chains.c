@@ -10,9 +10,10 @@
 static void change_lists(void)
 {
     const uint64_t first = block("##DL", 0), second = block("##DL", 1);
-    changed(block("##DT", 0) + 8, 24 + 54, 8, 1, " 54 bytes of data, and ##DL at 1088 declares 55 for it\n");
-    changed(block("##DT", 3) + 8, 24 + 54, 8, 1, "refused (13)");
-    changed(block("##DT", 4) + 8, 24 + 54, 8, 1, "refused (13)");
+    changed(block("##DT", 0) + 8, 24 + 54, 8, 1, ": ##DT at 640 has 54 bytes of data, and ##DL at 1088 declares 55 for it\n");
+    changed(block("##DT", 3) + 8, 24 + 54, 8, 1, ": ##DT at 880 has 54 bytes of data, and ##DL at 1088 declares 55 for it\n");
+    changed(block("##DT", 4) + 8, 24 + 54, 8, 1, ": ##DT at 960 has 54 bytes of data, and ##DL at 1168 declares 55 for it\n");
+    changed(block("##DT", 5) + 8, 24 + 56, 8, 1, " has 56 bytes of data, and ##DL at 1168 declares 55 at most\n");
     changed(block("##DT", 5) + 8, 24 + 19, 8, 0, "294 bytes, 6 records of 48 and a rest of 6 that is none\n");
     changed(second + 56, 56, 8, 1, " declares blocks of 56 bytes, and the first list, at 1088, of 55\n");
     changed(second + 48, 0, 1, 1, " has a length of 64, and its fields take 72\n");
