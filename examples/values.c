@@ -100,7 +100,7 @@ static void print_channel(uint64_t k, mf4_channel c)
         printf(" (maximum length: not read)");
     else if (c.channel_type == MF4_CHANNEL_VIRTUAL || c.channel_type == MF4_CHANNEL_VIRTUAL_MASTER)
         printf(" %" PRIu64, k); /* no field in the record: the value is the record's number */
-    else if (c.channel_type == MF4_CHANNEL_VARIABLE_LENGTH && c.data_addr != 0) {
+    else if (c.channel_type == MF4_CHANNEL_VARIABLE_LENGTH) {
         mf4_payload_reply p = mf4_record_payload(file, file_len, start, k, size, group, c, record, sizeof record,
                                                  payload, sizeof payload);
         mf4_valid_value_reply v = { p.reply, p.told, p.kind, p.is_valid, p.number, p.at, p.length };
