@@ -56,18 +56,13 @@ static int has_one_length(const mf4_list_reply *list)
     return (list->flags & MF4_LIST_EQUAL_LENGTH) != 0;
 }
 
-/* All lists of a chain have offsets, or all have one length and one count, though the last may count fewer. */
-static int is_as_the_first(chain_walk *walk)
+/* All lists of one length declare the same, and the same count, though the last may count fewer. */
+static int has_the_length_of_the_first(chain_walk *walk)
 {
     const uint64_t at = walk->at, first_at = walk->first_at;
     const uint64_t length = number_in_list(walk, at, walk->list.rest_at);
     const uint64_t first_length = number_in_list(walk, first_at, walk->first.rest_at);
     const uint32_t count = walk->list.data_block_count, first_count = walk->first.data_block_count;
-    if (has_one_length(&walk->list) != has_one_length(&walk->first))
-        return bad(walk, MF4_UNTRUE_DECLARATION, "##DL at %" PRIu64 " has %s, and the first list, at %" PRIu64 ", has not",
-                   at, has_one_length(&walk->list) ? "one length" : "offsets", first_at);
-    if (!has_one_length(&walk->list))
-        return 1;
     if (length != first_length)
         return bad(walk, MF4_UNTRUE_DECLARATION, "##DL at %" PRIu64 " declares blocks of %" PRIu64 " bytes, and the first "
                    "list, at %" PRIu64 ", of %" PRIu64, at, length, first_at, first_length);
@@ -75,6 +70,15 @@ static int is_as_the_first(chain_walk *walk)
         return bad(walk, MF4_UNTRUE_DECLARATION, "##DL at %" PRIu64 " counts %" PRIu32 " blocks, and the first list, at %"
                    PRIu64 ", %" PRIu32 "; only the last list may count fewer", at, count, first_at, first_count);
     return 1;
+}
+
+/* All lists of a chain have offsets, or all have one length. */
+static int is_as_the_first(chain_walk *walk)
+{
+    if (has_one_length(&walk->list) != has_one_length(&walk->first))
+        return bad(walk, MF4_UNTRUE_DECLARATION, "##DL at %" PRIu64 " has %s, and the first list, at %" PRIu64 ", has not",
+                   walk->at, has_one_length(&walk->list) ? "one length" : "offsets", walk->first_at);
+    return !has_one_length(&walk->list) || has_the_length_of_the_first(walk);
 }
 
 /* What a list says of itself. */

@@ -25,20 +25,25 @@ int mdf_complain(const mdf_file *file)
     return 0;
 }
 
-/* Reads to the end, so that a pipe is as good as a file. */
+static int make_room(mdf_file *file, size_t room)
+{
+    uint8_t *bytes = realloc(file->bytes, room);
+    if (bytes != NULL)
+        file->bytes = bytes;
+    return bytes != NULL;
+}
+
+/* Reads to the end, so that a pipe is as good as a file; then no room is left behind it, and a checker sees who reads there. */
 static int read_all(mdf_file *file, FILE *in)
 {
     size_t room = 0;
     do {
-        uint8_t *bytes;
         room = 2 * room + FIRST_ROOM;
-        bytes = realloc(file->bytes, room);
-        if (bytes == NULL)
+        if (!make_room(file, room))
             return 0;
-        file->bytes = bytes;
-        file->length += fread(bytes + file->length, 1, room - file->length, in);
+        file->length += fread(file->bytes + file->length, 1, room - file->length, in);
     } while (file->length == room);
-    return !ferror(in);
+    return !ferror(in) && make_room(file, file->length > 0 ? file->length : 1);
 }
 
 int mdf_copy(mdf_file *file, const char *path)

@@ -109,6 +109,19 @@ static void add_lists_with_offsets(void)
     must_say(&bad, "an untrue offset", 1, " begins at byte 55, and ##DL at ");
 }
 
+/* A list without blocks at the log's very end, so that its offsets would stand behind it; the next one declares a length. */
+static void add_empty_list(void)
+{
+    const uint64_t list = behind();
+    bad = good;
+    bad.length = list + 40;
+    put(link_at("##DG", 0, 2), list, 8);
+    add_header(list, "##DL", 40, 1);
+    put(list + 24, block("##DL", 0), 8);
+    put(list + 32, 0, 8);
+    must_say(&bad, "a list without blocks", 1, ": ##DL at 1088 has one length, and the first list, at ");
+}
+
 void add_blocks(void)
 {
     lengthen_name();
@@ -117,4 +130,5 @@ void add_blocks(void)
     add_group_behind_unsorted();
     add_single_payload();
     add_lists_with_offsets();
+    add_empty_list();
 }

@@ -7,7 +7,6 @@ import os
 import struct
 import sys
 
-sys.dont_write_bytecode = True
 import legal
 
 MAX_LENGTH, VIRTUAL = 5, 6
