@@ -19,8 +19,8 @@ void print_cell(const char *text, int width, int is_right);
 /* A double with the digits that bring it back; where it comes from 32 bits, those that bring these back. */
 void spell_double(double value, int is_single, char cell[CELL_ROOM]);
 
-/* The converted value of a channel in a record, or why there is none; of a refusal that is the same in every record, and so is
- * told elsewhere, the number alone. */
+/* The converted value of a channel in a record, or why there is none. Of a refusal that is the same in every record, the
+ * number alone: the rest is told with the channel. */
 void spell_value(mdf_record *record, const mdf_channel *channel, char cell[CELL_ROOM]);
 
 #endif

@@ -33,7 +33,8 @@ static int make_room(mdf_file *file, size_t room)
     return bytes != NULL;
 }
 
-/* Reads to the end, so that a pipe is as good as a file; then no room is left behind it, and a checker sees who reads there. */
+/* Reads to the end, so that a pipe is as good as a file. Then no room is left behind it, so that a checker sees who reads
+ * there. */
 static int read_all(mdf_file *file, FILE *in)
 {
     size_t room = 0;

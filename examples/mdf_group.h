@@ -1,5 +1,6 @@
 /*
- * The way through an MDF4 file from its first byte to its groups. A function that gives 0 has said in the file's `trouble` why.
+ * The way through an MDF4 file from its first byte to its groups. A function that gives 0 has said in the file's `trouble`
+ * why.
  */
 #ifndef MDF_GROUP_H
 #define MDF_GROUP_H

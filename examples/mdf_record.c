@@ -69,8 +69,8 @@ mdf_value mdf_read_value(mdf_record *record, const mf4_channel *channel)
     }
 }
 
-/* Of one record alone are a payload behind the data, one that there is no memory for, and one with too few bytes for a number,
- * which is refused as a field outside its record is, but tells no more bytes than the record has. */
+/* Of one record alone are a payload behind the data, one that there is no memory for, and one with too few bytes for a
+ * number, which is refused as a field outside its record is, but tells no more bytes than the record has. */
 int mdf_is_in_every_record(const mdf_group *group, uint32_t reply, uint64_t told)
 {
     return reply != MF4_ANSWER && reply != MF4_PAYLOAD_OUTSIDE && reply != MF4_NO_ROOM

@@ -28,7 +28,7 @@ mf4_done_reply mdf_read_record(mdf_record *record);
 /* As mf4_record_payload; it refuses with 6 only where there is no memory for the payload. */
 mf4_payload_reply mdf_read_payload(mdf_record *record, mf4_channel channel);
 
-/* The raw value of a channel in a record that was read. Where the library is not to be asked for one, an answer of no kind. */
+/* The raw value of a channel in a record that was read. Of a channel that is not read here, an answer of no kind. */
 mdf_value mdf_read_value(mdf_record *record, const mf4_channel *channel);
 
 /* Whether a value is refused in every record, with what was told: a field always is, a payload if it is not its own fault. */

@@ -73,15 +73,15 @@ static void lead_anywhere(uint64_t at, int is_followed)
     }
 }
 
-/* For each link of a block: f where it is followed, d where it is that of the data, c where it is looked at, a dot where it is
- * none of these. */
+/* For each link of a block: f where it is followed, d where it leads to the data, c where it is looked at, else a dot. */
 static void lead_astray(const char *id, int number, const char *links)
 {
     int i;
     for (i = 0; links[i] != '\0'; i++) {
         const uint64_t at = link_at(id, number, i);
         if (links[i] == 'f')
-            lead_nowhere(at, " at %" PRIu64 ": no block stands there", " at 8: 4.10 stands there", " at 64: ##HD stands there");
+            lead_nowhere(at, " at %" PRIu64 ": no block stands there", " at 8: 4.10 stands there",
+                         " at 64: ##HD stands there");
         if (links[i] == 'd')
             lead_nowhere(at, ": ##DL was expected at %" PRIu64 ", and the file ends at ",
                          "refused (3): the block has another id: 4.10 stands at 8, and ##DL or ##DT was expected\n",

@@ -20,10 +20,11 @@ static void change_lists(void)
     put(second + 8, 72, 8);
     must_say(&bad, "offsets behind one length", 1, " has offsets, and the first list, at 1088, has not\n");
     changed(first + 24, first, 8, 1, "refused (8): ");
-    changed(second + 24, first, 8, 1, " counts 2 blocks, and the first list, at 1088, 4; only the last list may count fewer\n");
+    changed(second + 24, first, 8, 1,
+            " counts 2 blocks, and the first list, at 1088, 4; only the last list may count fewer\n");
     changed(first + 24, 0, 8, 0, "220 bytes, 4 records of 48 and a rest of 28 that is none; the file counts 6 records\n");
-    changed(first + 68, 5, 4, 1, "refused (10): a list's count or block length disagrees with its links: ##DL at 1088 counts 5 "
-            "blocks and links 4\n");
+    changed(first + 68, 5, 4, 1, "refused (10): a list's count or block length disagrees with its links: "
+            "##DL at 1088 counts 5 blocks and links 4\n");
     changed(first + 8, 79, 8, 1, "##DL at 1088 has a length of 79, and its fields take 80\n");
     changed(first + 16, 0, 8, 1, "refused (4): the data list has no links: ##DL at 1088 has none");
     changed(first + 16, 1000, 8, 1, "refused (2): the block has too few bytes: ##DL at 1088 needs ");
@@ -42,7 +43,8 @@ static void change_blocks(void)
     changed(data + 16, 1, 8, 1, " has 1 links, and none was expected\n");
     changed(list + 40, 0, 8, 1, ": data link 1 of ##DL at 1088 is 0, and ##DT was expected there; ");
     changed(list + 40, good.length, 8, 1, "refused (11): a link leads to no block: data link 1 of ##DL at 1088 is ");
-    changed(list + 2, 'D' | 'Z' << 8, 2, 1, "refused (3): the block has another id: ##DZ at 1088 is compressed data, " INFLATE);
+    changed(list + 2, 'D' | 'Z' << 8, 2, 1, "refused (3): the block has another id: ##DZ at 1088 is compressed data, "
+            INFLATE);
     changed(list + 2, 'H' | 'L' << 8, 2, 1, "id: ##HL at 1088 is the list of compressed blocks, " INFLATE);
     must_hold(times_said("8 channels\n") == 1 && times_said("  byte 31; ") == 1, "channels without data", 0);
 }

@@ -8,11 +8,12 @@
 static void change_types(void)
 {
     const uint64_t serial = fields_of(SERIAL), hours = fields_of(HOURS);
-    changed(serial, MF4_CHANNEL_MAX_LENGTH, 1, 0, "byte 8; not read: of maximum length, and how much of it counts is told by ");
+    changed(serial, MF4_CHANNEL_MAX_LENGTH, 1, 0, "byte 8; not read: of maximum length, and how much of it counts ");
     must_hold(times_said("  not read  ") == 6 && times_said("PX") == 0, "a text of maximum length", 0);
     changed(hours, MF4_CHANNEL_VIRTUAL, 1, 0, "no field: virtual, its raw value is the record's number\n");
     must_hold(times_said("  PX2                        1  ") == 1, "a virtual channel", 0);
-    changed(hours, MF4_CHANNEL_VIRTUAL_MASTER, 1, 0, "no field: virtual, its raw value is the record's number; the master: of no kind\n");
+    changed(hours, MF4_CHANNEL_VIRTUAL_MASTER, 1, 0,
+            "no field: virtual, its raw value is the record's number; the master: of no kind\n");
     changed(fields_of(TIME) + 1, 2, 1, 0, "byte 0; the master: angle\n");
     changed(hours, MF4_CHANNEL_SYNC, 1, 0, "byte 14, bit 4\n");
     changed(hours, 7, 1, 0, "byte 14, bit 4; not read: channel type 7 is unknown here\n");
@@ -43,8 +44,8 @@ static void change_conversions(void)
     must_say(&bad, "the conversion's unit", 0, "coolant [h] ");
 }
 
-/* PX1 in records 0 and 2, PX2 in 1 and 4. The records stand from byte 24 of a data block on, the serial from byte 8, the hours
- * in sixteenths from byte 14. */
+/* PX1 in records 0 and 2, PX2 in 1 and 4. Record 0 stands from byte 24 of the first data block on, its serial from byte 8, its
+ * hours in sixteenths from byte 14. */
 static void change_service(void)
 {
     const uint64_t serial = block("##DT", 0) + 24 + 8, hours = serial + 6;
