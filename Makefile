@@ -31,10 +31,11 @@ SOURCES := crates.txt $(shell find crates -name '*.rt' -o -name '*.antt')
 
 .PHONY: demo test quick archive shared install clean demotest ctest installed check compare fuzz bench fmt kit tools
 
-# Writes a small pump log and reads it with the library.
-demo: build/make_log build/loader
+# Writes a small pump log, reads it with the library, and shows what the library says of it damaged.
+demo: build/make_log build/loader build/refusals
 	@$(RUN) build/make_log build/pump.mf4
 	@$(RUN) build/loader build/pump.mf4
+	@$(RUN) build/refusals build/pump.mf4
 
 # The gate: everything is proved from nothing, each wrong program is tried, each program is run; then the C side.
 test: kit
@@ -64,9 +65,14 @@ $(SHARED): build/libmf4.a | tools
 	@$(CC) -shared -nostdlib -Wl,-z,defs -Wl,-soname,$(SONAME) -Wl,--version-script,build/exports \
 	    -Wl,--whole-archive build/libmf4.a -o $@
 
-build/make_log: examples/make_log.c examples/mdf_write.c
-build/loader: examples/loader.c examples/listing.c examples/mdf_walk.c examples/mdf_file.c
-build/make_log build/loader: $(wildcard examples/*.h) include/mf4.h build/libmf4.a | tools
+# What reads a log, from its first byte to the values in its records, and lists its channels; tests/demo compiles it too.
+READER := $(wildcard examples/mdf_*.c) examples/cells.c examples/listing.c
+PROGRAMS := build/make_log build/loader build/refusals
+
+build/make_log: examples/make_log.c examples/pump_records.c examples/new_file.c
+build/loader: examples/loader.c examples/service.c examples/table.c $(READER)
+build/refusals: examples/refusals.c $(READER)
+$(PROGRAMS): $(wildcard examples/*.h) include/mf4.h build/libmf4.a | tools
 	@$(CC) $(C_FLAGS) -o $@ $(filter %.c,$^) build/libmf4.a
 
 # Header, archive, shared object, pkg-config file, licences and the list of changes.
@@ -85,9 +91,9 @@ clean:
 	@rm -rf build target
 	@find tests -name __pycache__ -prune -exec rm -r {} +
 
-# The example programs: the log is legal, the loader prints what it should, and ends in order on that log damaged anywhere.
-demotest: build/make_log build/loader
-	@CC=$(CC) tests/demo/run build/libmf4.a build/demo
+# The example programs: the log is legal, they print what they should, and the loader ends in order on that log damaged anywhere.
+demotest: $(PROGRAMS)
+	@CC=$(CC) READER="$(READER)" tests/demo/run build/libmf4.a build/demo
 
 # The header, and every call at its limits, between unreadable pages and under the address and undefined-behaviour checkers.
 ctest: archive | tools

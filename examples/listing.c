@@ -1,35 +1,31 @@
 #include <inttypes.h>
 #include <stdio.h>
+#include <stdlib.h>
 #include <string.h>
+#include <time.h>
 
+#include "cells.h"
 #include "listing.h"
+#include "mdf_blame.h"
 
-enum {
-    MOST_TEXT_WIDTH = 24,
-    PAYLOAD_WIDTH = 16,
-    TYPE_ROOM = 16,
-    HEADING_ROOM = 2 * MDF_TEXT_ROOM + 4,
-    CELL_ROOM = 2 * MF4_MAX_RECORD_SIZE + 1 /* mf4_text_room of a whole record, and a NUL */
-};
+enum { TYPE_ROOM = 16 };
 
-/* How many columns of a terminal a UTF-8 text takes: its bytes, but for those that go on with a character. */
-static int columns_of(const char *text)
+#define SECOND 1000000000u /* in nanoseconds */
+
+void print_start(const mdf_start *start)
 {
-    int columns = 0;
-    for (; *text != '\0'; text++)
-        columns += ((unsigned char)*text & 0xC0) != 0x80;
-    return columns;
-}
-
-static int larger(int a, int b)
-{
-    return a > b ? a : b;
-}
-
-static void print_cell(const char *text, int width, int is_right)
-{
-    const int gap = larger(width - columns_of(text), 0);
-    printf("  %*s%s%*s", is_right ? gap : 0, "", text, is_right ? 0 : gap, "");
+    const time_t seconds = (time_t)(start->nanoseconds / SECOND);
+    const unsigned nanoseconds = (unsigned)(start->nanoseconds % SECOND);
+    const int minutes = abs(start->zone_minutes);
+    char moment[32];
+    strftime(moment, sizeof moment, "%Y-%m-%d %H:%M:%S", gmtime(&seconds));
+    printf("MDF %u.%02u, started %s", start->version / 100, start->version % 100, moment);
+    if (nanoseconds != 0)
+        printf(".%09u", nanoseconds);
+    printf(start->is_local_time ? " local time" : " UTC");
+    if (start->has_zone)
+        printf(" (local time was UTC%c%02d:%02d)", start->zone_minutes < 0 ? '-' : '+', minutes / 60, minutes % 60);
+    printf("\n");
 }
 
 /* ---- channels --------------------------------------------------------------------------------------------------- */
@@ -47,39 +43,62 @@ static const char *type_name(uint8_t data_type, char room[TYPE_ROOM])
     return room;
 }
 
-/* The values of such a channel are payloads in other blocks, and its field in the record is a position there. */
-static int has_payloads(const mf4_channel *channel)
+static const char *sync_name(uint8_t sync_type)
 {
-    return channel->channel_type == MF4_CHANNEL_VARIABLE_LENGTH && channel->data != 0;
+    static const char *const names[] = { "of no kind", "time", "angle", "distance", "index" };
+    return sync_type < sizeof names / sizeof names[0] ? names[sync_type] : "of an unknown kind";
 }
 
-/* No conversion is applied here; where there is one, that is said, since the unit would mislead. */
-static void print_place(const mf4_channel_block *block)
+static void print_place(const mf4_channel *channel)
 {
-    printf("  byte %" PRIu32, block->channel.byte_offset);
-    if (block->channel.bit_offset != 0)
-        printf(", bit %u", block->channel.bit_offset);
-    if ((block->channel.flags & MF4_CHANNEL_ALL_INVALID) != 0)
+    const enum mdf_place place = mdf_place_of(channel);
+    if (place == MDF_VIRTUAL) {
+        printf("  no field: virtual, its raw value is the record's number");
+        return;
+    }
+    printf("  byte %" PRIu32, channel->byte_offset);
+    if (channel->bit_offset != 0)
+        printf(", bit %u", channel->bit_offset);
+    if (place == MDF_PAYLOAD)
+        printf("; a position in the payloads at %" PRIu64, channel->data_addr);
+    else if (place == MDF_NO_PAYLOAD)
+        printf("; not read: a position in payloads, but the link to them is 0");
+    else if (place == MDF_MAX_LENGTH)
+        printf("; not read: of maximum length, and how much of it counts is told by another channel");
+    else if (place == MDF_UNKNOWN)
+        printf("; not read: channel type %u is unknown here", channel->channel_type);
+}
+
+static void print_validity(const mf4_channel *channel)
+{
+    if ((channel->flags & MF4_CHANNEL_ALL_INVALID) != 0)
         printf("; all invalid");
-    else if ((block->channel.flags & MF4_CHANNEL_INVALIDATION_BIT) != 0)
-        printf("; invalid where invalidation bit %" PRIu32 " is set", block->channel.pos_invalidation_bit);
-    if (has_payloads(&block->channel))
-        printf("; a position in the payloads at %" PRIu64, block->channel.data);
-    if (block->conversion_addr != 0)
-        printf("; raw, its conversion is not applied");
-    printf("\n");
+    else if ((channel->flags & MF4_CHANNEL_INVALIDATION_BIT) != 0)
+        printf("; invalid where invalidation bit %" PRIu32 " is set", channel->pos_invalidation_bit);
 }
 
-mf4_value field_reply(const mdf_group *group, const mf4_channel *channel)
+static void print_conversion(const mdf_conversion *conversion)
 {
-    static const uint8_t any_record[MF4_MAX_RECORD_SIZE];
-    static const mf4_value nothing_said;
-    if (has_payloads(channel))
-        return nothing_said;
-    return mf4_decode_value(any_record, (size_t)group->record_size, group->record_id_size, *channel);
+    char offset[CELL_ROOM], factor[CELL_ROOM];
+    spell_double(conversion->offset, 0, offset);
+    spell_double(conversion->factor, 0, factor);
+    if (mdf_is_linear(conversion))
+        printf("; converted: %s + %s * raw", offset, factor);
+    else if (!mdf_is_applied(conversion))
+        printf("; raw: its conversion at %" PRIu64 " (%s) is not applied", conversion->address,
+               mdf_conversion_name(conversion->type));
 }
 
-void print_refusal(const mdf_group *group, mf4_value refused)
+/* A ##CA block makes an array of the channel; ##CN blocks are members of a structure. */
+static void print_composition(const mdf_file *file, uint64_t component)
+{
+    const uint32_t id = mdf_header_at(file, component).header.id;
+    if (component != 0)
+        printf("; its %s at %" PRIu64 " %s not read", id == MF4_ID_CA ? "array (##CA)" : "members", component,
+               id == MF4_ID_CA ? "is" : "are");
+}
+
+void print_refusal(const mdf_group *group, mf4_value_reply refused)
 {
     printf("refused (%" PRIu32 "): %s", refused.reply, mf4_reply_text(refused.reply));
     if (refused.told != 0)
@@ -87,160 +106,75 @@ void print_refusal(const mdf_group *group, mf4_value refused)
     printf("\n");
 }
 
-static void print_channel(const mdf_group *group, const mdf_channel *channel, int name, int type, int unit)
+/* Why the payloads are refused in every record, by what is said of the first. */
+static void print_trouble_of_payloads(mdf_file *file, const mdf_group *group, const mf4_channel *channel)
 {
-    const mf4_value reply = field_reply(group, &channel->block.channel);
-    char room[TYPE_ROOM];
-    print_cell(channel->name, name, 0);
-    print_cell(type_name(channel->block.channel.data_type, room), type, 0);
-    printf("  %4" PRIu32, channel->block.channel.bit_count);
-    print_cell(channel->unit, unit, 0);
-    print_place(&channel->block);
-    if (reply.reply != MF4_ANSWER) {
-        printf("    ");
-        print_refusal(group, reply);
-    }
-}
-
-void print_channels(const mdf_group *group, const mdf_channel *channels, size_t count)
-{
-    int name = columns_of("name"), type = columns_of("type"), unit = columns_of("unit");
-    char room[TYPE_ROOM];
-    size_t i;
-    for (i = 0; i < count; i++) {
-        name = larger(name, columns_of(channels[i].name));
-        type = larger(type, columns_of(type_name(channels[i].block.channel.data_type, room)));
-        unit = larger(unit, columns_of(channels[i].unit));
-    }
-    print_cell("name", name, 0);
-    print_cell("type", type, 0);
-    printf("  bits");
-    print_cell("unit", unit, 0);
-    printf("  place\n");
-    for (i = 0; i < count; i++)
-        print_channel(group, &channels[i], name, type, unit);
-}
-
-/* ---- values ----------------------------------------------------------------------------------------------------- */
-
-static int is_number(const mdf_channel *channel)
-{
-    return channel->block.channel.data_type <= MF4_FLOAT_BE;
-}
-
-static void spell_heading(const mdf_channel *channel, char heading[HEADING_ROOM])
-{
-    const char *unit = channel->block.conversion_addr != 0 ? "raw" : channel->unit;
-    if (unit[0] == '\0')
-        snprintf(heading, HEADING_ROOM, "%s", channel->name);
-    else
-        snprintf(heading, HEADING_ROOM, "%s [%s]", channel->name, unit);
-}
-
-/* Wide enough for the heading and for most values: the digits of an integer, six digits of a float, a short text. Where a
- * channel has payloads, its bits are those of a position. */
-static int width_of(const mdf_channel *channel)
-{
-    const uint32_t bits = has_payloads(&channel->block.channel) ? 8 * PAYLOAD_WIDTH : channel->block.channel.bit_count;
-    const uint8_t type = channel->block.channel.data_type;
-    char heading[HEADING_ROOM];
-    spell_heading(channel, heading);
-    if (type <= MF4_SIGNED_BE)
-        return larger(columns_of(heading), (int)(bits < 64 ? bits : 64) * 3 / 10 + 1 + (type >= MF4_SIGNED_LE));
-    if (is_number(channel))
-        return larger(columns_of(heading), columns_of("-1.23456e+78"));
-    return larger(columns_of(heading), (int)(bits / 8 < MOST_TEXT_WIDTH ? bits / 8 : MOST_TEXT_WIDTH));
-}
-
-/* No blanks stand behind a text that is the last in its line. */
-static void print_column(const mdf_channel *channels, size_t count, size_t place, const char *text)
-{
-    const int is_right = is_number(&channels[place]), is_last = place + 1 == count;
-    print_cell(text, is_last && !is_right ? 0 : width_of(&channels[place]), is_right);
-}
-
-/* A text without a character is told by a dash, and one that no line has room for by its size. */
-static void spell_text(uint8_t data_type, const uint8_t *bytes, const mf4_valid_value *value, char cell[CELL_ROOM])
-{
-    mf4_text text;
-    strcpy(cell, "-");
-    if (value->length == 0)
+    mdf_record first = { .file = file, .group = group };
+    const mf4_payload_reply payload = mdf_read_payload(&first, *channel);
+    const mf4_value_reply refused = { .reply = payload.reply, .told = payload.told };
+    free(first.payload);
+    if (!mdf_is_in_every_record(group, refused.reply, refused.told))
         return;
-    text = mf4_text_by_type(data_type, bytes + value->at, (size_t)value->length, (uint8_t *)cell, CELL_ROOM - 1);
-    if (text.reply != MF4_ANSWER)
-        snprintf(cell, CELL_ROOM, "(%" PRIu64 " bytes)", text.told);
-    else
-        cell[text.count] = '\0';
-    mdf_make_printable(cell);
-}
-
-/* Why a field is refused stands below its channel; why a payload is may differ between records, and is said here. */
-static void spell_refusal(const mf4_channel *channel, uint32_t reply, char cell[CELL_ROOM])
-{
-    if (has_payloads(channel))
-        snprintf(cell, CELL_ROOM, "refused (%" PRIu32 "): %s", reply, mf4_reply_text(reply));
-    else
-        snprintf(cell, CELL_ROOM, "refused (%" PRIu32 ")", reply);
-}
-
-/* A value is looked at only where there is one, and it is valid. A text ends at its stop: the leftovers are left out. */
-static void spell_value(const mf4_channel *channel, const uint8_t *bytes, const mf4_valid_value *value, char cell[CELL_ROOM])
-{
-    if (value->reply != MF4_ANSWER)
-        spell_refusal(channel, value->reply, cell);
-    else if (!value->is_valid)
-        strcpy(cell, "invalid");
-    else if (value->kind == MF4_KIND_UNSIGNED)
-        snprintf(cell, CELL_ROOM, "%" PRIu64, value->number);
-    else if (value->kind == MF4_KIND_SIGNED)
-        snprintf(cell, CELL_ROOM, "%" PRId64, mf4_signed_of(value->number));
-    else if (value->kind == MF4_KIND_DOUBLE)
-        snprintf(cell, CELL_ROOM, "%g", mf4_double_of(value->number));
-    else if (value->kind == MF4_KIND_TEXT)
-        spell_text(channel->data_type, bytes, value, cell);
-    else if (value->kind == MF4_KIND_UNKNOWN)
-        strcpy(cell, "?");
-    else
-        snprintf(cell, CELL_ROOM, "%" PRIu64 " bytes", value->length);
-}
-
-static void spell_field(const mdf_record *record, const mf4_channel *channel, char cell[CELL_ROOM])
-{
-    const mdf_group *group = record->group;
-    const mf4_valid_value value = mf4_decode_valid_value(record->bytes, (size_t)group->record_size, group->record_id_size,
-                                                         group->data_bytes, *channel);
-    spell_value(channel, record->bytes, &value, cell);
-}
-
-/* A payload's value is told as a field's is, and so it is spelled by the same rules. */
-static void spell_payload(mdf_record *record, const mf4_channel *channel, char cell[CELL_ROOM])
-{
-    const mf4_payload read = mdf_read_payload(record, *channel);
-    const mf4_valid_value value = { .reply = read.reply, .kind = read.kind, .number = read.number, .at = read.at,
-                                    .length = read.length, .is_valid = read.is_valid };
-    spell_value(channel, record->payload, &value, cell);
-}
-
-void print_heading(const mdf_channel *channels, size_t count)
-{
-    char heading[HEADING_ROOM];
-    size_t i;
-    for (i = 0; i < count; i++) {
-        spell_heading(&channels[i], heading);
-        print_column(channels, count, i, heading);
+    if (mdf_is_of_chain(refused.reply)) {
+        mdf_blame_chain(file, "payloads", channel->data_addr, MF4_ID_SD, refused.reply);
+        printf("    %s\n", file->trouble);
+    } else {
+        printf("    ");
+        print_refusal(group, refused);
     }
 }
 
-void print_values(mdf_record *record, const mdf_channel *channels, size_t count)
+/* What is refused in every record is said once. */
+static void print_trouble(mdf_file *file, const mdf_group *group, const mf4_channel *channel, uint64_t records)
 {
-    char cell[CELL_ROOM];
+    const mf4_value_reply field = mdf_field_reply(group, channel);
+    if (mdf_place_of(channel) == MDF_PAYLOAD && records > 0)
+        print_trouble_of_payloads(file, group, channel);
+    if (field.reply != MF4_ANSWER) {
+        printf("    ");
+        print_refusal(group, field);
+    }
+}
+
+/* The widths of the columns that differ. */
+typedef struct channel_widths {
+    int name, type, unit;
+} channel_widths;
+
+static void print_channel(const mdf_file *file, const mdf_channel *channel, channel_widths widths)
+{
+    const mf4_channel_block *block = &channel->block;
+    char room[TYPE_ROOM];
+    print_cell(channel->name, widths.name, 0);
+    print_cell(type_name(block->channel.data_type, room), widths.type, 0);
+    printf("  %4" PRIu32, block->channel.bit_count);
+    print_cell(channel->unit, widths.unit, 0);
+    print_place(&block->channel);
+    if (mdf_is_master(&block->channel))
+        printf("; the master: %s", sync_name(block->sync_type));
+    print_validity(&block->channel);
+    print_conversion(&channel->conversion);
+    print_composition(file, block->component_addr);
+    printf("\n");
+}
+
+void print_channels(mdf_file *file, const mdf_group *group, const mdf_channel *channels, size_t count, uint64_t records)
+{
+    channel_widths widths = { columns_of("name"), columns_of("type"), columns_of("unit") };
+    char room[TYPE_ROOM];
     size_t i;
     for (i = 0; i < count; i++) {
-        const mf4_channel *channel = &channels[i].block.channel;
-        if (has_payloads(channel))
-            spell_payload(record, channel, cell);
-        else
-            spell_field(record, channel, cell);
-        print_column(channels, count, i, cell);
+        widths.name = larger(widths.name, columns_of(channels[i].name));
+        widths.type = larger(widths.type, columns_of(type_name(channels[i].described.data_type, room)));
+        widths.unit = larger(widths.unit, columns_of(channels[i].unit));
+    }
+    print_cell("name", widths.name, 0);
+    print_cell("type", widths.type, 0);
+    printf("  bits");
+    print_cell("unit", widths.unit, 0);
+    printf("  place\n");
+    for (i = 0; i < count; i++) {
+        print_channel(file, &channels[i], widths);
+        print_trouble(file, group, &channels[i].described, records);
     }
 }

@@ -1,25 +1,18 @@
 /*
- * What the loader prints of channels and records: tables, whose columns the channels themselves tell.
+ * What the loader prints of a file and of its channels.
  */
 #ifndef LISTING_H
 #define LISTING_H
 
-#include "mdf_walk.h"
+#include "mdf_record.h"
 
-/* A line for each channel: what the file tells of it; and below it, where its field is refused, why. */
-void print_channels(const mdf_group *group, const mdf_channel *channels, size_t count);
+/* The version, and when the recording began. */
+void print_start(const mdf_start *start);
 
-/* What the library says of a field in every record of the group: why it is refused, or of which kind it is. Both depend on
- * the description and the record's size alone. Of a channel with payloads: an answer of no kind. */
-mf4_value field_reply(const mdf_group *group, const mf4_channel *channel);
+/* A line for each channel: what the file tells of it; and below it, where its values are refused in every record, why. */
+void print_channels(mdf_file *file, const mdf_group *group, const mdf_channel *channels, size_t count, uint64_t records);
 
 /* Why a field is refused, up to the line's end, with the bytes that it needs where they are told. */
-void print_refusal(const mdf_group *group, mf4_value refused);
-
-/* The names and units above the values. */
-void print_heading(const mdf_channel *channels, size_t count);
-
-/* The values of a record, with their payloads, without the line's end. */
-void print_values(mdf_record *record, const mdf_channel *channels, size_t count);
+void print_refusal(const mdf_group *group, mf4_value_reply refused);
 
 #endif

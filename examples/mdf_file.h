@@ -8,9 +8,10 @@
 #include "mf4.h"
 
 typedef struct mdf_file {
-    uint8_t *bytes;
+    const char *path;
+    uint8_t *bytes; /* to be freed */
     size_t length;
-    char trouble[160];
+    char trouble[512];
 } mdf_file;
 
 /* A block that stands whole in the file. */
@@ -23,10 +24,16 @@ typedef struct mdf_block {
 /* Sets `trouble` as printf would, and gives 0. */
 int mdf_trouble(mdf_file *file, const char *format, ...);
 
-/* The file is copied: what the library reads must not change meanwhile. The bytes are to be freed. */
+/* Prints `trouble` behind the file's name, where messages go, and gives 0. */
+int mdf_complain(const mdf_file *file);
+
+/* The file is copied: what the library reads must not change meanwhile. */
 int mdf_copy(mdf_file *file, const char *path);
 
-int mdf_read_header(mdf_file *file, const char *what, uint64_t address, mf4_block_header *header);
+/* The header of what stands at an address, or a refusal where the file ends before. */
+mf4_header_reply mdf_header_at(const mdf_file *file, uint64_t address);
+
+int mdf_read_header(mdf_file *file, const char *what, uint64_t address, mf4_header *header);
 
 /* The block at an address, if it is of that kind, stands whole in the file and has so many links and bytes of fields. */
 int mdf_find_block(mdf_file *file, const char *what, uint64_t address, uint32_t id, uint64_t links, uint64_t fields,

@@ -4,14 +4,15 @@
 
 Every block stands at a multiple of 8, has the links and the length of its kind, and follows the one before it with zeros
 between; every link leads to a block of the kind that it should; what the standard demands is there; and the records are, byte by
-byte, those that the file RECORDS has in hex, one to a line. Exit status: 0 if so, 1 if not.
+byte, those that the file RECORDS has in hex, one to a line. Exit status: 0 if so, 1 if not, with what a legal log would have.
 """
 
 import struct
 import sys
 import xml.etree.ElementTree
 
-# Of each kind: what its links may lead to, with a + where there must be something, and the bytes of its fields.
+# Of each kind: what its links may lead to, with a + where there must be something, and the bytes of its fields. The links of
+# a list and the fields of a conversion depend on what they count.
 TEXT = "TX MD"
 KINDS = {
     "HD": (["DG", "+FH", "CH", "AT", "EV", "MD"], 32),
@@ -19,10 +20,16 @@ KINDS = {
     "DG": (["DG", "CG", "DT DL HL DZ", TEXT], 8),
     "CG": (["CG", "CN", "TX", "SI", "SR", TEXT], 32),
     "CN": (["CN", "CN CA", "+TX", "SI", "CC", "SD DL HL CG DZ", TEXT, TEXT], 72),
+    "CC": (["TX", TEXT, TEXT, "CC"], 24),
 }
 # Where in its fields a kind has reserved bytes, which are 0.
 RESERVED = {"HD": slice(15, 16), "FH": slice(13, 16), "DG": slice(1, 8), "CG": slice(20, 24), "CN": slice(21, 22),
             "DL": slice(1, 4)}
+# Channel types and sync types that the log has: a master is one of time, and others are none.
+MASTER, VARIABLE_LENGTH = 2, 1
+SYNC_TYPES = {0: 0, VARIABLE_LENGTH: 0, MASTER: 1}
+# The type of a linear conversion, and how many values it has.
+LINEAR = 1, 2
 # The data types of texts that the log has, and their encodings.
 ENCODINGS = {6: "latin-1", 7: "utf-8"}
 NAMESPACE = "{http://www.asam.net/mdf/v4}"
@@ -65,13 +72,19 @@ class Log:
 
     def targets(self, address, kind, length, count):
         if kind == "DL":
-            return ["DL"] + ["DT SD RD DZ"] * (count - 1)
+            return ["DL"] + ["+DT SD RD DZ"] * (count - 1)
         targets, fields = KINDS.get(kind, ([], length - 24))
+        if kind == "CC":
+            fields += 8 * self.number(address + 24 + 8 * count + 6, 2)
         demand(count == len(targets) and length == 24 + 8 * count + fields, f"the size of a {kind} block at {address}")
         return targets
 
     def of_kind(self, kind):
         return [block for _, block in sorted(self.blocks.items()) if block[0] == kind]
+
+    def only(self, kind):
+        demand(len(self.of_kind(kind)) == 1, f"one {kind} block")
+        return self.of_kind(kind)[0]
 
 
 def check_identification(log):
@@ -103,13 +116,23 @@ def check_texts(log):
 
 
 def check_channels(log):
-    data_bytes, invalidation_bytes = struct.unpack_from("<II", log.of_kind("CG")[0][3], 24)
+    data_bytes, invalidation_bytes = struct.unpack_from("<II", log.only("CG")[3], 24)
     for _, _, links, fields in log.of_kind("CN"):
-        kind, _, data_type, bit, byte, bits, flags, invalid = struct.unpack_from("<BBBBIIII", fields)
+        kind, sync, data_type, bit, byte, bits, flags, invalid = struct.unpack_from("<BBBBIIII", fields)
+        demand(SYNC_TYPES.get(kind) == sync, "a channel's type, with its sync type")
         demand(data_type <= 16 and bit < 8 and 8 * byte + bit + bits <= 8 * data_bytes, "a channel's place")
-        demand((kind, links[5]) == (0, 0) or kind == 1 and links[5] and (bit, bits) == (0, 64), "a value or a position")
+        demand(bool(links[5]) == (kind == VARIABLE_LENGTH), "payloads for channels of any length alone")
+        demand(kind != VARIABLE_LENGTH or (bit, bits) == (0, 64), "a position of 64 bits")
         demand(flags in (0, 2) and (flags == 0 or invalid < 8 * invalidation_bytes), "an invalidation bit")
         demand(not any(fields[22:]), "no attachments and no limits")
+    demand([block[3][0] for block in log.of_kind("CN")].count(MASTER) == 1, "one master")
+
+
+def check_conversions(log):
+    for _, _, _, fields in log.of_kind("CC"):
+        kind, precision, flags, references, count, *limits = struct.unpack_from("<BBHHHdd", fields)
+        demand((kind, count) == LINEAR, "a linear conversion, which has two values")
+        demand((precision, flags, references, limits) == (0, 0, 0, [0, 0]), "a conversion of values alone")
 
 
 def lists_of(log, address):
@@ -157,9 +180,9 @@ def joined_data(log, address, kind):
 
 def records_of(log):
     """The whole records, which are as many as are counted."""
-    cycles, _, data_bytes, invalidation_bytes = struct.unpack_from("<QQII", log.of_kind("CG")[0][3], 8)
-    size, data = data_bytes + invalidation_bytes, joined_data(log, log.of_kind("DG")[0][2][2], "DT")
-    demand(cycles == len(data) // size, f"the count of records, not {cycles}")
+    cycles, _, data_bytes, invalidation_bytes = struct.unpack_from("<QQII", log.only("CG")[3], 8)
+    size, data = data_bytes + invalidation_bytes, joined_data(log, log.only("DG")[2][2], "DT")
+    demand(size > 0 and cycles == len(data) // size, f"the count of records, not {cycles}")
     return [data[number * size:][:size] for number in range(cycles)]
 
 
@@ -179,7 +202,7 @@ def check_data(log):
     records = records_of(log)
     for _, _, links, fields in log.of_kind("CN"):
         kind, _, data_type, _, byte = struct.unpack_from("<BBBBI", fields)
-        if kind == 1:
+        if kind == VARIABLE_LENGTH:
             demand(data_type in ENCODINGS, "a text of any length")
             positions = [int.from_bytes(record[byte:byte + 8], "little") for record in records]
             check_payloads(joined_data(log, links[5], "SD"), positions, ENCODINGS[data_type])
@@ -199,11 +222,11 @@ def main():
     try:
         check_identification(log)
         log.visit(64, "HD")
-        for check in (check_places, check_texts, check_channels, check_data):
+        for check in (check_places, check_texts, check_channels, check_conversions, check_data):
             check(log)
         check_records(log, expected)
     except (Illegal, UnicodeDecodeError, xml.etree.ElementTree.ParseError) as problem:
-        print(f"demo: FAILED: the log is no legal file, which would have {problem}")
+        print(f"demo: FAILED: the log is no legal one, which would have {problem}")
         return 1
     print(f"demo: the log is legal by the tables of MDF 4.1: {len(log.blocks)} blocks, all at multiples of 8")
     return 0

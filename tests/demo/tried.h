@@ -25,10 +25,11 @@ void begin_tries(const char *path, const char *folder, log_bytes *good);
 /* Ends the test with a report if something does not hold. */
 void must_hold(int holds, const char *what, uint64_t where);
 
-/* Runs the loader: it must end with 0 and no message, or with 1 and one line of message. Gives its status. */
+/* Runs the loader: it must end with 0 and no message, or with 1 and lines of messages, each of which names the log. Gives its
+ * status. */
 int try_log(const log_bytes *log, const char *what, uint64_t where);
 
-/* Runs the loader: it must end with that status, and print those words. */
+/* Runs the loader: it must end with that status, and print those words, with status 1 in a message. */
 void must_say(const log_bytes *log, const char *what, int status, const char *words);
 
 void report(const char *format, ...);

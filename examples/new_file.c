@@ -2,7 +2,7 @@
 #include <stdlib.h>
 #include <string.h>
 
-#include "mdf_write.h"
+#include "new_file.h"
 
 void put_little(uint8_t *place, uint64_t number, int size)
 {
@@ -18,9 +18,9 @@ static void must_answer(uint32_t reply)
     exit(1);
 }
 
-void must_write(mf4_written written) { must_answer(written.reply); }
+void must_write(mf4_written_reply written) { must_answer(written.reply); }
 
-void must_store(mf4_stored stored) { must_answer(stored.reply); }
+void must_store(mf4_done_reply stored) { must_answer(stored.reply); }
 
 uint64_t keep_room(new_file *file, size_t size)
 {
@@ -36,7 +36,7 @@ uint64_t keep_room(new_file *file, size_t size)
 uint64_t add_block(new_file *file, uint32_t id, uint64_t links, size_t fields)
 {
     const size_t size = MF4_HEADER_SIZE + 8 * (size_t)links + fields;
-    const mf4_block_header header = { .id = id, .block_len = size, .links_nr = links };
+    const mf4_header header = { .id = id, .block_len = size, .link_count = links };
     const uint64_t address = keep_room(file, size);
     must_write(mf4_write_header(header, file->bytes + address, size));
     return address;

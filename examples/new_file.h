@@ -1,8 +1,8 @@
 /*
  * The blocks of a small MDF4 file, one behind the other in memory. make_log.c writes its log with it.
  */
-#ifndef MDF_WRITE_H
-#define MDF_WRITE_H
+#ifndef NEW_FILE_H
+#define NEW_FILE_H
 
 #include "mf4.h"
 
@@ -17,8 +17,8 @@ void put_little(uint8_t *place, uint64_t number, int size);
 
 /* A call of the library that refused to write ends the program: the sizes and the numbers are ours, so it would be our
  * mistake. */
-void must_write(mf4_written written);
-void must_store(mf4_stored stored);
+void must_write(mf4_written_reply written);
+void must_store(mf4_done_reply stored);
 
 /* Keeps room for a block at the next multiple of 8, where MDF 4.1 wants it; gives its address. */
 uint64_t keep_room(new_file *file, size_t size);

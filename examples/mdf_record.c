@@ -1,0 +1,87 @@
+#include <stdlib.h>
+
+#include "mdf_record.h"
+
+mf4_done_reply mdf_read_record(mdf_record *record)
+{
+    const mdf_file *file = record->file;
+    const mdf_group *group = record->group;
+    return mf4_read_record(file->bytes, file->length, group->start, record->number, group->record_size, record->bytes,
+                           sizeof record->bytes);
+}
+
+static int make_room(mdf_record *record, uint64_t size)
+{
+    uint8_t *payload = realloc(record->payload, (size_t)size);
+    if (payload == NULL)
+        return 0;
+    record->payload = payload;
+    record->payload_room = (size_t)size;
+    return 1;
+}
+
+static mf4_payload_reply ask_for_payload(mdf_record *record, mf4_channel channel)
+{
+    const mdf_file *file = record->file;
+    const mdf_group *group = record->group;
+    return mf4_record_payload(file->bytes, file->length, group->start, record->number, group->record_size, group->layout,
+                              channel, record->bytes, sizeof record->bytes, record->payload, record->payload_room);
+}
+
+/* The library is lent the room of the payload before; where that is too short it tells what suffices, and is asked again. */
+mf4_payload_reply mdf_read_payload(mdf_record *record, mf4_channel channel)
+{
+    mf4_payload_reply read = ask_for_payload(record, channel);
+    if (read.reply == MF4_NO_ROOM && make_room(record, read.told))
+        read = ask_for_payload(record, channel);
+    return read;
+}
+
+/* A payload's value is told as a field's is. */
+static mdf_value payload_value(mdf_record *record, const mf4_channel *channel)
+{
+    const mf4_payload_reply read = mdf_read_payload(record, *channel);
+    const mdf_value value = { { read.reply, read.told, read.kind, read.is_valid, read.number, read.at, read.length },
+                              record->payload };
+    return value;
+}
+
+/* What a virtual channel has in place of a field. */
+static mdf_value number_value(const mdf_record *record, const mf4_channel *channel)
+{
+    const uint8_t is_valid = mf4_check_validity(record->bytes, (size_t)record->group->record_size, record->group->layout,
+                                                *channel);
+    const mdf_value value = { { MF4_ANSWER, 0, MF4_KIND_UNSIGNED, is_valid, record->number, 0, 0 }, NULL };
+    return value;
+}
+
+mdf_value mdf_read_value(mdf_record *record, const mf4_channel *channel)
+{
+    mdf_value value = { { .reply = MF4_ANSWER }, record->bytes };
+    switch (mdf_place_of(channel)) {
+    case MDF_PAYLOAD: return payload_value(record, channel);
+    case MDF_VIRTUAL: return number_value(record, channel);
+    case MDF_FIELD:
+        value.told = mf4_decode_valid_value(record->bytes, (size_t)record->group->record_size, record->group->layout,
+                                            *channel);
+        return value;
+    default: return value;
+    }
+}
+
+/* Of one record alone are a payload behind the data, one that there is no memory for, and one with too few bytes for a
+ * number, which is refused as a field outside its record is, but tells no more bytes than the record has. */
+int mdf_is_in_every_record(const mdf_group *group, uint32_t reply, uint64_t told)
+{
+    return reply != MF4_ANSWER && reply != MF4_PAYLOAD_OUTSIDE && reply != MF4_NO_ROOM
+        && (reply != MF4_FIELD_OUTSIDE || told > group->record_size);
+}
+
+mf4_value_reply mdf_field_reply(const mdf_group *group, const mf4_channel *channel)
+{
+    static const uint8_t any_record[MF4_MAX_RECORD_SIZE];
+    static const mf4_value_reply nothing_said;
+    if (mdf_place_of(channel) != MDF_FIELD)
+        return nothing_said;
+    return mf4_decode_value(any_record, (size_t)group->record_size, group->layout.record_id_size, *channel);
+}
