@@ -9,7 +9,7 @@ use lib.Dec.{ltb, eqb}
 use borrow.Author.Tests.{ltb-true, lt-ltb, eqb-true, eq-eqb, eqb-false, ne-eqb}
 use Rattle.definitions.specs.Reply.{Reply, answer, refusal, if_then_else_, andThen}
 use Rattle.definitions.specs.DataType.{Kind, kindOf}
-use Rattle.definitions.specs.Channel.{Channel, isInteger, isFloating, isNumber, valueBy, valueOf, validValueOf}
+use Rattle.definitions.specs.Channel.{Channel, Group, isInteger, isFloating, isNumber, valueBy, valueOf, validValueOf}
 use Rattle.definitions.proofs.Replies.{not-answered, both}
 use Rattle.theorems.proofs.Calls.Answers.{value-exactly, valid-value-exactly}
 use Rattle.theorems.proofs.Calls.RefusalNumbers.{between, value-numbered}
@@ -182,6 +182,6 @@ module _ {A B : Type 0} (g : A → B) where
     no-other = λ n t e. h .no-other n t (made-refused r n t e);
   }
 
-pub valid-value-replies : (s : List ℕ) (idSize dataBytes : ℕ) (c : Channel) → FieldReplies s idSize c (validValueOf s idSize dataBytes c)
+pub valid-value-replies : (s : List ℕ) (g : Group) (c : Channel) → FieldReplies s (g .idSize) c (validValueOf s g c)
 unfolding validValueOf
-valid-value-replies s idSize dataBytes c = made-of _ (valueOf s idSize c) (valid-value-exactly s idSize c dataBytes) (value-replies s idSize c)
+valid-value-replies s g c = made-of _ (valueOf s (g .idSize) c) (valid-value-exactly s g c) (value-replies s (g .idSize) c)
