@@ -6,7 +6,7 @@ use Prim.Native.Nat.{ℕ, _+_, _-_, _*_, _%_, _≤_, _<_}
 use native.Mathlib.Omega.{arith}
 use lib.ListN.{length, drop}
 use lib.Dec.{leb, ltb, eqb}
-use borrow.Author.Tests.{ne-eqb, lt-leb, le-leb, ltb-false, eqb-true, eqb-false}
+use borrow.Author.Tests.{ne-eqb, lt-leb, le-leb, eqb-true, eqb-false}
 use Rattle.definitions.specs.Reply.{answer, refusal, if_then_else_}
 use Rattle.definitions.specs.Bytes.{u64At}
 use Rattle.definitions.specs.DataList.{DataList}
@@ -108,20 +108,13 @@ fragment-there id f s p d e from = rw (e, from)
 
 -- ---- what an answer tells
 
--- the block lies in the file, and the data up to its end is no longer than data may be
-pub record Taken (f : List ℕ) (p : ℕ) (b : Block) : Type 0 where
-  pub inside : b .address + 24 + b .size ≤ length f
-  pub bounded : p + b .size ≤ dataLimit
-
-pub fragment-stands : (id f s : List ℕ) (d : DataList) (i p : ℕ) (b : Block) → fragmentOf id f s d i p ≡ answer b → Taken f p b
+-- the block lies in the file
+pub fragment-inside : (id f s : List ℕ) (d : DataList) (i p : ℕ) (b : Block) → fragmentOf id f s d i p ≡ answer b → b .address + 24 + b .size ≤ length f
 unfolding fragmentOf
-fragment-stands id f s d i p b h =
+fragment-inside id f s d i p b h =
     let read = followed (blockAt id f (u64At s (d .linksAt + i * 8))) (judged s d i p) b h in
     let x = read .0 in
     let fits = passed (ltb dataLimit (p + x .size)) _ _ _ _ (read .2) in
     let truthful = passed (not (declared s d i p (x .size))) _ _ _ _ (fits .1) in
-    let e : Taken f p x = record {
-      inside = block-stands id f (u64At s (d .linksAt + i * 8)) x (read .1) .1 .inside;
-      bounded = ltb-false _ _ (fits .0);
-    } in
+    let e : x .address + 24 + x .size ≤ length f = block-stands id f (u64At s (d .linksAt + i * 8)) x (read .1) .1 .inside in
     rw (answered (truthful .1)) at e

@@ -9,7 +9,7 @@ use lib.Dec.{leb, eqb}
 use Rattle.definitions.specs.Reply.{Reply, answer, refusal, if_then_else_, andThen}
 use Rattle.definitions.specs.Bytes.{u64At}
 use Rattle.definitions.specs.DataList.{DataList, oneLength, restCount}
-use Rattle.definitions.specs.Chain.{Block, dataLimit, fragmentLimit, listLimit, total, fragmentOf, fragments, listAt, Declaration, byLength, byOffsets, declarationOf, chainedAt, lists, chainOf}
+use Rattle.definitions.specs.Chain.{Block, fileLimit, fragmentLimit, listLimit, total, fragmentOf, fragments, listAt, Declaration, byLength, byOffsets, declarationOf, chainedAt, lists, chainOf}
 use Rattle.refusals.specs.Meaning.{refused}
 use Rattle.chain.specs.declared.place.FileAddress.{FileAddress}
 use Rattle.chain.specs.declared.place.DataPosition.{DataPosition}
@@ -162,12 +162,13 @@ Inside f (b ∷ bs) = (b .address + 24 + b .size ≤ length f) × Inside f bs
 pub record Stand (f : List ℕ) (bs : List Block) : Type 0 where
   pub inside : Inside f bs
   pub few : length bs ≤ fragmentLimit
-  pub bounded : total bs ≤ dataLimit
 
 -- a walk along the chain from `start` on stands at p, and has met the blocks `before`
 pub record At (id f : List ℕ) (start : ℕ) (p : Place) (before : List Block) : Type 0 where
   pub known : ListKnown f p
   pub stand : Stand f before
+  -- so that the data of all blocks is far shorter than a word can count
+  pub short : length f ≤ fileLimit
   pub count : length before ≡ p .fragments + p .index
   pub size : total before ≡ p .position .0
   -- what the first list declares, and so the list read last, if another follows it

@@ -1,6 +1,6 @@
 // The first reader of a chain: is it accepted, how much data does it join, and where does a position of that data stand?
 ghost use mathlib.Core.Path.{_≡_};
-ghost use Rattle.definitions.specs.Chain.{totalOf, lengthBy, dataLength};
+ghost use Rattle.definitions.specs.Chain.{lengthBy, dataLength};
 ghost use Rattle.chain.specs.Meaning.{chainReply, locatedReply};
 ghost use Rattle.chain.specs.Located.{Locates};
 use crate::block::BlockRead;
@@ -27,10 +27,13 @@ pub enum Located {
 }
 
 // Walks all of a chain, since a position stands in a chain that is whole, and keeps the place before the fragment that
-// holds the wanted position.
-pub(crate) fn locate(file: &[u8], start: FileAddress, id: &[u8; 4], wanted: DataPosition) -> Located
-    ensures { λ r. ⌜ Locates (now (id .entry)) (now (file .entry)) (start .0) (wanted .0) (totalOf (now (id .entry)) (now (file .entry)) (start .0)) r ⌝ }
+// holds the wanted position. In a file that is not too long, the compiler knows of every block that it is not.
+pub fn locate_data(file: &[u8], start: FileAddress, id: &[u8; 4], wanted: DataPosition) -> Located
+    ensures { λ r. ⌜ Locates (now (id .entry)) (now (file .entry)) (start .0) (wanted .0) (lengthBy (now (id .entry)) (now (file .entry)) (start .0)) r ⌝ }
 {
+    if FILE_LIMIT < file.len() {
+        return Located::Refused(Refusal::FileTooLong);
+    }
     let mut place = Place::start(start);
     let mut kept = place;
     loop {
@@ -61,24 +64,6 @@ pub(crate) fn locate(file: &[u8], start: FileAddress, id: &[u8; 4], wanted: Data
             }
         }
     }
-}
-
-// The same in a file that is not too long. The one caller of that loop in the archive: so it is inlined, and the compiler knows
-// there that no block is too long.
-pub fn locate_data(file: &[u8], start: FileAddress, id: &[u8; 4], wanted: DataPosition) -> Located
-    ensures { λ r. ⌜ Locates (now (id .entry)) (now (file .entry)) (start .0) (wanted .0) (lengthBy (now (id .entry)) (now (file .entry)) (start .0)) r ⌝ }
-{
-    if FILE_LIMIT < file.len() {
-        return Located::Refused(Refusal::FileTooLong);
-    }
-    locate(file, start, id, wanted)
-}
-
-pub fn accept(file: &[u8], start: FileAddress, id: &[u8; 4]) -> ChainRead
-    ensures { λ r. ⌜ chainReply r ≡ totalOf (now (id .entry)) (now (file .entry)) (start .0) ⌝ }
-{
-    let found = locate(file, start, id, DataPosition(0));
-    found.chain()
 }
 
 // The length of the joined data of a chain of data blocks

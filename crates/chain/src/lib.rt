@@ -9,7 +9,6 @@ mod place;
 
 pub use acceptance::ChainRead;
 pub use acceptance::Located;
-pub use acceptance::accept;
 pub use acceptance::data_length;
 pub use acceptance::locate_data;
 pub use block::BlockRead;

@@ -94,8 +94,6 @@ use Rattle.decoder.proofs.decode_f64_from_record.Kinds as record-double-kinds
 use Rattle.decoder.proofs.decode_f64_from_record.Reads as record-double
 use Rattle.encoder.proofs.encode_channel_value.Kinds as value-write-kinds
 use Rattle.encoder.proofs.encode_channel_value.Reads as value-write
-use Rattle.chain.proofs.accept.Kinds as chain-accept-kinds
-use Rattle.chain.proofs.accept.Reads as chain-accept
 use Rattle.chain.proofs.data_length.Kinds as chain-length-kinds
 use Rattle.chain.proofs.data_length.Reads as chain-length
 use Rattle.chain.proofs.place.Place.start.Kinds as chain-start-kinds
@@ -232,9 +230,6 @@ record-double-settled = settled (λ κs a y z b c p q. (p ∙ sym q, refl))
 
 pub value-write-settled : Settled 1 value-write-kinds.ps value-write-kinds.r value-write.Asked value-write.ensures value-write.Learnt
 value-write-settled = settled (λ κs a y z b c p q. one-outcome encoder.writtenReply encoder-back.written-one (λ out. (tt, (tt, (tt, (out, tt))))) (p ∙ sym q))
-
-pub chain-accept-settled : Settled 2 chain-accept-kinds.ps chain-accept-kinds.r chain-accept.Asked chain-accept.ensures chain-accept.Learnt
-chain-accept-settled = settled (λ κs a y z b c p q. (chain-one y z (p ∙ sym q), refl))
 
 pub chain-length-settled : Settled 1 chain-length-kinds.ps chain-length-kinds.r chain-length.Asked chain-length.ensures chain-length.Learnt
 chain-length-settled = settled (λ κs a y z b c p q. (chain-one y z (p ∙ sym q), refl))
