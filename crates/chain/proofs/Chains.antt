@@ -31,13 +31,18 @@ module _ (f : List ℕ) (b : Block) where
   joined-more [] = append-nil (dataOf f b)
   joined-more (c ∷ cs) = rw (joined-more cs, append-assoc)
 
-  inside-more : (bs : List Block) → Inside f bs → b .address + 24 + b .size ≤ length f → Inside f (bs ++ (b ∷ []))
+  pub inside-more : (bs : List Block) → Inside f bs → b .address + 24 + b .size ≤ length f → Inside f (bs ++ (b ∷ []))
   unfolding Inside
   inside-more [] h r = (r, tt)
   inside-more (c ∷ cs) h r = (h .0, inside-more cs (h .1) r)
 
   pub stand-more : (bs : List Block) → Stand f bs → length bs < fragmentLimit → b .address + 24 + b .size ≤ length f → Stand f (bs ++ (b ∷ []))
   stand-more bs h l t = record { inside = inside-more bs (h .inside) t; few = omega (arith, length-append bs (b ∷ [])) }
+
+pub joined-append : (f : List ℕ) (bs cs : List Block) → joined f (bs ++ cs) ≡ joined f bs ++ joined f cs
+unfolding joined
+joined-append f [] cs = refl
+joined-append f (b ∷ bs) cs = rw (joined-append f bs cs, append-assoc)
 
 -- the joined data is as long as the blocks say
 pub joined-length : (f : List ℕ) (bs : List Block) → Inside f bs → length (joined f bs) ≡ total bs

@@ -1,5 +1,5 @@
--- The laws of a chain. What readers cite: rest-fragment, rest-next and next-tells of Steps, chain-stands and joined-length of
--- Chains, and what a loop keeps in Walks.
+-- The laws of a chain. What readers cite: joined-length, chain-stands and data-bound of Chains, what a loop keeps in Walks, and
+-- of a chain that is known to be accepted Readers.
 pub mod Answers
 pub mod Addresses
 pub mod Blocks
@@ -9,4 +9,6 @@ pub mod Fragments
 pub mod Steps
 pub mod Chains
 pub mod Walks
+pub mod Begun
+pub mod Readers
 pub mod Back

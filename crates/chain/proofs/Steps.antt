@@ -130,6 +130,11 @@ module _ (f : List ℕ) (p : Place) where
   unfolding nextOf
   next-tells x a = tells-by (ended p) x refl a
 
+  -- a list that is entered adds no data
+  pub list-stays : (q : Place) → nextOf f p ≡ answer (aList q) → q .position .0 ≡ p .position .0
+  unfolding Tells
+  list-stays q a = ap (λ (x : Place). x .position .0) (sym (next-tells (aList q) a .2))
+
 -- ---- the rest of the chain
 
 -- in a list that is read

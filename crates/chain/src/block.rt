@@ -30,7 +30,7 @@ impl DataBlock {
 }
 
 // The data block with that id at an address
-pub(crate) fn data_block_at(file: &[u8], address: FileAddress, id: &[u8; 4]) -> BlockRead
+pub fn data_block_at(file: &[u8], address: FileAddress, id: &[u8; 4]) -> BlockRead
     ensures { λ r. ⌜ blockReply r ≡ blockAt (now (id .entry)) (now (file .entry)) (address .0) ⌝ }
 {
     if !has_header(file, address) {

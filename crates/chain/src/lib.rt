@@ -13,6 +13,7 @@ pub use acceptance::data_length;
 pub use acceptance::locate_data;
 pub use block::BlockRead;
 pub use block::DataBlock;
+pub use block::data_block_at;
 pub use block::data_of;
 pub use fragment::fragment_at;
 pub use limits::DATA_LIMIT;

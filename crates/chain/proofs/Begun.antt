@@ -1,24 +1,20 @@
--- The blocks that a walk has met are the first ones of its chain, and a window that they fill is full.
-use mathlib.Core.Path.{_≡_, refl, sym, ap, _∙_}
+-- The blocks that a walk has met are the first ones of its chain.
+use mathlib.Core.Path.{_≡_, sym, ap, _∙_}
 use mathlib.Core.Bool.{Bool, true, false}
 use mathlib.Core.List.{List, [], _∷_, _++_, append-assoc, append-nil}
-use Prim.Native.Nat.{ℕ, zero, suc, _+_, _-_, _≤_}
-use native.Mathlib.Omega.{arith}
-use lib.ListN.{length, take, drop, length-append, length-drop}
-use lib.Seq.{take-append-le, drop-append-le}
+use Prim.Native.Nat.{ℕ, zero, suc, _+_, _-_}
+use lib.ListN.{length, drop}
 use lib.Dec.{eqb}
 use Rattle.definitions.specs.Reply.{answer, if_then_else_, andThen}
 use Rattle.definitions.specs.DataList.{DataList}
-use Rattle.definitions.specs.Chain.{Block, listLimit, joined, fragmentOf, fragments, listAt, Declaration, chainedAt, lists, chainOf}
-use Rattle.chain.specs.Walk.{ended, fragmentsLeft, listsBehind, chainFrom}
-use Rattle.chain.specs.declared.place.Place.{Place}
-use Rattle.records.specs.Window.{laid}
+use Rattle.definitions.specs.Chain.{Block, listLimit, fragmentOf, fragments, listAt, Declaration, chainedAt, lists}
 use Rattle.definitions.proofs.Replies.{not-answered}
+use Rattle.chain.specs.Walk.{ended, fragmentsLeft, listsBehind, chainFrom}
+use Rattle.chain.specs.declared.place.Place.{Place}
 use Rattle.chain.proofs.Answers.{followed, answered}
-use Rattle.records.proofs.Laying.{laid-whole}
 
 -- `all` begins with `before`
-abbrev Begins : List Block → List Block → Type 0
+abbrev pub Begins : List Block → List Block → Type 0
 Begins before all = (rest : List Block) × (all ≡ before ++ rest)
 
 longer : (before new all : List Block) → Begins (before ++ new) all → Begins before all
@@ -60,31 +56,9 @@ module _ (id f : List ℕ) (first : Declaration) where
       let l = followed (listAt f (p .fragments) (p .list .address .0)) _ all e in
       fragments-begin (drop (p .list .address .0) f) (l .0) (p .index) (l .0 .links - p .index) before all (l .2)
 
-  from-begin : (p : Place) (before all : List Block) → chainFrom id f first p before ≡ answer all → Begins before all
+  pub from-begin : (p : Place) (before all : List Block) → chainFrom id f first p before ≡ answer all → Begins before all
   unfolding fragmentsLeft listsBehind
   from-begin p before all e =
       let g = followed (fragmentsLeft id f p before) (listsBehind id f first p) all e in
       joint before (g .0) all (list-begin p (eqb (p .lists) 0) before (g .0) (g .1))
       (on-begin (listLimit - p .lists) (p .list .next .0) (ended p) (g .0) all (lists-begin (listLimit - p .lists) (p .list .next .0) (g .0) all) (g .2))
-
-joined-append : (f : List ℕ) (bs cs : List Block) → joined f (bs ++ cs) ≡ joined f bs ++ joined f cs
-unfolding joined
-joined-append f [] cs = refl
-joined-append f (b ∷ bs) cs = rw (joined-append f bs cs, append-assoc)
-
--- what comes behind a window does not matter to it
-laid-front : (d : List ℕ) (from : ℕ) (xs ys : List ℕ) → from + length d ≤ length xs → laid d from 0 (xs ++ ys) ≡ laid d from 0 xs
-laid-front d from xs ys h =
-    let more : from + length d ≤ length (xs ++ ys) = omega (arith, length-append xs ys) in
-    let low : from ≤ length xs = omega arith in
-    let room : length d ≤ length (drop from xs) = omega (arith, length-drop from xs) in
-    laid-whole d from (xs ++ ys) more
-    ∙ ap (take (length d)) (drop-append-le from xs ys low) ∙ take-append-le (length d) (drop from xs) ys room
-    ∙ sym (laid-whole d from xs h)
-
-pub lay-full : (d : List ℕ) (from : ℕ) (id f : List ℕ) (start : ℕ) (p : Place) (bs all : List Block) (out : List ℕ)
-    → chainOf id f start ≡ answer all → (first : Declaration) → chainOf id f start ≡ chainFrom id f first p bs
-    → from + length d ≤ length (joined f bs) → out ≡ laid d from 0 (joined f bs) → out ≡ laid d from 0 (joined f all)
-lay-full d from id f start p bs all out e first r full so =
-    let g = from-begin id f first p bs all (sym r ∙ e) in
-    so ∙ sym (ap (λ (xs : List Block). laid d from 0 (joined f xs)) (g .1) ∙ ap (laid d from 0) (joined-append f bs (g .0)) ∙ laid-front d from (joined f bs) (joined f (g .0)) full)
