@@ -95,7 +95,7 @@ blank = record {
   «bit_count» = 0;
   flags = 0;
   «pos_invalidation_bit» = 0;
-  «data» = 0;
+  «data_addr» = 0;
 }
 
 abbrev ChannelR : RattleType
