@@ -72,7 +72,7 @@ data-bound f bs short h =
 -- ---- all of them
 
 module _ (id f : List ℕ) where
-  fragments-stand : (s : List ℕ) (d : DataList) (n i : ℕ) (before bs : List Block) → Stand f before → length before + n ≤ fragmentLimit
+  pub fragments-stand : (s : List ℕ) (d : DataList) (n i : ℕ) (before bs : List Block) → Stand f before → length before + n ≤ fragmentLimit
       → fragments id f s d i n before ≡ answer bs → Stand f bs
   unfolding fragments
   fragments-stand s d zero i before bs h l e = subst (Stand f) (answered e) h

@@ -1,6 +1,8 @@
 // The first reader of a chain: is it accepted, how much data does it join, and where does a position of that data stand?
 ghost use mathlib.Core.Path.{_≡_};
-ghost use Rattle.definitions.specs.Chain.{lengthBy, dataLength};
+ghost use Prim.Native.Nat.{_≤_};
+ghost use lib.ListN.{length};
+ghost use Rattle.definitions.specs.Chain.{fileLimit, lengthBy, dataLength};
 ghost use Rattle.chain.specs.Meaning.{chainReply, locatedReply};
 ghost use Rattle.chain.specs.Located.{Locates};
 use crate::block::BlockRead;
@@ -27,13 +29,11 @@ pub enum Located {
 }
 
 // Walks all of a chain, since a position stands in a chain that is whole, and keeps the place before the fragment that
-// holds the wanted position. In a file that is not too long, the compiler knows of every block that it is not.
-pub fn locate_data(file: &[u8], start: FileAddress, id: &[u8; 4], wanted: DataPosition) -> Located
+// holds the wanted position.
+fn locate(file: &[u8], start: FileAddress, id: &[u8; 4], wanted: DataPosition) -> Located
+    requires { ⌜ length (now file) ≤ fileLimit ⌝ }
     ensures { λ r. ⌜ Locates (now (id .entry)) (now (file .entry)) (start .0) (wanted .0) (lengthBy (now (id .entry)) (now (file .entry)) (start .0)) r ⌝ }
 {
-    if FILE_LIMIT < file.len() {
-        return Located::Refused(Refusal::FileTooLong);
-    }
     let mut place = Place::start(start);
     let mut kept = place;
     loop {
@@ -64,6 +64,17 @@ pub fn locate_data(file: &[u8], start: FileAddress, id: &[u8; 4], wanted: DataPo
             }
         }
     }
+}
+
+// The same in any file. The one caller of that loop: so it is inlined, and the compiler knows there that no block is too long.
+// The loop is a function of its own all the same: written here it took 55 instructions a fragment, and so it takes 42.
+pub fn locate_data(file: &[u8], start: FileAddress, id: &[u8; 4], wanted: DataPosition) -> Located
+    ensures { λ r. ⌜ Locates (now (id .entry)) (now (file .entry)) (start .0) (wanted .0) (lengthBy (now (id .entry)) (now (file .entry)) (start .0)) r ⌝ }
+{
+    if FILE_LIMIT < file.len() {
+        return Located::Refused(Refusal::FileTooLong);
+    }
+    locate(file, start, id, wanted)
 }
 
 // The length of the joined data of a chain of data blocks

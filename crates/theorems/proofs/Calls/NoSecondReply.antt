@@ -21,7 +21,7 @@ use Rattle.text.proofs.Back.{text-one}
 use Rattle.fields.proofs.Back.{description-one, field-one, value-one, valid-value-one}
 use Rattle.encoder.specs.Meaning as encoder
 use Rattle.encoder.proofs.Back as encoder-back
-use Rattle.chain.proofs.Back.{chain-one}
+use Rattle.chain.proofs.Back.{block-one, chain-one}
 use Rattle.records.proofs.Back.{record-one}
 use Rattle.payloads.proofs.Back.{payload-fetched-one}
 use Rattle.refusals.proofs.Refusal.number.Kinds as refusal-number-kinds
@@ -94,12 +94,16 @@ use Rattle.decoder.proofs.decode_f64_from_record.Kinds as record-double-kinds
 use Rattle.decoder.proofs.decode_f64_from_record.Reads as record-double
 use Rattle.encoder.proofs.encode_channel_value.Kinds as value-write-kinds
 use Rattle.encoder.proofs.encode_channel_value.Reads as value-write
+use Rattle.chain.proofs.data_block_at.Kinds as chain-block-kinds
+use Rattle.chain.proofs.data_block_at.Reads as chain-block
 use Rattle.chain.proofs.data_length.Kinds as chain-length-kinds
 use Rattle.chain.proofs.data_length.Reads as chain-length
 use Rattle.chain.proofs.place.Place.start.Kinds as chain-start-kinds
 use Rattle.chain.proofs.place.Place.start.Reads as chain-start
 use Rattle.chain.proofs.place.DataPosition.is_behind.Kinds as position-behind-kinds
 use Rattle.chain.proofs.place.DataPosition.is_behind.Reads as position-behind
+use Rattle.records.proofs.lay.Kinds as window-lay-kinds
+use Rattle.records.proofs.lay.Reads as window-lay
 use Rattle.records.proofs.read_record.Kinds as record-read-kinds
 use Rattle.records.proofs.read_record.Reads as record-read
 use Rattle.records.proofs.read_value.Kinds as record-value-kinds
@@ -231,6 +235,9 @@ record-double-settled = settled (λ κs a y z b c p q. (p ∙ sym q, refl))
 pub value-write-settled : Settled 1 value-write-kinds.ps value-write-kinds.r value-write.Asked value-write.ensures value-write.Learnt
 value-write-settled = settled (λ κs a y z b c p q. one-outcome encoder.writtenReply encoder-back.written-one (λ out. (tt, (tt, (tt, (out, tt))))) (p ∙ sym q))
 
+pub chain-block-settled : Settled 2 chain-block-kinds.ps chain-block-kinds.r chain-block.Asked chain-block.ensures chain-block.Learnt
+chain-block-settled = settled (λ κs a y z b c p q. (block-one y z (p ∙ sym q), refl))
+
 pub chain-length-settled : Settled 1 chain-length-kinds.ps chain-length-kinds.r chain-length.Asked chain-length.ensures chain-length.Learnt
 chain-length-settled = settled (λ κs a y z b c p q. (chain-one y z (p ∙ sym q), refl))
 
@@ -239,6 +246,9 @@ chain-start-settled = settled (λ κs a y z b c p q. (p ∙ sym q, refl))
 
 pub position-behind-settled : Settled 0 position-behind-kinds.ps position-behind-kinds.r position-behind.Asked position-behind.ensures position-behind.Learnt
 position-behind-settled = settled (λ κs a y z b c p q. (p ∙ sym q, refl))
+
+pub window-lay-settled : Settled 2 window-lay-kinds.ps window-lay-kinds.r window-lay.Asked window-lay.ensures window-lay.Learnt
+window-lay-settled = settled (λ κs a y z b c p q. (refl, ap (λ (out : List ℕ). (tt, (tt, (tt, (out, tt))))) (p ∙ sym q)))
 
 pub record-read-settled : Settled 2 record-read-kinds.ps record-read-kinds.r record-read.Asked record-read.ensures record-read.Learnt
 record-read-settled = settled (λ κs a y z b c p q. one-outcome recordReply record-one (λ out. (tt, (tt, (tt, (tt, (out, tt)))))) (p ∙ sym q))
