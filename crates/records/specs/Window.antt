@@ -18,6 +18,6 @@ laid d from p b = overwritten d (p - from) (drop (from - p) b)
 -- p is a place on the walk along the chain of the blocks, and not behind the position `from`: whoever reads from there can begin
 -- at p
 pub record ReadsOn (id f : List ℕ) (blocks : List Block) (from : ℕ) (p : Place) : Type 0 where
+  pub ahead : p .position .0 ≤ from
   pub walked : Walked id f p
   pub same : walked .blocks ≡ blocks
-  pub ahead : p .position .0 ≤ from

@@ -125,7 +125,7 @@ returns-2 c = λ w.
     let reached = leb-true (a .from .0 + length now) (past .behind .result .position .0) (sym (c .before .is-behind .ensures) ∙ c .if2 .taken) in (
       lay-full (a .out .now) (a .from .0) (a .file .now) (v .before) _ (v .at .stand .inside) (v .at .size) _ (turn .2) (begins .0) (v .blocks) (begins .1) (omega (arith, reached, same past))
           ∙ ap (λ (bs : List Block). laid (a .out .now) (a .from .0) 0 (joined (a .file .now) bs)) (turn .1),
-      record { walked = l .loop .inv .2 w .0; same = l .loop .inv .2 w .1; ahead = l .loop .inv .1 },
+      record { ahead = l .loop .inv .1; walked = l .loop .inv .2 w .0; same = l .loop .inv .2 w .1 },
     )
 
 loop-less : tie.Need-loop-less Inv-loop μ-loop
@@ -163,7 +163,7 @@ returns-4 c = λ w.
     let now = l .loop .inv .2 w in
     let end = all-met _ _ _ (now .0) (done .if1 .left) _ (sym (taken .next-list .ensures) ∙ ap nextReply (c .enum-told3 .given .1)) in (
       now .2 ∙ ap (λ (bs : List Block). laid (a .out .now) (a .from .0) 0 (joined (a .file .now) bs)) (end ∙ now .1),
-      record { walked = now .0; same = now .1; ahead = l .loop .inv .1 },
+      record { ahead = l .loop .inv .1; walked = now .0; same = now .1 },
     )
 
 -- the next list, and what is known in it
