@@ -9,9 +9,10 @@ use Rattle.definitions.specs.Reply.{answer, if_then_else_, andThen}
 use Rattle.definitions.specs.DataList.{DataList}
 use Rattle.definitions.specs.Chain.{Block, listLimit, fragmentOf, fragments, listAt, Declaration, chainedAt, lists}
 use Rattle.definitions.proofs.Replies.{not-answered}
-use Rattle.chain.specs.Walk.{ended, fragmentsLeft, listsBehind, chainFrom}
-use Rattle.chain.specs.declared.place.Place.{Place}
-use Rattle.chain.proofs.Answers.{followed, answered}
+use Rattle.places.specs.Places.{ended}
+use Rattle.chain.specs.Walk.{fragmentsLeft, listsBehind, chainFrom}
+use Rattle.places.specs.declared.place.Place.{Place}
+use Rattle.places.proofs.Answers.{followed, answered}
 
 -- `all` begins with `before`
 abbrev pub Begins : List Block → List Block → Type 0

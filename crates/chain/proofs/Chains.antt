@@ -2,7 +2,7 @@
 use mathlib.Core.Path.{_≡_, refl, subst}
 use mathlib.Core.Bool.{Bool, true, false}
 use mathlib.Core.List.{List, [], _∷_, _++_, append-assoc, append-nil}
-use Prim.Native.Nat.{ℕ, zero, suc, _+_, _-_, _*_, _≤_, _<_}
+use Prim.Native.Nat.{ℕ, zero, suc, _+_, _*_, _≤_, _<_}
 use native.Mathlib.Nat.{mul-le-mul, suc-mul}
 use native.Mathlib.Omega.{arith}
 use lib.ListN.{length, drop, length-append}
@@ -13,10 +13,10 @@ use Rattle.definitions.specs.Chain.{Block, fileLimit, listLimit, fragmentLimit,
 use Rattle.definitions.proofs.Replies.{not-answered}
 use Rattle.chain.specs.Walk.{Inside, Stand}
 use Rattle.words.proofs.Spans.{length-span}
-use Rattle.chain.proofs.Answers.{followed, answered}
-use Rattle.chain.proofs.Lists.{list-stands}
-use Rattle.chain.proofs.Declarations.{chained-answer}
-use Rattle.chain.proofs.Fragments.{fragment-inside}
+use Rattle.places.proofs.Answers.{followed, answered}
+use Rattle.places.proofs.Lists.{list-stands}
+use Rattle.steps.proofs.Declarations.{chained-answer}
+use Rattle.steps.proofs.Fragments.{fragment-inside}
 
 -- ---- one block more
 

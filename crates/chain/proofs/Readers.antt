@@ -5,9 +5,11 @@ use Prim.Native.Nat.{ℕ, _≤_, _<_}
 use Rattle.definitions.specs.Reply.{answer, refusal}
 use Rattle.definitions.specs.Chain.{Block}
 use Rattle.definitions.proofs.Replies.{not-answered}
-use Rattle.chain.specs.Walk.{Walked, behind, fragmentAt, aList, theEnd, nextOf}
-use Rattle.chain.specs.declared.place.Place.{Place}
-use Rattle.chain.proofs.Answers.{answered}
+use Rattle.places.specs.Places.{behind}
+use Rattle.steps.specs.Steps.{fragmentAt, aList, theEnd, nextOf}
+use Rattle.chain.specs.Walk.{Walked}
+use Rattle.places.specs.declared.place.Place.{Place}
+use Rattle.places.proofs.Answers.{answered}
 use Rattle.chain.proofs.Begun.{Begins, from-begin}
 use Rattle.chain.proofs.Walks.{turnsLeft, refused-here, at-behind, refused-next, at-end, at-list}
 

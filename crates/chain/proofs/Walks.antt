@@ -13,18 +13,20 @@ use Rattle.definitions.specs.Chain.{Block, fileLimit, listLimit, fragmentLimit,
 use Rattle.refusals.specs.Meaning.{refused}
 use Rattle.refusals.specs.declared.Refusal.{Refusal}
 use Rattle.chain.specs.Located.{Locates}
-use Rattle.chain.specs.Walk.{Inside, At, startAt, behind, entered, fragmentAt, Onward, aList, theEnd, ended, declaredAt, declaredBefore, nextOf, fragmentsLeft, listsBehind, chainFrom, goOn}
-use Rattle.chain.specs.declared.place.FileAddress.{FileAddress}
-use Rattle.chain.specs.declared.place.DataPosition.{DataPosition}
-use Rattle.chain.specs.declared.place.Place.{Place}
-use Rattle.chain.specs.declared.acceptance.Located.{Located}
+use Rattle.places.specs.Places.{startAt, behind, entered, ended}
+use Rattle.steps.specs.Steps.{fragmentAt, Onward, aList, theEnd, declaredAt, declaredBefore, nextOf}
+use Rattle.chain.specs.Walk.{Inside, At, fragmentsLeft, listsBehind, chainFrom, goOn}
+use Rattle.places.specs.declared.place.FileAddress.{FileAddress}
+use Rattle.places.specs.declared.place.DataPosition.{DataPosition}
+use Rattle.places.specs.declared.place.Place.{Place}
 use Rattle.chain.specs.declared.acceptance.Located.the-variants.{Whole as AtPlace, Refused as NoPlace}
-use Rattle.chain.proofs.Answers.{followed}
-use Rattle.chain.proofs.Fragments.{fragment-inside}
+use Rattle.places.proofs.Answers.{followed}
+use Rattle.steps.proofs.Fragments.{fragment-inside}
 use Rattle.chain.proofs.Chains.{total-more, stand-more, data-bound}
-use Rattle.chain.proofs.Lists.{list-stands}
-use Rattle.chain.proofs.Declarations.{kept-same, declares-kept, chained-answer, chain-all}
-use Rattle.chain.proofs.Steps.{known-behind, known-entered, rest-fragment, rest-next, Tells, next-tells}
+use Rattle.places.proofs.Lists.{list-stands}
+use Rattle.steps.proofs.Declarations.{kept-same, declares-kept, chained-answer, chain-all}
+use Rattle.steps.proofs.Steps.{known-behind, known-entered, Tells, next-tells}
+use Rattle.chain.proofs.Rest.{rest-fragment, rest-next}
 
 -- no walk makes more turns than this
 abbrev pub turnsLeft : Place → ℕ

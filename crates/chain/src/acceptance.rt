@@ -5,16 +5,16 @@ ghost use lib.ListN.{length};
 ghost use Rattle.definitions.specs.Chain.{fileLimit, lengthBy, dataLength};
 ghost use Rattle.chain.specs.Meaning.{chainReply, locatedReply};
 ghost use Rattle.chain.specs.Located.{Locates};
-use crate::block::BlockRead;
-use crate::block::DataBlock;
-use crate::fragment::fragment_at;
-use crate::limits::FILE_LIMIT;
-use crate::next::NextRead;
-use crate::next::next_list;
-use crate::place::DataPosition;
-use crate::place::FileAddress;
-use crate::place::Place;
+use places::BlockRead;
+use places::DataBlock;
+use places::DataPosition;
+use places::FILE_LIMIT;
+use places::FileAddress;
+use places::Place;
 use refusals::Refusal;
+use steps::NextRead;
+use steps::fragment_at;
+use steps::next_list;
 
 pub enum ChainRead {
     // the length of the joined data

@@ -15,11 +15,11 @@ use Rattle.definitions.specs.Payload.{idSD, payloadAt, joinedOf}
 use Rattle.chain.specs.Meaning.{locatedReply}
 use Rattle.chain.specs.Located.{Locates}
 use Rattle.chain.specs.Walk.{Walked}
-use Rattle.chain.specs.declared.place.DataPosition.{DataPosition}
-use Rattle.chain.specs.declared.place.Place.{Place}
+use Rattle.places.specs.declared.place.DataPosition.{DataPosition}
+use Rattle.places.specs.declared.place.Place.{Place}
 use Rattle.chain.specs.declared.acceptance.Located.{Located}
 use Rattle.chain.specs.declared.acceptance.Located.the-variants.{Whole}
-use Rattle.chain.proofs.Answers.{unfollowed}
+use Rattle.places.proofs.Answers.{unfollowed}
 use Rattle.chain.proofs.Chains.{joined-length, chain-stands, data-bound}
 use Rattle.chain.proofs.Walks.{length-total}
 use Rattle.words.proofs.Spans.{length-span}

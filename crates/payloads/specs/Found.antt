@@ -9,7 +9,7 @@ use Rattle.definitions.specs.Chain.{Block, joined}
 use Rattle.definitions.specs.Payload.{idSD, joinedOf, payloadAt}
 use Rattle.refusals.specs.Meaning.{refused}
 use Rattle.chain.specs.Walk.{Walked}
-use Rattle.chain.specs.declared.place.Place.{Place}
+use Rattle.places.specs.declared.place.Place.{Place}
 use Rattle.records.specs.Window.{ReadsOn}
 use Rattle.payloads.specs.declared.payload.LengthRead.{LengthRead}
 use Rattle.payloads.specs.declared.payload.PayloadFound.{PayloadFound}

@@ -13,7 +13,7 @@ use Rattle.definitions.specs.Reply.{answer, refusal, if_then_else_}
 use Rattle.definitions.specs.Bytes.{span}
 use Rattle.definitions.specs.Chain.{Block, fileLimit, dataLimit, recordLimit, idDT, joined, chainOf, totalOf, dataLength, badSize, recordOf, fetched}
 use Rattle.records.specs.Window.{laid}
-use Rattle.chain.proofs.Answers.{passed, followed, answered, unfollowed}
+use Rattle.places.proofs.Answers.{passed, followed, answered, unfollowed}
 use Rattle.chain.proofs.Chains.{joined-length, chain-stands, data-bound}
 use Rattle.records.proofs.Laying.{laid-whole}
 

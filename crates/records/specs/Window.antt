@@ -5,7 +5,7 @@ use mathlib.Core.List.{List, _++_}
 use lib.ListN.{length, take, drop}
 use Rattle.definitions.specs.Chain.{Block}
 use Rattle.chain.specs.Walk.{Walked}
-use Rattle.chain.specs.declared.place.Place.{Place}
+use Rattle.places.specs.declared.place.Place.{Place}
 
 -- d with c over it from index g on, as far as d goes
 unfoldable pub overwritten : List ℕ → ℕ → List ℕ → List ℕ

@@ -13,10 +13,10 @@ use Rattle.definitions.specs.Bytes.{u64At}
 use Rattle.definitions.specs.DataList.{DataList}
 use Rattle.definitions.specs.Chain.{Block, fileLimit, dataLimit, listLimit, fragmentLimit, total, blockAt, declared, judged, fragmentOf, fragments, listAt, Declaration, declarationOf, chainedAt, lists, chainOf, totalOf, lengthBy}
 use Rattle.chain.specs.Walk.{Inside, Stand}
-use Rattle.chain.proofs.Blocks.{block-stands}
-use Rattle.chain.proofs.Lists.{list-stands}
-use Rattle.chain.proofs.Declarations.{chained-answer}
-use Rattle.chain.proofs.Fragments.{fragment-inside}
+use Rattle.places.proofs.Blocks.{block-stands}
+use Rattle.places.proofs.Lists.{list-stands}
+use Rattle.steps.proofs.Declarations.{chained-answer}
+use Rattle.steps.proofs.Fragments.{fragment-inside}
 use Rattle.chain.proofs.Chains.{mostData, total-bound, data-bound, stand-more, fragments-stand, chain-stands}
 use Rattle.theorems.proofs.Calls.RefusalNumbers.{Numbered, OfLists, between, of-answer, of-refusal, of-either, of-test, block-low, list-at-low, chained-low}
 

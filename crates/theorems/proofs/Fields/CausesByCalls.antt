@@ -12,7 +12,7 @@ use Rattle.fields.specs.Meaning.{channelMeant, valueReply, validValueReply}
 use Rattle.fields.specs.declared.channel.Channel.{Channel}
 use Rattle.fields.specs.declared.value.ValueRead.{ValueRead}
 use Rattle.fields.specs.declared.value.ValidValueRead.{ValidValueRead}
-use Rattle.chain.specs.declared.place.FileAddress.{FileAddress}
+use Rattle.places.specs.declared.place.FileAddress.{FileAddress}
 use Rattle.replies.specs.Values.{channelGiven}
 use Rattle.replies.specs.declared.channel.Mf4Channel.{Mf4Channel}
 use Rattle.replies.specs.declared.values.Mf4ValueReply.{Mf4ValueReply}

@@ -16,7 +16,7 @@ use Rattle.definitions.specs.Payload.{idSD, holdsPosition, positionOf, joinedOf
 use Rattle.decoder.proofs.LaidAnew.{laid-anew}
 use Rattle.fields.specs.Meaning.{channelMeant}
 use Rattle.fields.specs.declared.channel.Channel as code
-use Rattle.chain.specs.declared.place.FileAddress.{FileAddress}
+use Rattle.places.specs.declared.place.FileAddress.{FileAddress}
 use Rattle.payloads.specs.Meaning.{payloadFetchedBy}
 use Rattle.payloads.specs.declared.value.PayloadRead.{PayloadRead}
 use Rattle.payloads.proofs.Back.{payload-fetched-one}

@@ -9,9 +9,10 @@ use borrow.Author.Tests.{leb-true}
 use Rattle.definitions.specs.Reply.{answer}
 use Rattle.definitions.specs.Chain.{Block}
 use Rattle.definitions.proofs.Replies.{both}
-use Rattle.chain.specs.Meaning.{blockMeant, blockReply}
-use Rattle.chain.specs.Walk.{At, fragmentAt, nextReply}
-use Rattle.chain.specs.declared.place.Place.{Place}
+use Rattle.places.specs.Meaning.{blockMeant, blockReply}
+use Rattle.steps.specs.Steps.{fragmentAt, nextReply}
+use Rattle.chain.specs.Walk.{At}
+use Rattle.places.specs.declared.place.Place.{Place}
 use Rattle.chain.proofs.Walks.{turnsLeft, at-start, from-start, refused-here, taken-here, at-behind, refused-next, at-end, at-list, total-refused, total-whole, located-refused, located-whole}
 use Rattle.chain.proofs.acceptance.locate.Statement.{statement}
 use Rattle.chain.proofs.acceptance.locate.Tie as tie

@@ -7,7 +7,7 @@ use lib.Dec.{leb}
 use borrow.Author.Needs.{needs}
 use borrow.Author.Tests.{not-true, not-false, leb-true}
 use Rattle.chain.specs.Meaning.{locatedReply}
-use Rattle.chain.specs.declared.place.DataPosition.{DataPosition}
+use Rattle.places.specs.declared.place.DataPosition.{DataPosition}
 use Rattle.payloads.proofs.Found.{chain-refused, on-the-way, ahead, limited, found-no-length, found-cut, found-whole}
 use Rattle.payloads.proofs.payload.find_payload.Statement.{statement}
 use Rattle.payloads.proofs.payload.find_payload.Tie as tie

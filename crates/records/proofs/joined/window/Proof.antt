@@ -9,10 +9,11 @@ use borrow.Author.Needs.{needs}
 use borrow.Author.Tests.{leb-true, leb-false}
 use Rattle.definitions.specs.Reply.{answer}
 use Rattle.definitions.specs.Chain.{Block, joined}
-use Rattle.chain.specs.Meaning.{blockMeant, blockReply}
-use Rattle.chain.specs.Walk.{Walked, fragmentAt, aList, nextOf, nextReply}
+use Rattle.places.specs.Meaning.{blockMeant, blockReply}
+use Rattle.steps.specs.Steps.{fragmentAt, aList, nextOf, nextReply}
+use Rattle.chain.specs.Walk.{Walked}
 use Rattle.records.specs.Window.{laid}
-use Rattle.chain.proofs.Steps.{list-stays}
+use Rattle.steps.proofs.Steps.{list-stays}
 use Rattle.chain.proofs.Walks.{turnsLeft, taken-here}
 use Rattle.chain.proofs.Readers.{On, blocks-begin, not-refused-here, on-behind, not-refused-next, all-met, on-list}
 use Rattle.records.proofs.Laying.{lay-start, lay-turn, lay-full}
