@@ -1,12 +1,8 @@
--- The laws of a chain. What readers cite: rest-fragment, rest-next and next-tells of Steps, chain-stands and joined-length of
--- Chains, and what a loop keeps in Walks.
-pub mod Answers
-pub mod Addresses
-pub mod Blocks
-pub mod Lists
-pub mod Declarations
-pub mod Fragments
-pub mod Steps
+-- The laws of a chain. What readers cite: joined-length, chain-stands and data-bound of Chains, what a loop keeps in Walks, and
+-- of a chain that is known to be accepted Readers.
+pub mod Rest
 pub mod Chains
 pub mod Walks
+pub mod Begun
+pub mod Readers
 pub mod Back

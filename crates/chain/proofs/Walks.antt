@@ -13,18 +13,20 @@ use Rattle.definitions.specs.Chain.{Block, fileLimit, listLimit, fragmentLimit,
 use Rattle.refusals.specs.Meaning.{refused}
 use Rattle.refusals.specs.declared.Refusal.{Refusal}
 use Rattle.chain.specs.Located.{Locates}
-use Rattle.chain.specs.Walk.{Inside, At, startAt, behind, entered, fragmentAt, Onward, aList, theEnd, ended, declaredAt, declaredBefore, nextOf, fragmentsLeft, listsBehind, chainFrom, goOn}
-use Rattle.chain.specs.declared.place.FileAddress.{FileAddress}
-use Rattle.chain.specs.declared.place.DataPosition.{DataPosition}
-use Rattle.chain.specs.declared.place.Place.{Place}
-use Rattle.chain.specs.declared.acceptance.Located.{Located}
+use Rattle.places.specs.Places.{startAt, behind, entered, ended}
+use Rattle.steps.specs.Steps.{fragmentAt, Onward, aList, theEnd, declaredAt, declaredBefore, nextOf}
+use Rattle.chain.specs.Walk.{Inside, At, fragmentsLeft, listsBehind, chainFrom, goOn}
+use Rattle.places.specs.declared.place.FileAddress.{FileAddress}
+use Rattle.places.specs.declared.place.DataPosition.{DataPosition}
+use Rattle.places.specs.declared.place.Place.{Place}
 use Rattle.chain.specs.declared.acceptance.Located.the-variants.{Whole as AtPlace, Refused as NoPlace}
-use Rattle.chain.proofs.Answers.{followed}
-use Rattle.chain.proofs.Fragments.{Taken, fragment-stands}
-use Rattle.chain.proofs.Chains.{total-more, stand-more}
-use Rattle.chain.proofs.Lists.{list-stands}
-use Rattle.chain.proofs.Declarations.{kept-same, declares-kept, chained-answer, chain-all}
-use Rattle.chain.proofs.Steps.{known-behind, known-entered, rest-fragment, rest-next, Tells, next-tells}
+use Rattle.places.proofs.Answers.{followed}
+use Rattle.steps.proofs.Fragments.{fragment-inside}
+use Rattle.chain.proofs.Chains.{total-more, stand-more, data-bound}
+use Rattle.places.proofs.Lists.{list-stands}
+use Rattle.steps.proofs.Declarations.{kept-same, declares-kept, chained-answer, chain-all}
+use Rattle.steps.proofs.Steps.{known-behind, known-entered, Tells, next-tells}
+use Rattle.chain.proofs.Rest.{rest-fragment, rest-next}
 
 -- no walk makes more turns than this
 abbrev pub turnsLeft : Place → ℕ
@@ -32,13 +34,14 @@ turnsLeft p = (listLimit - p .lists) * (fragmentLimit + 1) + (p .list .links - p
 
 -- where the walk begins
 module _ (id f : List ℕ) (p₀ : Place) (a : FileAddress) (begun : p₀ ≡ startAt a) where
-  pub at-start : At id f (p₀ .list .next .0) p₀ []
+  pub at-start : length f ≤ fileLimit → At id f (p₀ .list .next .0) p₀ []
   unfolding total Inside declaredBefore fragmentsLeft listsBehind
-  at-start =
+  at-start short =
       rw begun
       (record {
         known = record { inside = omega arith; few = omega arith; none = omega arith; read = λ some. let no : ⊥ = omega arith in absurd no };
-        stand = record { inside = tt; few = omega arith; bounded = omega arith };
+        stand = record { inside = tt; few = omega arith };
+        short = short;
         count = refl;
         size = refl;
         first = declaredAt f (a .0) (listAt f 0 (a .0));
@@ -66,12 +69,12 @@ module _ (id f : List ℕ) (start : ℕ) where
 
       module _ (b : Block) (e : fragmentAt id f p ≡ answer b) where
         -- the fragment lies in the file, and there is room for one more
-        pub taken-here : Taken f (p .position .0) b × (p .index + 1 < 18446744073709551616) × (p .position .0 + b .size < 18446744073709551616)
+        pub taken-here : (b .address + 24 + b .size ≤ length f) × (p .index + 1 < 18446744073709551616) × (p .position .0 + b .size < 18446744073709551616)
         unfolding fragmentAt
         taken-here =
             let read = followed (listAt f (p .fragments) (p .list .address .0)) _ b e in
-            let t = fragment-stands id f (drop (p .list .address .0) f) (read .0) (p .index) (p .position .0) b (read .2) in
-            (t, omega (arith, m .known .few), omega (arith, t .bounded))
+            let inside = fragment-inside id f (drop (p .list .address .0) f) (read .0) (p .index) (p .position .0) b (read .2) in
+            (inside, omega (arith, m .known .few), omega (arith, m .size, m .short, data-bound f before (m .short) (m .stand)))
 
         -- the list is the same
         alike-behind : (n : ℕ) → ended (behind p n) ≡ false → declaredBefore f (behind p n) ≡ m .first
@@ -82,11 +85,11 @@ module _ (id f : List ℕ) (start : ℕ) where
 
         pub at-behind : (q : Place) → q ≡ behind p (b .size) → At id f start q (before ++ (b ∷ [])) × (turnsLeft q < turnsLeft p)
         at-behind q is =
-            let here : Taken f (total before) b = rw (m .size) (taken-here .0) in
             let there : At id f start (behind p (b .size)) (before ++ (b ∷ [])) × (turnsLeft (behind p (b .size)) < turnsLeft p) = (
               record {
                 known = known-behind f p (m .known) (b .size) h;
-                stand = stand-more f b before (m .stand) (omega (arith, m .count, m .known .few)) here;
+                stand = stand-more f b before (m .stand) (omega (arith, m .count, m .known .few)) (taken-here .0);
+                short = m .short;
                 count = omega (arith, length-append before (b ∷ []), m .count);
                 size = omega (arith, total-more b before, m .size);
                 first = m .first;
@@ -136,6 +139,7 @@ module _ (id f : List ℕ) (start : ℕ) where
             record {
               known = known;
               stand = m .stand;
+              short = m .short;
               count = omega (arith, m .count);
               size = m .size;
               first = m .first;
@@ -148,22 +152,22 @@ module _ (id f : List ℕ) (start : ℕ) where
 
 -- ---- the length of the joined data
 
-module _ (id f : List ℕ) (start : ℕ) where
-  pub total-refused : (n t : ℕ) → chainOf id f start ≡ refusal n t → refusal n t ≡ totalOf id f start
-  unfolding totalOf
-  total-refused n t e = rw e
-
-  pub total-whole : (bs : List Block) (n : ℕ) → (chainOf id f start ≡ answer bs) × (total bs ≡ n) → answer n ≡ totalOf id f start
-  unfolding totalOf
-  total-whole bs n h = rw (h .0, h .1)
-
--- of a file that is not too long
 module _ (f : List ℕ) (start : ℕ) where
   pub length-refused : (id : List ℕ) → fileLimit < length f → refusal 7 0 ≡ lengthBy id f start
   length-refused id l = rw (lt-ltb _ _ l)
 
   pub length-total : (id : List ℕ) → length f ≤ fileLimit → totalOf id f start ≡ lengthBy id f start
   length-total id l = rw (le-ltb _ _ l)
+
+-- in a file that is not too long the chain says it
+module _ (id f : List ℕ) (start : ℕ) (short : length f ≤ fileLimit) where
+  pub total-refused : (n t : ℕ) → chainOf id f start ≡ refusal n t → refusal n t ≡ lengthBy id f start
+  unfolding totalOf
+  total-refused n t e = rw (le-ltb _ _ short, e)
+
+  pub total-whole : (bs : List Block) (n : ℕ) → (chainOf id f start ≡ answer bs) × (total bs ≡ n) → answer n ≡ lengthBy id f start
+  unfolding totalOf
+  total-whole bs n h = rw (le-ltb _ _ short, h .0, h .1)
 
 -- ---- a position that was looked for
 
@@ -182,7 +186,3 @@ module _ (id f : List ℕ) (start wanted : ℕ) (reply : Reply ℕ) where
         let same : p ≡ q = cc in
         (before, subst (λ (x : Place). At id f start x before) same m, subst (λ (x : Place). x .position .0 ≤ wanted) same l);
   }
-
-  -- the same reply by another name
-  pub located-so : (other : Reply ℕ) (r : Located) → other ≡ reply → Locates id f start wanted other r → Locates id f start wanted reply r
-  located-so other r e l = record { replied = l .replied ∙ e; place = l .place }

@@ -6,8 +6,8 @@ use Rattle.definitions.specs.Reply.{Reply}
 use Rattle.definitions.specs.Chain.{Block}
 use Rattle.chain.specs.Meaning.{locatedReply}
 use Rattle.chain.specs.Walk.{At}
-use Rattle.chain.specs.declared.place.DataPosition.{DataPosition}
-use Rattle.chain.specs.declared.place.Place.{Place}
+use Rattle.places.specs.declared.place.DataPosition.{DataPosition}
+use Rattle.places.specs.declared.place.Place.{Place}
 use Rattle.chain.specs.declared.acceptance.Located.{Located}
 use Rattle.chain.specs.declared.acceptance.Located.the-variants.{Whole}
 

@@ -1,26 +1,11 @@
 -- What each struct and each case of an answer means in the definitions.
 use Prim.Native.Nat.{ℕ}
 use Rattle.definitions.specs.Reply.{Reply, answer}
-use Rattle.definitions.specs.Chain.{Block}
 use Rattle.refusals.specs.Meaning.{refused}
-use Rattle.chain.specs.declared.block.DataBlock.{DataBlock}
-use Rattle.chain.specs.declared.block.BlockRead.{BlockRead}
-use Rattle.chain.specs.declared.block.BlockRead.the-variants.{Block as ABlock, Refused as NoBlock}
 use Rattle.chain.specs.declared.acceptance.ChainRead.{ChainRead}
 use Rattle.chain.specs.declared.acceptance.ChainRead.the-variants.{Whole, Refused as NoChain}
 use Rattle.chain.specs.declared.acceptance.Located.{Located}
 use Rattle.chain.specs.declared.acceptance.Located.the-variants.{Whole as AtPlace, Refused as NoPlace}
-
--- ---- a data block
-
-abbrev pub blockMeant : DataBlock → Block
-blockMeant b = record { address = b .address .0; size = b .size }
-
-abbrev pub blockReply : BlockRead → Reply Block
-blockReply (ABlock b) = answer (blockMeant b)
-blockReply (NoBlock r) = refused r
-
--- ---- the chain
 
 abbrev pub chainReply : ChainRead → Reply ℕ
 chainReply (Whole q) = answer (q .0)

@@ -1,18 +1,20 @@
 // The first reader of a chain: is it accepted, how much data does it join, and where does a position of that data stand?
 ghost use mathlib.Core.Path.{_≡_};
-ghost use Rattle.definitions.specs.Chain.{totalOf, lengthBy, dataLength};
+ghost use Prim.Native.Nat.{_≤_};
+ghost use lib.ListN.{length};
+ghost use Rattle.definitions.specs.Chain.{fileLimit, lengthBy, dataLength};
 ghost use Rattle.chain.specs.Meaning.{chainReply, locatedReply};
 ghost use Rattle.chain.specs.Located.{Locates};
-use crate::block::BlockRead;
-use crate::block::DataBlock;
-use crate::fragment::fragment_at;
-use crate::limits::FILE_LIMIT;
-use crate::next::NextRead;
-use crate::next::next_list;
-use crate::place::DataPosition;
-use crate::place::FileAddress;
-use crate::place::Place;
+use places::BlockRead;
+use places::DataBlock;
+use places::DataPosition;
+use places::FILE_LIMIT;
+use places::FileAddress;
+use places::Place;
 use refusals::Refusal;
+use steps::NextRead;
+use steps::fragment_at;
+use steps::next_list;
 
 pub enum ChainRead {
     // the length of the joined data
@@ -28,8 +30,9 @@ pub enum Located {
 
 // Walks all of a chain, since a position stands in a chain that is whole, and keeps the place before the fragment that
 // holds the wanted position.
-pub(crate) fn locate(file: &[u8], start: FileAddress, id: &[u8; 4], wanted: DataPosition) -> Located
-    ensures { λ r. ⌜ Locates (now (id .entry)) (now (file .entry)) (start .0) (wanted .0) (totalOf (now (id .entry)) (now (file .entry)) (start .0)) r ⌝ }
+fn locate(file: &[u8], start: FileAddress, id: &[u8; 4], wanted: DataPosition) -> Located
+    requires { ⌜ length (now file) ≤ fileLimit ⌝ }
+    ensures { λ r. ⌜ Locates (now (id .entry)) (now (file .entry)) (start .0) (wanted .0) (lengthBy (now (id .entry)) (now (file .entry)) (start .0)) r ⌝ }
 {
     let mut place = Place::start(start);
     let mut kept = place;
@@ -63,8 +66,8 @@ pub(crate) fn locate(file: &[u8], start: FileAddress, id: &[u8; 4], wanted: Data
     }
 }
 
-// The same in a file that is not too long. The one caller of that loop in the archive: so it is inlined, and the compiler knows
-// there that no block is too long.
+// The same in any file. The one caller of that loop: so it is inlined, and the compiler knows there that no block is too long.
+// The loop is a function of its own all the same: written here it took 55 instructions a fragment, and so it takes 42.
 pub fn locate_data(file: &[u8], start: FileAddress, id: &[u8; 4], wanted: DataPosition) -> Located
     ensures { λ r. ⌜ Locates (now (id .entry)) (now (file .entry)) (start .0) (wanted .0) (lengthBy (now (id .entry)) (now (file .entry)) (start .0)) r ⌝ }
 {
@@ -72,13 +75,6 @@ pub fn locate_data(file: &[u8], start: FileAddress, id: &[u8; 4], wanted: DataPo
         return Located::Refused(Refusal::FileTooLong);
     }
     locate(file, start, id, wanted)
-}
-
-pub fn accept(file: &[u8], start: FileAddress, id: &[u8; 4]) -> ChainRead
-    ensures { λ r. ⌜ chainReply r ≡ totalOf (now (id .entry)) (now (file .entry)) (start .0) ⌝ }
-{
-    let found = locate(file, start, id, DataPosition(0));
-    found.chain()
 }
 
 // The length of the joined data of a chain of data blocks

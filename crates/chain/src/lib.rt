@@ -1,25 +1,20 @@
-// A chain of data lists: its fragments in turn, whether it is accepted, and where a position of the joined data stands.
+// A chain of data lists: whether it is accepted, and where a position of the joined data stands. Whoever walks along one names
+// this crate alone.
 mod acceptance;
-mod block;
-mod fragment;
-mod limits;
-mod list;
-mod next;
-mod place;
 
 pub use acceptance::ChainRead;
 pub use acceptance::Located;
-pub use acceptance::accept;
 pub use acceptance::data_length;
 pub use acceptance::locate_data;
-pub use block::BlockRead;
-pub use block::DataBlock;
-pub use block::data_of;
-pub use fragment::fragment_at;
-pub use limits::DATA_LIMIT;
-pub use next::NextRead;
-pub use next::next_list;
-pub use place::DataPosition;
-pub use place::FileAddress;
-pub use place::OpenList;
-pub use place::Place;
+pub use places::BlockRead;
+pub use places::DATA_LIMIT;
+pub use places::DataBlock;
+pub use places::DataPosition;
+pub use places::FileAddress;
+pub use places::OpenList;
+pub use places::Place;
+pub use places::data_block_at;
+pub use places::data_of;
+pub use steps::NextRead;
+pub use steps::fragment_at;
+pub use steps::next_list;

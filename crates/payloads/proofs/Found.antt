@@ -15,18 +15,19 @@ use Rattle.definitions.specs.Payload.{idSD, payloadAt, joinedOf}
 use Rattle.chain.specs.Meaning.{locatedReply}
 use Rattle.chain.specs.Located.{Locates}
 use Rattle.chain.specs.Walk.{Walked}
-use Rattle.chain.specs.declared.place.DataPosition.{DataPosition}
-use Rattle.chain.specs.declared.place.Place.{Place}
+use Rattle.places.specs.declared.place.DataPosition.{DataPosition}
+use Rattle.places.specs.declared.place.Place.{Place}
 use Rattle.chain.specs.declared.acceptance.Located.{Located}
 use Rattle.chain.specs.declared.acceptance.Located.the-variants.{Whole}
-use Rattle.chain.proofs.Answers.{unfollowed}
-use Rattle.chain.proofs.Chains.{joined-length, chain-stands}
+use Rattle.places.proofs.Answers.{unfollowed}
+use Rattle.chain.proofs.Chains.{joined-length, chain-stands, data-bound}
 use Rattle.chain.proofs.Walks.{length-total}
 use Rattle.words.proofs.Spans.{length-span}
 use Rattle.records.specs.Window.{laid}
 use Rattle.records.proofs.Laying.{laid-whole}
 use Rattle.records.proofs.Records.{whole}
-use Rattle.payloads.specs.Found.{payloadFrom, Lies}
+use Rattle.payloads.specs.Found.{payloadFrom, HasLength, Lies}
+use Rattle.payloads.specs.declared.payload.LengthRead.{LengthRead}
 
 -- ---- the length
 
@@ -80,7 +81,7 @@ module _ (f : List ℕ) (start : ℕ) (short : length f ≤ fileLimit) where
     pub limited : n .0 ≤ dataLimit
     limited =
         let s = chain-stands idSD f start (accepted .0) (accepted .1) in
-        omega (arith, accepted .2, joined-length f (accepted .0) (s .inside), s .bounded)
+        omega (arith, accepted .2, joined-length f (accepted .0) (s .inside), data-bound f (accepted .0) short s)
 
     in-chain : payloadFrom f start p ≡ payloadAt (joined f (on-the-way .blocks)) p
     unfolding joinedOf on-the-way
@@ -89,21 +90,24 @@ module _ (f : List ℕ) (start : ℕ) (short : length f ≤ fileLimit) where
     pub found-no-length : leb (p + 4) (n .0) ≡ false → payloadFrom f start p ≡ refusal 23 0
     found-no-length h = in-chain ∙ length-past _ p (omega (arith, as-long, leb-false (p + 4) (n .0) h))
 
-    module _ (h : leb (p + 4) (n .0) ≡ true) {first : DataPosition} {size : ℕ} (ef : first .0 ≡ p + 4)
-        (es : (w : Walked idSD f place) → p + 4 ≤ length (joined f (w .blocks)) → size ≡ u32At (joined f (w .blocks)) p) where
+    module _ (h : leb (p + 4) (n .0) ≡ true) {first : DataPosition} {read : LengthRead} (ef : first .0 ≡ p + 4)
+        (has : (w : Walked idSD f place) → HasLength f (w .blocks) p read) where
       room : p + 4 ≤ length (joined f (on-the-way .blocks))
       room = omega (arith, as-long, leb-true (p + 4) (n .0) h)
 
-      pub found-cut : leb (first .0 + size) (n .0) ≡ false → payloadFrom f start p ≡ refusal 23 0
-      found-cut l = in-chain ∙ payload-past _ p room (omega (arith, as-long, ef, es on-the-way room, leb-false (first .0 + size) (n .0) l))
+      size-is : read .length ≡ u32At (joined f (on-the-way .blocks)) p
+      size-is = has on-the-way .is room
 
-      pub found-whole : leb (first .0 + size) (n .0) ≡ true → Lies f (payloadFrom f start p) place (first .0) size
+      pub found-cut : leb (first .0 + read .length) (n .0) ≡ false → payloadFrom f start p ≡ refusal 23 0
+      found-cut l = in-chain ∙ payload-past _ p room (omega (arith, as-long, ef, size-is, leb-false (first .0 + read .length) (n .0) l))
+
+      pub found-whole : leb (first .0 + read .length) (n .0) ≡ true → Lies f (payloadFrom f start p) (read .reached) (first .0) (read .length)
       found-whole l =
-          let inside : first .0 + size ≤ length (joined f (on-the-way .blocks)) = omega (arith, as-long, leb-true (first .0 + size) (n .0) l) in
-          let size-is = es on-the-way room in
+          let inside : first .0 + read .length ≤ length (joined f (on-the-way .blocks)) = omega (arith, as-long, leb-true (first .0 + read .length) (n .0) l) in
+          let on = has on-the-way .on in
           record {
-            walked = on-the-way;
-            ahead = omega (arith, ahead, ef);
-            inside = inside;
-            is = in-chain ∙ payload-inside _ p room (omega (arith, inside, ef, size-is)) ∙ rw (sym ef, sym size-is);
+            walked = on .walked;
+            ahead = omega (arith, on .ahead, ef);
+            inside = rw (on .same) inside;
+            is = rw (on .same) (in-chain ∙ payload-inside _ p room (omega (arith, inside, ef, size-is)) ∙ rw (sym ef, sym size-is));
           }

@@ -15,7 +15,7 @@ use Rattle.definitions.proofs.Replies.{writing-short}
 use Rattle.refusals.specs.Meaning.{refused}
 use Rattle.refusals.specs.declared.Refusal.{Refusal}
 use Rattle.refusals.specs.declared.Refusal.the-variants.{NoRoom}
-use Rattle.chain.specs.declared.place.Place.{Place}
+use Rattle.places.specs.declared.place.Place.{Place}
 use Rattle.words.proofs.Spans.{length-span}
 use Rattle.records.specs.Window.{laid}
 use Rattle.records.proofs.Laying.{laid-whole}

@@ -2,13 +2,12 @@
 ghost use mathlib.Core.Path.{_≡_};
 ghost use Prim.Native.Nat.{_+_, _≤_};
 ghost use lib.ListN.{length};
-ghost use Rattle.definitions.specs.Bytes.{u32At};
-ghost use Rattle.definitions.specs.Chain.{fileLimit, joined};
+ghost use Rattle.definitions.specs.Chain.{fileLimit};
 ghost use Rattle.definitions.specs.Payload.{idSD, joinedOf, payloadOf, stored};
 ghost use Rattle.chain.specs.Walk.{Walked};
 ghost use Rattle.fields.specs.Meaning.{channelMeant};
 ghost use Rattle.payloads.specs.Meaning.{Stores};
-ghost use Rattle.payloads.specs.Found.{payloadFrom, Finds};
+ghost use Rattle.payloads.specs.Found.{payloadFrom, HasLength, Finds};
 use crate::position::PositionRead;
 use crate::position::position_in;
 use chain::DataBlock;
@@ -21,6 +20,12 @@ use decoder::Channel;
 use records::window;
 use refusals::Refusal;
 use words::read_u32_le;
+
+// The length of a payload, and where the walk stopped that read it: the payload is read on from there
+pub(crate) struct LengthRead {
+    pub length: u32,
+    pub reached: Place,
+}
 
 pub(crate) enum PayloadFound {
     // a place on the way that is not behind it, its first byte, and its length
@@ -35,13 +40,16 @@ pub(crate) enum PayloadStored {
 }
 
 // The four bytes of length at a position inside the joined data. They may stand in as many fragments.
-fn length_at(file: &[u8], begin: Place, position: DataPosition) -> u32
+fn length_at(file: &[u8], begin: Place, position: DataPosition) -> LengthRead
     requires { ⌜ (Walked idSD (now file) begin) × (begin .position .0 ≤ position .0) ⌝ }
-    ensures { λ r. ⌜ ((w : Walked idSD (now (file .entry)) begin) → position .0 + 4 ≤ length (joined (now (file .entry)) (w .blocks)) → r ≡ u32At (joined (now (file .entry)) (w .blocks)) (position .0)) ⌝ }
+    ensures { λ r. ⌜ ((w : Walked idSD (now (file .entry)) begin) → HasLength (now (file .entry)) (w .blocks) (position .0) r) ⌝ }
 {
     let mut bytes = [0u8; 4];
-    window(file, begin, &DataBlock::SIGNAL_ID, position, &mut bytes);
-    read_u32_le(&bytes, 0)
+    let reached = window(file, begin, &DataBlock::SIGNAL_ID, position, &mut bytes);
+    LengthRead {
+        length: read_u32_le(&bytes, 0),
+        reached,
+    }
 }
 
 // The payload at a position of the joined data: its length and all its bytes lie inside. The record was found in the same file,
@@ -57,12 +65,13 @@ pub(crate) fn find_payload(file: &[u8], start: FileAddress, position: DataPositi
     if !total.is_behind(position, 4) {
         return PayloadFound::Refused(Refusal::PayloadOutside);
     }
-    let length = length_at(file, place, position);
+    let read = length_at(file, place, position);
     let first = position.further(4);
-    if !total.is_behind(first, length as u64) {
+    if !total.is_behind(first, read.length as u64) {
         return PayloadFound::Refused(Refusal::PayloadOutside);
     }
-    PayloadFound::Payload(place, first, length)
+    let reached = read.reached;
+    PayloadFound::Payload(reached, first, read.length)
 }
 
 // The payload that the record tells, into the buffer. Nothing is written before it is known to fit.

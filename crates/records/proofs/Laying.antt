@@ -12,7 +12,7 @@ use Rattle.definitions.specs.Chain.{Block, dataOf, joined, total}
 use Rattle.definitions.proofs.Replies.{le-or-lt}
 use Rattle.records.specs.Window.{overwritten, laid}
 use Rattle.chain.specs.Walk.{Inside}
-use Rattle.chain.proofs.Chains.{joined-length, joined-more}
+use Rattle.chain.proofs.Chains.{joined-length, joined-more, joined-append}
 
 -- nothing is laid over d
 overwritten-none : (d : List ℕ) (g : ℕ) → overwritten d g [] ≡ d
@@ -135,16 +135,33 @@ laid-part d from p b g k eg ek =
     ap (overwritten d g) (take-all (length b - k) (drop k b) (omega (arith, length-drop k b)))
     ∙ ap₂ (λ (x y : ℕ). overwritten d x (drop y b)) eg ek
 
--- ---- along a chain
+-- what comes behind a window does not matter to it
+laid-full : (d : List ℕ) (from : ℕ) (xs ys : List ℕ) → from + length d ≤ length xs → laid d from 0 (xs ++ ys) ≡ laid d from 0 xs
+laid-full d from xs ys h =
+    let more : from + length d ≤ length (xs ++ ys) = omega (arith, length-append xs ys) in
+    let low : from ≤ length xs = omega arith in
+    let room : length d ≤ length (drop from xs) = omega (arith, length-drop from xs) in
+    laid-whole d from (xs ++ ys) more
+    ∙ ap (take (length d)) (drop-append-le from xs ys low) ∙ take-append-le (length d) (drop from xs) ys room
+    ∙ sym (laid-whole d from xs h)
 
-module _ (d : List ℕ) (from : ℕ) where
-  -- where no block so far reaches into the window
-  pub lay-start : (f : List ℕ) (bs : List Block) (p : ℕ) → Inside f bs → total bs ≡ p → p ≤ from → d ≡ laid d from 0 (joined f bs)
-  lay-start f bs p h size l = sym (laid-before d from 0 (joined f bs) (omega (arith, joined-length f bs h)))
+-- ---- the data of blocks in turn, whoever lists them: `bs` are those so far, which end at p
 
-  -- a turn: the data x of one block more
-  pub lay-turn : (f : List ℕ) (bs : List Block) (b : Block) (p : ℕ) (x out new : List ℕ) → Inside f bs → total bs ≡ p
-      → out ≡ laid d from 0 (joined f bs) → x ≡ dataOf f b → new ≡ laid out from p x → new ≡ laid d from 0 (joined f (bs ++ (b ∷ [])))
-  lay-turn f bs b p x out new h size so its turn =
-      let long : p ≡ length (joined f bs) = sym (joined-length f bs h ∙ size) in
-      turn ∙ rw (so, its, long, joined-more f b bs) (laid-more d from (joined f bs) (dataOf f b))
+module _ (d : List ℕ) (from : ℕ) (f : List ℕ) (bs : List Block) (p : ℕ) (inside : Inside f bs) (size : total bs ≡ p) where
+  long : p ≡ length (joined f bs)
+  long = sym (joined-length f bs inside ∙ size)
+
+  -- none reaches into the window
+  pub lay-start : p ≤ from → d ≡ laid d from 0 (joined f bs)
+  lay-start l = sym (laid-before d from 0 (joined f bs) (omega (arith, long)))
+
+  module _ (out : List ℕ) (so : out ≡ laid d from 0 (joined f bs)) where
+    -- the data x of one more is laid
+    pub lay-turn : (b : Block) (x new : List ℕ) → x ≡ dataOf f b → new ≡ laid out from p x → new ≡ laid d from 0 (joined f (bs ++ (b ∷ [])))
+    lay-turn b x new its turn = turn ∙ rw (so, its, long, joined-more f b bs) (laid-more d from (joined f bs) (dataOf f b))
+
+    -- the window is full, whatever blocks come behind
+    pub lay-full : (rest all : List Block) → all ≡ bs ++ rest → from + length d ≤ p → out ≡ laid d from 0 (joined f all)
+    lay-full rest all is full =
+        let enough : from + length d ≤ length (joined f bs) = omega (arith, long) in
+        so ∙ sym (ap (λ (xs : List Block). laid d from 0 (joined f xs)) is ∙ ap (laid d from 0) (joined-append f bs rest) ∙ laid-full d from (joined f bs) (joined f rest) enough)

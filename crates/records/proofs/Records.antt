@@ -13,8 +13,8 @@ use Rattle.definitions.specs.Reply.{answer, refusal, if_then_else_}
 use Rattle.definitions.specs.Bytes.{span}
 use Rattle.definitions.specs.Chain.{Block, fileLimit, dataLimit, recordLimit, idDT, joined, chainOf, totalOf, dataLength, badSize, recordOf, fetched}
 use Rattle.records.specs.Window.{laid}
-use Rattle.chain.proofs.Answers.{passed, followed, answered, unfollowed}
-use Rattle.chain.proofs.Chains.{joined-length, chain-stands}
+use Rattle.places.proofs.Answers.{passed, followed, answered, unfollowed}
+use Rattle.chain.proofs.Chains.{joined-length, chain-stands, data-bound}
 use Rattle.records.proofs.Laying.{laid-whole}
 
 -- ---- a record's size
@@ -112,7 +112,7 @@ module _ (f : List ℕ) (start k size : ℕ) (out : List ℕ) where
       fetch-first h =
           let w = data-whole f start n e in
           let s = chain-stands idDT f start (w .1) (w .2) in
-          omega (arith, w .3, joined-length f (w .1) (s .inside), s .bounded, ltb-false n (k * size + size) h)
+          omega (arith, w .3, joined-length f (w .1) (s .inside), data-bound f (w .1) (ltb-false _ _ (w .0)) s, ltb-false n (k * size + size) h)
 
       -- the window on the record, in the front of the buffer
       pub fetch-record : (r : List ℕ) (from : ℕ) → ltb n (k * size + size) ≡ false → from ≡ k * size → r ≡ laid (take size out) from 0 (joined f (data-whole f start n e .1))

@@ -1,10 +1,10 @@
 // A window on the joined data of a chain that is accepted.
 ghost use mathlib.Core.Path.{_≡_};
-ghost use Prim.Native.Nat.{_-_, _≤_, min};
+ghost use Prim.Native.Nat.{_+_, _-_, _≤_, min};
 ghost use lib.ListN.{length};
 ghost use Rattle.definitions.specs.Chain.{joined};
 ghost use Rattle.chain.specs.Walk.{Walked};
-ghost use Rattle.records.specs.Window.{overwritten, laid};
+ghost use Rattle.records.specs.Window.{overwritten, laid, ReadsOn};
 use chain::BlockRead;
 use chain::DataPosition;
 use chain::NextRead;
@@ -27,7 +27,7 @@ fn least(a: usize, b: usize) -> usize
 }
 
 // The bytes over `out` from `at` on, as far as out goes
-fn copy_over(bytes: &[u8], out: &mut [u8], at: usize)
+pub fn copy_over(bytes: &[u8], out: &mut [u8], at: usize)
     requires { ⌜ at ≤ length (now out) ⌝ }
     ensures { λ _. ⌜ now (out .exit) ≡ overwritten (now (out .entry)) at (now (bytes .entry)) ⌝ }
 {
@@ -40,7 +40,7 @@ fn copy_over(bytes: &[u8], out: &mut [u8], at: usize)
 }
 
 // What of a fragment's data, which stands at `position`, falls into the window from `from` on
-fn lay(data: &[u8], position: DataPosition, from: DataPosition, out: &mut [u8])
+pub fn lay(data: &[u8], position: DataPosition, from: DataPosition, out: &mut [u8])
     ensures { λ _. ⌜ now (out .exit) ≡ laid (now (out .entry)) (from .0) (position .0) (now («data» .entry)) ⌝ }
 {
     let gap = less(position.0, from.0);
@@ -56,34 +56,36 @@ fn lay(data: &[u8], position: DataPosition, from: DataPosition, out: &mut [u8])
 }
 
 // The bytes of the joined data from `from` on, as far as `out` goes, by a walk from a place that is not behind them. Of each
-// fragment only what falls into the window is read, and none behind it.
-pub fn window(file: &[u8], begin: Place, id: &[u8; 4], from: DataPosition, out: &mut [u8])
+// fragment only what falls into the window is read, and none behind it. What is given back is the place before the last one
+// read: whoever reads on begins there.
+pub fn window(file: &[u8], begin: Place, id: &[u8; 4], from: DataPosition, out: &mut [u8]) -> Place
     requires { ⌜ (Walked (now id) (now file) begin) × (begin .position .0 ≤ from .0) ⌝ }
-    ensures { λ _. ⌜ ((w : Walked (now (id .entry)) (now (file .entry)) begin) → now (out .exit) ≡ laid (now (out .entry)) (from .0) 0 (joined (now (file .entry)) (w .blocks))) ⌝ }
+    ensures { λ r. ⌜ ((w : Walked (now (id .entry)) (now (file .entry)) begin) → (now (out .exit) ≡ laid (now (out .entry)) (from .0) 0 (joined (now (file .entry)) (w .blocks))) × ReadsOn (now (id .entry)) (now (file .entry)) (w .blocks) (from .0 + length (now (out .entry))) r) ⌝ }
 {
     let mut place = begin;
     loop {
         if place.index < place.list.links {
             let read = fragment_at(file, place, id);
             let BlockRead::Block(block) = read else {
-                return;
+                return place;
             };
             let data = data_of(file, block);
             let position = place.position;
             lay(data, position, from, out);
-            place = place.behind(block.size);
-            let reached = place.position;
+            let behind = place.behind(block.size);
+            let reached = behind.position;
             if reached.is_behind(from, out.len() as u64) {
-                return;
+                return place;
             }
+            place = behind;
         } else {
             let next = next_list(file, place);
             match next {
                 NextRead::Refused(_) => {
-                    return;
+                    return place;
                 }
                 NextRead::End(_) => {
-                    return;
+                    return place;
                 }
                 NextRead::List(entered) => {
                     place = entered;

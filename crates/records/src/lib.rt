@@ -3,6 +3,8 @@ mod joined;
 mod record;
 mod value;
 
+pub use joined::copy_over;
+pub use joined::lay;
 pub use joined::window;
 pub use record::RecordRead;
 pub use record::read_record;

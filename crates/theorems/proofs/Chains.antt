@@ -3,3 +3,4 @@ pub mod BlocksStand
 pub mod ListsAlike
 pub mod AcceptedChains
 pub mod FoundByLength
+pub mod WithinLimits

@@ -20,7 +20,7 @@ use Rattle.fields.specs.declared.value.ValueRead.{ValueRead}
 use Rattle.fields.specs.declared.value.ValidValueRead.{ValidValueRead}
 use Rattle.encoder.specs.declared.number.NumberGiven.{NumberGiven}
 use Rattle.encoder.specs.declared.encode.ValueWritten.{ValueWritten}
-use Rattle.chain.specs.declared.place.FileAddress.{FileAddress}
+use Rattle.places.specs.declared.place.FileAddress.{FileAddress}
 use Rattle.chain.specs.declared.acceptance.ChainRead.{ChainRead}
 use Rattle.records.specs.declared.record.RecordRead.{RecordRead}
 use Rattle.payloads.specs.declared.value.PayloadRead.{PayloadRead}
@@ -56,8 +56,6 @@ use Rattle.decoder.proofs.decode_f64_from_record.Kinds as record-double-kinds
 use Rattle.decoder.proofs.decode_f64_from_record.Reads as record-double
 use Rattle.encoder.proofs.encode_channel_value.Kinds as value-write-kinds
 use Rattle.encoder.proofs.encode_channel_value.Reads as value-write
-use Rattle.chain.proofs.accept.Kinds as chain-accept-kinds
-use Rattle.chain.proofs.accept.Reads as chain-accept
 use Rattle.chain.proofs.data_length.Kinds as chain-length-kinds
 use Rattle.chain.proofs.data_length.Reads as chain-length
 use Rattle.records.proofs.read_record.Kinds as record-read-kinds
@@ -132,10 +130,6 @@ WritesValue κs idSize channel given bytes y after =
     Allows 1 value-write-kinds.ps value-write-kinds.r value-write.Learnt κs (idSize, (channel, (given, (bytes, tt)))) y (tt, (tt, (tt, (after, tt))))
 
 -- ---- a chain
-
-abbrev pub AcceptsChain : Lfts 2 → Slice → FileAddress → Slice → ChainRead → Type 0
-AcceptsChain κs file start id y =
-    Allows 2 chain-accept-kinds.ps chain-accept-kinds.r chain-accept.Learnt κs (file, (start, (id, tt))) y (tt, (tt, (tt, tt)))
 
 abbrev pub ReadsLength : Lfts 1 → Slice → FileAddress → ChainRead → Type 0
 ReadsLength κs file start y =

@@ -13,7 +13,7 @@ use Rattle.definitions.specs.Header.{Header, headerIn}
 use Rattle.definitions.specs.ChannelBlock.{ChannelBlock, idCN, fieldsAt, blockIn, channelBlockOf, channelHeader, sixLimits, formatBytes, channelBytes}
 use Rattle.words.proofs.Numbers.{Bytes}
 use Rattle.words.proofs.Spans.{span-one, span-split, span-below}
-use Rattle.chain.proofs.Answers.{answered}
+use Rattle.places.proofs.Answers.{answered}
 use Rattle.theorems.proofs.Blocks.Rewritten.{glue, number-written, numbers-written}
 use Rattle.theorems.proofs.Blocks.HeaderRoundTrip.{named-header}
 use Rattle.theorems.proofs.Types.TypeCodes.{code-back}

@@ -23,7 +23,7 @@ use Rattle.blocks.proofs.Headers.{length-header}
 use Rattle.blocks.proofs.Writes.{length-list}
 use Rattle.channels.proofs.Channels.{length-channel}
 use Rattle.words.proofs.Spans.{length-span}
-use Rattle.chain.proofs.Answers.{answered, followed}
+use Rattle.places.proofs.Answers.{answered, followed}
 use Rattle.theorems.proofs.Blocks.Rewritten.{front-of}
 use Rattle.theorems.proofs.Blocks.ListAnswers.{above-zero, list-answered, list-stands}
 use Rattle.theorems.proofs.Blocks.ChannelAnswers.{channel-answered, channel-stands}

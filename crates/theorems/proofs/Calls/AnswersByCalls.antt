@@ -9,12 +9,10 @@ use lib.ListN.{length}
 use Rattle.definitions.specs.Reply.{Reply, Outcome, answer}
 use Rattle.definitions.specs.Unicode.{TextWritten, textOf}
 use Rattle.definitions.specs.DataList.{equal, variable}
-use Rattle.definitions.specs.Chain.{Block}
-use Rattle.definitions.specs.Accepted.{Accepted}
 use Rattle.mf4.specs.Clauses.{Slice}
 use Rattle.theorems.specs.Exactly.{Exactly, ListStands, ChannelStands, ListFits, FieldStands, Joinable, Fetchable, ValueFetchable}
-use Rattle.theorems.specs.Clauses.{ReadsHeader, WritesHeader, ReadsList, WritesEqual, WritesVariable, ReadsChannel, WritesChannel, WritesText, ReadsValue, ReadsValidValue, AcceptsChain, ReadsLength, ReadsRecord, ReadsRecordValue}
-use Rattle.theorems.proofs.Calls.Answers.{header-exactly, list-exactly, channel-exactly, header-written-exactly, channel-written-exactly, list-written-exactly, text-written-exactly, value-exactly, valid-value-exactly, total-exactly, length-exactly, fetched-exactly, value-fetched-exactly}
+use Rattle.theorems.specs.Clauses.{ReadsHeader, WritesHeader, ReadsList, WritesEqual, WritesVariable, ReadsChannel, WritesChannel, WritesText, ReadsValue, ReadsValidValue, ReadsLength, ReadsRecord, ReadsRecordValue}
+use Rattle.theorems.proofs.Calls.Answers.{header-exactly, list-exactly, channel-exactly, header-written-exactly, channel-written-exactly, list-written-exactly, text-written-exactly, value-exactly, valid-value-exactly, length-exactly, fetched-exactly, value-fetched-exactly}
 use Rattle.blocks.specs.Meaning.{headerReply, headerMeant, writtenReply, listReply}
 use Rattle.channels.specs.Meaning.{channelBlockReply, channelBlockMeant}
 use Rattle.blocks.specs.declared.header.BlockHeader.{BlockHeader}
@@ -35,7 +33,7 @@ use Rattle.fields.specs.declared.value.ValueRead.{ValueRead}
 use Rattle.fields.specs.declared.value.ValidValueRead.{ValidValueRead}
 use Rattle.chain.specs.Meaning.{chainReply}
 use Rattle.records.specs.Meaning.{recordReply}
-use Rattle.chain.specs.declared.place.FileAddress.{FileAddress}
+use Rattle.places.specs.declared.place.FileAddress.{FileAddress}
 use Rattle.chain.specs.declared.acceptance.ChainRead.{ChainRead}
 use Rattle.records.specs.declared.record.RecordRead.{RecordRead}
 
@@ -97,10 +95,6 @@ pub valid-value-read-exactly : (κs : Lfts 1) (bytes : Slice) (group : Group) (c
 valid-value-read-exactly κs bytes group channel y p = exactly p (valid-value-exactly (bytes .now) (groupMeant group) (channelMeant channel))
 
 -- ---- a chain
-
-pub chain-accept-exactly : (κs : Lfts 2) (file : Slice) (start : FileAddress) (id : Slice) (y : ChainRead)
-    → AcceptsChain κs file start id y → Exactly ((bs : List Block) × Accepted (id .now) (file .now) (start .0) bs) (chainReply y)
-chain-accept-exactly κs file start id y p = exactly p (total-exactly (id .now) (file .now) (start .0))
 
 pub chain-length-exactly : (κs : Lfts 1) (file : Slice) (start : FileAddress) (y : ChainRead)
     → ReadsLength κs file start y → Exactly (Joinable (file .now) (start .0)) (chainReply y)

@@ -22,7 +22,7 @@ use Rattle.channels.specs.declared.channel_block.ChannelBlock.{ChannelBlock}
 use Rattle.text.specs.Meaning.{encodingOf, textReply}
 use Rattle.text.specs.declared.encoding.Encoding.{Encoding}
 use Rattle.records.specs.Meaning.{recordReply}
-use Rattle.chain.specs.declared.place.FileAddress.{FileAddress}
+use Rattle.places.specs.declared.place.FileAddress.{FileAddress}
 use Rattle.fields.specs.Meaning.{channelMeant, groupMeant, validValueReply}
 use Rattle.fields.specs.declared.channel.Channel.{Channel}
 use Rattle.fields.specs.declared.group.Group.{Group}

@@ -21,6 +21,7 @@ use Rattle.text.proofs.Back.{text-one}
 use Rattle.fields.proofs.Back.{description-one, field-one, value-one, valid-value-one}
 use Rattle.encoder.specs.Meaning as encoder
 use Rattle.encoder.proofs.Back as encoder-back
+use Rattle.places.proofs.Back.{block-one}
 use Rattle.chain.proofs.Back.{chain-one}
 use Rattle.records.proofs.Back.{record-one}
 use Rattle.payloads.proofs.Back.{payload-fetched-one}
@@ -94,14 +95,26 @@ use Rattle.decoder.proofs.decode_f64_from_record.Kinds as record-double-kinds
 use Rattle.decoder.proofs.decode_f64_from_record.Reads as record-double
 use Rattle.encoder.proofs.encode_channel_value.Kinds as value-write-kinds
 use Rattle.encoder.proofs.encode_channel_value.Reads as value-write
-use Rattle.chain.proofs.accept.Kinds as chain-accept-kinds
-use Rattle.chain.proofs.accept.Reads as chain-accept
+use Rattle.places.proofs.data_block_at.Kinds as data-block-kinds
+use Rattle.places.proofs.data_block_at.Reads as data-block
+use Rattle.places.proofs.list_at.Kinds as chained-list-kinds
+use Rattle.places.proofs.list_at.Reads as chained-list
 use Rattle.chain.proofs.data_length.Kinds as chain-length-kinds
 use Rattle.chain.proofs.data_length.Reads as chain-length
-use Rattle.chain.proofs.place.Place.start.Kinds as chain-start-kinds
-use Rattle.chain.proofs.place.Place.start.Reads as chain-start
-use Rattle.chain.proofs.place.DataPosition.is_behind.Kinds as position-behind-kinds
-use Rattle.chain.proofs.place.DataPosition.is_behind.Reads as position-behind
+use Rattle.places.proofs.place.Place.start.Kinds as chain-start-kinds
+use Rattle.places.proofs.place.Place.start.Reads as chain-start
+use Rattle.places.proofs.place.DataPosition.is_behind.Kinds as position-behind-kinds
+use Rattle.places.proofs.place.DataPosition.is_behind.Reads as position-behind
+use Rattle.places.proofs.place.DataPosition.stands_in.Kinds as position-in-kinds
+use Rattle.places.proofs.place.DataPosition.stands_in.Reads as position-in
+use Rattle.places.proofs.place.DataPosition.passes_limit.Kinds as position-limit-kinds
+use Rattle.places.proofs.place.DataPosition.passes_limit.Reads as position-limit
+use Rattle.places.proofs.place.OpenList.is_last.Kinds as open-list-last-kinds
+use Rattle.places.proofs.place.OpenList.is_last.Reads as open-list-last
+use Rattle.places.proofs.place.Place.has_ended.Kinds as place-ended-kinds
+use Rattle.places.proofs.place.Place.has_ended.Reads as place-ended
+use Rattle.records.proofs.lay.Kinds as window-lay-kinds
+use Rattle.records.proofs.lay.Reads as window-lay
 use Rattle.records.proofs.read_record.Kinds as record-read-kinds
 use Rattle.records.proofs.read_record.Reads as record-read
 use Rattle.records.proofs.read_value.Kinds as record-value-kinds
@@ -233,8 +246,11 @@ record-double-settled = settled (λ κs a y z b c p q. (p ∙ sym q, refl))
 pub value-write-settled : Settled 1 value-write-kinds.ps value-write-kinds.r value-write.Asked value-write.ensures value-write.Learnt
 value-write-settled = settled (λ κs a y z b c p q. one-outcome encoder.writtenReply encoder-back.written-one (λ out. (tt, (tt, (tt, (out, tt))))) (p ∙ sym q))
 
-pub chain-accept-settled : Settled 2 chain-accept-kinds.ps chain-accept-kinds.r chain-accept.Asked chain-accept.ensures chain-accept.Learnt
-chain-accept-settled = settled (λ κs a y z b c p q. (chain-one y z (p ∙ sym q), refl))
+pub data-block-settled : Settled 2 data-block-kinds.ps data-block-kinds.r data-block.Asked data-block.ensures data-block.Learnt
+data-block-settled = settled (λ κs a y z b c p q. (block-one y z (p ∙ sym q), refl))
+
+pub chained-list-settled : Settled 1 chained-list-kinds.ps chained-list-kinds.r chained-list.Asked chained-list.ensures chained-list.Learnt
+chained-list-settled = settled (λ κs a y z b c p q. (list-one y z (p ∙ sym q), refl))
 
 pub chain-length-settled : Settled 1 chain-length-kinds.ps chain-length-kinds.r chain-length.Asked chain-length.ensures chain-length.Learnt
 chain-length-settled = settled (λ κs a y z b c p q. (chain-one y z (p ∙ sym q), refl))
@@ -244,6 +260,21 @@ chain-start-settled = settled (λ κs a y z b c p q. (p ∙ sym q, refl))
 
 pub position-behind-settled : Settled 0 position-behind-kinds.ps position-behind-kinds.r position-behind.Asked position-behind.ensures position-behind.Learnt
 position-behind-settled = settled (λ κs a y z b c p q. (p ∙ sym q, refl))
+
+pub position-in-settled : Settled 0 position-in-kinds.ps position-in-kinds.r position-in.Asked position-in.ensures position-in.Learnt
+position-in-settled = settled (λ κs a y z b c p q. (p ∙ sym q, refl))
+
+pub position-limit-settled : Settled 0 position-limit-kinds.ps position-limit-kinds.r position-limit.Asked position-limit.ensures position-limit.Learnt
+position-limit-settled = settled (λ κs a y z b c p q. (p ∙ sym q, refl))
+
+pub open-list-last-settled : Settled 0 open-list-last-kinds.ps open-list-last-kinds.r open-list-last.Asked open-list-last.ensures open-list-last.Learnt
+open-list-last-settled = settled (λ κs a y z b c p q. (p ∙ sym q, refl))
+
+pub place-ended-settled : Settled 0 place-ended-kinds.ps place-ended-kinds.r place-ended.Asked place-ended.ensures place-ended.Learnt
+place-ended-settled = settled (λ κs a y z b c p q. (p ∙ sym q, refl))
+
+pub window-lay-settled : Settled 2 window-lay-kinds.ps window-lay-kinds.r window-lay.Asked window-lay.ensures window-lay.Learnt
+window-lay-settled = settled (λ κs a y z b c p q. (refl, ap (λ (out : List ℕ). (tt, (tt, (tt, (out, tt))))) (p ∙ sym q)))
 
 pub record-read-settled : Settled 2 record-read-kinds.ps record-read-kinds.r record-read.Asked record-read.ensures record-read.Learnt
 record-read-settled = settled (λ κs a y z b c p q. one-outcome recordReply record-one (λ out. (tt, (tt, (tt, (tt, (out, tt)))))) (p ∙ sym q))

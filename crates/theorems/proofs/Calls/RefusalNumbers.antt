@@ -8,7 +8,7 @@ use Prim.Native.Nat.{ℕ, zero, suc, _+_, _*_, _≤_, _<_}
 use native.Mathlib.Omega.{arith}
 use lib.ListN.{length, take, drop}
 use lib.Dec.{ltb, leb, eqb}
-use borrow.Author.Tests.{leb-true}
+use borrow.Author.Tests.{leb-true, le-leb}
 use Rattle.definitions.specs.Reply.{Reply, Outcome, answer, refusal, if_then_else_, andThen, told, writing, onAnswer}
 use Rattle.definitions.specs.Bytes.{u32At, u64At, idAt}
 use Rattle.definitions.specs.Unicode.{Encoding, textOf, writtenText, textWritten}
@@ -32,6 +32,10 @@ Some n t = 0 < n
 abbrev pub OfBlocks : ℕ → ℕ → Type 0
 OfBlocks n t = leb 2 n && leb n 17 ≡ true
 
+-- of the lists and blocks of a chain alone
+abbrev pub OfLists : ℕ → ℕ → Type 0
+OfLists n t = leb 2 n && leb n 13 ≡ true
+
 abbrev pub OfFields : ℕ → ℕ → Type 0
 OfFields n t = leb 18 n && leb n 22 ≡ true
 
@@ -41,6 +45,9 @@ between a b n h = let p = both (leb a n) (leb n b) h in (leb-true a n (p .0), le
 pub weaker : {A : Type 0} {P Q : ℕ → ℕ → Type 0} (r : Reply A) → ((n t : ℕ) → P n t → Q n t) → Numbered P r → Numbered Q r
 weaker r on h n t e = on n t (h n t e)
 
+pub of-lists-too : (n t : ℕ) → OfLists n t → OfBlocks n t
+of-lists-too n t h = let p = between 2 13 n h in rw (le-leb 2 n (p .0)) (le-leb n 17 (omega (arith, p .1)))
+
 module _ (P : ℕ → ℕ → Type 0) where
   pub of-answer : {A : Type 0} (a : A) → Numbered P (answer a)
   of-answer a n t e = not-answered a n t (sym e)
@@ -48,11 +55,11 @@ module _ (P : ℕ → ℕ → Type 0) where
   pub of-refusal : {A : Type 0} (n t : ℕ) → P n t → Numbered {A = A} P (refusal n t)
   of-refusal n t p m s e = let en : n ≡ m = cc in let et : t ≡ s = cc in rw (← en, ← et) p
 
-  of-either : {A : Type 0} (b : Bool) (q r : Reply A) → Numbered P q → Numbered P r → Numbered P (if b then q else r)
+  pub of-either : {A : Type 0} (b : Bool) (q r : Reply A) → Numbered P q → Numbered P r → Numbered P (if b then q else r)
   of-either true q r g h = g
   of-either false q r g h = h
 
-  of-test : {A : Type 0} (b : Bool) (n t : ℕ) (r : Reply A) → P n t → Numbered P r → Numbered P (if b then refusal n t else r)
+  pub of-test : {A : Type 0} (b : Bool) (n t : ℕ) (r : Reply A) → P n t → Numbered P r → Numbered P (if b then refusal n t else r)
   of-test b n t r p h = of-either b (refusal n t) r (of-refusal n t p) h
 
   of-following : {A B : Type 0} (r : Reply A) (g : A → Reply B) → Numbered P r → ((a : A) → Numbered P (g a)) → Numbered P (andThen r g)
@@ -66,25 +73,30 @@ module _ (P : ℕ → ℕ → Type 0) where
 
 -- ---- blocks
 
-pub header-numbered : (s : List ℕ) → Numbered OfBlocks (headerOf s)
+header-low : (s : List ℕ) → Numbered OfLists (headerOf s)
 unfolding headerOf
-header-numbered s = of-test OfBlocks (ltb (length s) 24) 2 (told 24) _ refl (of-answer OfBlocks _)
+header-low s = of-test OfLists (ltb (length s) 24) 2 (told 24) _ refl (of-answer OfLists _)
 
-rest-numbered : (s : List ℕ) (h : Header) → Numbered OfBlocks (restOf s h)
+pub header-numbered : (s : List ℕ) → Numbered OfBlocks (headerOf s)
+header-numbered s = weaker _ of-lists-too (header-low s)
+
+rest-low : (s : List ℕ) (h : Header) → Numbered OfLists (restOf s h)
 unfolding restOf
-rest-numbered s h =
-    of-test OfBlocks (ltb (length s) (flagsAt (h .linkCount) + 8 + restIn s (h .linkCount) * 8)) 2 _ _ refl (of-answer OfBlocks _)
+rest-low s h = of-test OfLists (ltb (length s) (flagsAt (h .linkCount) + 8 + restIn s (h .linkCount) * 8)) 2 _ _ refl (of-answer OfLists _)
 
-links-numbered : (s : List ℕ) (h : Header) → Numbered OfBlocks (linksOf s h)
+links-low : (s : List ℕ) (h : Header) → Numbered OfLists (linksOf s h)
 unfolding linksOf
-links-numbered s h =
-    of-test OfBlocks (not (idAt s 0 idDL)) 3 0 _ refl
-    (of-test OfBlocks (eqb (h .linkCount) 0) 4 0 _ refl
-    (of-test OfBlocks (ltb (length s) (flagsAt (h .linkCount) + 8)) 2 _ _ refl (rest-numbered s h)))
+links-low s h =
+    of-test OfLists (not (idAt s 0 idDL)) 3 0 _ refl
+    (of-test OfLists (eqb (h .linkCount) 0) 4 0 _ refl
+    (of-test OfLists (ltb (length s) (flagsAt (h .linkCount) + 8)) 2 _ _ refl (rest-low s h)))
+
+list-low : (s : List ℕ) → Numbered OfLists (listOf s)
+unfolding listOf
+list-low s = of-following OfLists (headerOf s) (linksOf s) (header-low s) (links-low s)
 
 pub list-numbered : (s : List ℕ) → Numbered OfBlocks (listOf s)
-unfolding listOf
-list-numbered s = of-following OfBlocks (headerOf s) (linksOf s) (header-numbered s) (links-numbered s)
+list-numbered s = weaker _ of-lists-too (list-low s)
 
 fields-numbered : (s : List ℕ) (h : Header) → Numbered OfBlocks (fieldsOf s h)
 unfolding fieldsOf
@@ -122,14 +134,14 @@ text-written-numbered out e s = writing-numbered out (textOf e s .bytes) _
 
 -- ---- a chain
 
-block-numbered : (id f : List ℕ) (a : ℕ) → Numbered OfBlocks (blockAt id f a)
+pub block-low : (id f : List ℕ) (a : ℕ) → Numbered OfLists (blockAt id f a)
 unfolding blockAt
-block-numbered id f a =
-    of-test OfBlocks (not (hasHeader f a)) 11 0 _ refl
-    (of-test OfBlocks (not (idAt f a id)) 12 0 _ refl
-    (of-test OfBlocks (not (eqb (u64At f (a + 16)) 0)) 12 0 _ refl
-    (of-test OfBlocks (ltb (u64At f (a + 8)) 24) 12 0 _ refl
-    (of-test OfBlocks (ltb (length f) (a + u64At f (a + 8))) 12 0 _ refl (of-answer OfBlocks _)))))
+block-low id f a =
+    of-test OfLists (not (hasHeader f a)) 11 0 _ refl
+    (of-test OfLists (not (idAt f a id)) 12 0 _ refl
+    (of-test OfLists (not (eqb (u64At f (a + 16)) 0)) 12 0 _ refl
+    (of-test OfLists (ltb (u64At f (a + 8)) 24) 12 0 _ refl
+    (of-test OfLists (ltb (length f) (a + u64At f (a + 8))) 12 0 _ refl (of-answer OfLists _)))))
 
 judged-numbered : (s : List ℕ) (d : DataList) (i p : ℕ) (b : Block) → Numbered OfBlocks (judged s d i p b)
 judged-numbered s d i p b =
@@ -141,38 +153,38 @@ unfolding fragments fragmentOf
 fragments-numbered id f s d i zero before = of-answer OfBlocks before
 fragments-numbered id f s d i (suc n) before =
     of-following OfBlocks (andThen (blockAt id f (u64At s (d .linksAt + i * 8))) (judged s d i _)) _
-    (of-following OfBlocks (blockAt id f (u64At s (d .linksAt + i * 8))) _ (block-numbered id f _) (judged-numbered s d i _))
+    (of-following OfBlocks (blockAt id f (u64At s (d .linksAt + i * 8))) _ (weaker _ of-lists-too (block-low id f _)) (judged-numbered s d i _))
     (λ b. fragments-numbered id f s d (i + 1) n (before ++ (b ∷ [])))
 
-admitted-numbered : (n : ℕ) (d : DataList) → Numbered OfBlocks (admitted n d)
-admitted-numbered n d =
-    of-test OfBlocks (not (agrees d)) 10 0 _ refl
-    (of-test OfBlocks (ltb fragmentLimit (n + d .links)) 9 0 _ refl (of-answer OfBlocks d))
+admitted-low : (n : ℕ) (d : DataList) → Numbered OfLists (admitted n d)
+admitted-low n d =
+    of-test OfLists (not (agrees d)) 10 0 _ refl
+    (of-test OfLists (ltb fragmentLimit (n + d .links)) 9 0 _ refl (of-answer OfLists d))
 
-list-at-numbered : (f : List ℕ) (n a : ℕ) → Numbered OfBlocks (listAt f n a)
+pub list-at-low : (f : List ℕ) (n a : ℕ) → Numbered OfLists (listAt f n a)
 unfolding listAt
-list-at-numbered f n a =
-    of-test OfBlocks (not (hasHeader f a)) 11 0 _ refl
-    (of-following OfBlocks (listOf (drop a f)) (admitted n) (list-numbered (drop a f)) (admitted-numbered n))
+list-at-low f n a =
+    of-test OfLists (not (hasHeader f a)) 11 0 _ refl
+    (of-following OfLists (listOf (drop a f)) (admitted n) (list-low (drop a f)) (admitted-low n))
 
-chained-numbered : (first : Declaration) (f : List ℕ) (n a : ℕ) → Numbered OfBlocks (chainedAt first f n a)
+pub chained-low : (first : Declaration) (f : List ℕ) (n a : ℕ) → Numbered OfLists (chainedAt first f n a)
 unfolding chainedAt
-chained-numbered first f n a =
-    of-following OfBlocks (listAt f n a) _ (list-at-numbered f n a)
-    (λ d. of-test OfBlocks (not (keepsTo first (eqb (d .next) 0) (declarationOf (drop a f) d))) 13 0 _ refl (of-answer OfBlocks d))
+chained-low first f n a =
+    of-following OfLists (listAt f n a) _ (list-at-low f n a)
+    (λ d. of-test OfLists (not (keepsTo first (eqb (d .next) 0) (declarationOf (drop a f) d))) 13 0 _ refl (of-answer OfLists d))
 
 lists-numbered : (id f : List ℕ) (first : Declaration) (k a : ℕ) (before : List Block) → Numbered OfBlocks (lists id f first k a before)
 unfolding lists
 lists-numbered id f first zero a before = of-refusal OfBlocks 8 0 refl
 lists-numbered id f first (suc k) a before =
-    of-following OfBlocks (chainedAt first f (length before) a) _ (chained-numbered first f (length before) a)
+    of-following OfBlocks (chainedAt first f (length before) a) _ (weaker _ of-lists-too (chained-low first f (length before) a))
     (λ d. of-following OfBlocks (fragments id f (drop a f) d 0 (d .links) before) _ (fragments-numbered id f (drop a f) d 0 (d .links) before)
     (λ bs. of-either OfBlocks (eqb (d .next) 0) _ _ (of-answer OfBlocks bs) (lists-numbered id f first k (d .next) bs)))
 
 chain-numbered : (id f : List ℕ) (start : ℕ) → Numbered OfBlocks (chainOf id f start)
 unfolding chainOf
 chain-numbered id f start =
-    of-following OfBlocks (listAt f 0 start) _ (list-at-numbered f 0 start)
+    of-following OfBlocks (listAt f 0 start) _ (weaker _ of-lists-too (list-at-low f 0 start))
     (λ d. lists-numbered id f (declarationOf (drop start f) d) listLimit start [])
 
 pub total-numbered : (id f : List ℕ) (start : ℕ) → Numbered OfBlocks (totalOf id f start)

@@ -13,8 +13,8 @@ use Rattle.definitions.specs.DataList.{DataList}
 use Rattle.definitions.specs.Chain.{Block, total, listLimit, fragmentLimit, dataLimit, fragmentOf, fragments, listAt, Declaration, declarationOf, keepsTo, chainedAt, lists, chainOf}
 use Rattle.definitions.specs.Accepted.{Each, Part, blocksOf, linkTo, Truthful, BlockListed, PartStands, Accepted}
 use Rattle.definitions.proofs.Replies.{not-answered}
-use Rattle.chain.proofs.Answers.{followed}
-use Rattle.chain.proofs.Declarations.{chained-kept, chained-answer}
+use Rattle.places.proofs.Answers.{followed}
+use Rattle.steps.proofs.Declarations.{chained-kept, chained-answer}
 use Rattle.theorems.proofs.Chains.BlocksStand.{fragment-stands, fragment-taken, list-there, list-taken}
 use Rattle.theorems.proofs.Chains.ListsAlike.{Keeps, Alike, all-alike, all-keep}
 

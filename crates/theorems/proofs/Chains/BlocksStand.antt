@@ -15,9 +15,9 @@ use Rattle.definitions.specs.DataList.{DataList, oneLength, listOf}
 use Rattle.definitions.specs.Chain.{Block, fragmentLimit, dataLimit, hasHeader, blockAt, isLast, judged, declared, fragmentOf, agrees, admitted, listAt}
 use Rattle.definitions.specs.Accepted.{BlockStands, Truthful}
 use Rattle.definitions.proofs.Replies.{both}
-use Rattle.chain.proofs.Addresses.{header-there}
-use Rattle.chain.proofs.Answers.{passed, followed}
-use Rattle.chain.proofs.Blocks.{block-stands}
+use Rattle.places.proofs.Addresses.{header-there}
+use Rattle.places.proofs.Answers.{passed, followed}
+use Rattle.places.proofs.Blocks.{block-stands}
 
 has-header : (f : List ℕ) (a : ℕ) → 0 < a → a + 24 ≤ length f → hasHeader f a ≡ true
 has-header f a h l =

@@ -14,7 +14,7 @@ use Rattle.definitions.specs.DataList.{oneLength}
 use Rattle.definitions.specs.Chain.{Declaration, byLength, byOffsets, declarationOf, keepsTo}
 use Rattle.definitions.specs.Accepted.{Each, Part, PartStands, DeclaresLength, DeclaresOffsets}
 use Rattle.definitions.proofs.Replies.{both}
-use Rattle.chain.proofs.Declarations.{keeps-itself}
+use Rattle.steps.proofs.Declarations.{keeps-itself}
 use Rattle.theorems.proofs.Chains.BlocksStand.{unset}
 
 -- a list keeps to what the chain has in common

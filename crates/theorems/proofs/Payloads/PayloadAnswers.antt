@@ -15,7 +15,7 @@ use Rattle.definitions.specs.Chain.{Block, joined, chainOf}
 use Rattle.definitions.specs.Payload.{idSD, positionOf, payloadAt, joinedOf, payloadOf, PayloadValue, Outcomes, payloadValueOf, payloadFetched}
 use Rattle.definitions.proofs.Replies.{not-answered}
 use Rattle.words.proofs.Spans.{length-span}
-use Rattle.chain.proofs.Answers.{answered, followed, passed}
+use Rattle.places.proofs.Answers.{answered, followed, passed}
 use Rattle.theorems.specs.Exactly.{Exactly, recordBytes, PayloadFetchable}
 use Rattle.theorems.proofs.Chains.AcceptedChains.{accepted, accepts}
 use Rattle.theorems.proofs.Payloads.PayloadEnds.{payload-replied, by-record, Answered, payload-answered}

@@ -14,7 +14,7 @@ use Rattle.definitions.specs.Chain.{joined, fetched}
 use Rattle.definitions.specs.Payload.{idSD, holdsPosition, joinedOf, stored, PayloadValue, Outcomes, payloadValueOf, payloadBehind, payloadFetched}
 use Rattle.definitions.proofs.Replies.{not-answered, both}
 use Rattle.words.proofs.Spans.{length-span}
-use Rattle.chain.proofs.Answers.{answered}
+use Rattle.places.proofs.Answers.{answered}
 use Rattle.theorems.specs.Exactly.{Fetchable, Positioned, recordBytes}
 use Rattle.theorems.specs.Causes.{Not}
 use Rattle.theorems.specs.PayloadEnds.{recordLeft, payloadTold, PayloadEnds, no-position, no-record, no-payload, no-room, no-value, a-value}

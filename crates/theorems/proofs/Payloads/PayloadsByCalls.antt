@@ -9,7 +9,7 @@ use Rattle.mf4.specs.Clauses.{Slice}
 use Rattle.fields.specs.Meaning.{channelMeant, groupMeant}
 use Rattle.fields.specs.declared.channel.Channel.{Channel}
 use Rattle.fields.specs.declared.group.Group.{Group}
-use Rattle.chain.specs.declared.place.FileAddress.{FileAddress}
+use Rattle.places.specs.declared.place.FileAddress.{FileAddress}
 use Rattle.payloads.specs.Meaning.{payloadReply, payloadFetchedBy}
 use Rattle.payloads.specs.declared.value.PayloadRead.{PayloadRead}
 use Rattle.theorems.specs.Clauses.{ReadsPayload}

@@ -17,7 +17,7 @@ use Rattle.decoder.proofs.LaidAnew.{laid-anew}
 use Rattle.fields.specs.Meaning.{channelMeant, groupMeant}
 use Rattle.fields.specs.declared.channel.Channel as code
 use Rattle.fields.specs.declared.group.Group as code-group
-use Rattle.chain.specs.declared.place.FileAddress.{FileAddress}
+use Rattle.places.specs.declared.place.FileAddress.{FileAddress}
 use Rattle.payloads.specs.Meaning.{payloadFetchedBy}
 use Rattle.payloads.specs.declared.value.PayloadRead.{PayloadRead}
 use Rattle.payloads.proofs.Back.{payload-fetched-one}

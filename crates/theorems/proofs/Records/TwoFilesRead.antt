@@ -10,7 +10,7 @@ use Rattle.definitions.specs.Reply.{Outcome, answer}
 use Rattle.definitions.specs.Channel.{ValidValue}
 use Rattle.chain.specs.Meaning.{chainReply}
 use Rattle.records.specs.Meaning.{fetchedBy}
-use Rattle.chain.specs.declared.place.FileAddress.{FileAddress}
+use Rattle.places.specs.declared.place.FileAddress.{FileAddress}
 use Rattle.chain.specs.declared.acceptance.ChainRead.{ChainRead}
 use Rattle.records.specs.declared.record.RecordRead.{RecordRead}
 use Rattle.records.proofs.Back.{record-one}

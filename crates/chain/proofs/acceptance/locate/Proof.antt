@@ -9,9 +9,10 @@ use borrow.Author.Tests.{leb-true}
 use Rattle.definitions.specs.Reply.{answer}
 use Rattle.definitions.specs.Chain.{Block}
 use Rattle.definitions.proofs.Replies.{both}
-use Rattle.chain.specs.Meaning.{blockMeant, blockReply}
-use Rattle.chain.specs.Walk.{At, fragmentAt, nextReply}
-use Rattle.chain.specs.declared.place.Place.{Place}
+use Rattle.places.specs.Meaning.{blockMeant, blockReply}
+use Rattle.steps.specs.Steps.{fragmentAt, nextReply}
+use Rattle.chain.specs.Walk.{At}
+use Rattle.places.specs.declared.place.Place.{Place}
 use Rattle.chain.proofs.Walks.{turnsLeft, at-start, from-start, refused-here, taken-here, at-behind, refused-next, at-end, at-list, total-refused, total-whole, located-refused, located-whole}
 use Rattle.chain.proofs.acceptance.locate.Statement.{statement}
 use Rattle.chain.proofs.acceptance.locate.Tie as tie
@@ -27,7 +28,7 @@ abbrev μ-loop : tie.MeasureT-loop
 loop-holds : tie.Need-loop-holds Inv-loop μ-loop
 loop-holds c =
     let begun = c .start .ensures in
-    let at = at-start _ _ _ _ begun in
+    let at = at-start _ _ _ _ begun (c .before .before .pre) in
     ([], at, [], at, omega (arith, ap (λ (x : Place). x .position .0) begun))
 
 fragment-at-requires : tie.Need-fragment-at-requires Inv-loop μ-loop
@@ -41,7 +42,7 @@ returns c =
     let l = inside .before .before in
     let at = from-start _ _ _ _ (l .before .start .ensures) _ _ (l .loop .inv .1) in
     located-refused _ _ _ _ _ _
-    (total-refused _ _ _ _ _ (refused-here _ _ _ _ _ at (inside .if1 .taken) _ _ (sym (taken .fragment-at .ensures) ∙ ap blockReply (c .refusal .ensures))))
+    (total-refused _ _ _ (at .short) _ _ (refused-here _ _ _ _ _ at (inside .if1 .taken) _ _ (sym (taken .fragment-at .ensures) ∙ ap blockReply (c .refusal .ensures))))
 
 -- the fragment that was met
 met : (c : tie.After-known-told Inv-loop μ-loop) →
@@ -100,7 +101,7 @@ returns-2 c =
     let l = done .before .before in
     let at = from-start _ _ _ _ (l .before .start .ensures) _ _ (l .loop .inv .1) in
     located-refused _ _ _ _ _ _
-    (total-refused _ _ _ _ _ (refused-next _ _ _ _ _ at (done .if1 .left) _ _ (sym (taken .next-list .ensures) ∙ ap nextReply (c .before .next .given .1))))
+    (total-refused _ _ _ (at .short) _ _ (refused-next _ _ _ _ _ at (done .if1 .left) _ _ (sym (taken .next-list .ensures) ∙ ap nextReply (c .before .next .given .1))))
 
 returns-3 : tie.Need-returns-3 Inv-loop μ-loop
 returns-3 c =
@@ -110,7 +111,7 @@ returns-3 c =
     let begun = l .before .start .ensures in
     let at = from-start _ _ _ _ begun _ _ (l .loop .inv .1) in
     located-whole _ _ _ _ _ _ _ _
-    (total-whole _ _ _ _ _ (at-end _ _ _ _ _ at (done .if1 .left) _ (sym (taken .next-list .ensures) ∙ ap nextReply (c .before .next2 .given .1))))
+    (total-whole _ _ _ (at .short) _ _ (at-end _ _ _ _ _ at (done .if1 .left) _ (sym (taken .next-list .ensures) ∙ ap nextReply (c .before .next2 .given .1))))
     (from-start _ _ _ _ begun _ _ (l .loop .inv .3)) (l .loop .inv .4)
 
 -- in the next list

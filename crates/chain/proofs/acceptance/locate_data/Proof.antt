@@ -1,5 +1,5 @@
 use borrow.Author.Needs.{needs}
-use Rattle.chain.proofs.Walks.{length-refused, length-total, located-refused, located-so}
+use Rattle.chain.proofs.Walks.{length-refused, located-refused}
 use Rattle.chain.proofs.acceptance.locate_data.Statement.{statement}
 use Rattle.chain.proofs.acceptance.locate_data.Tie as tie
 
@@ -8,11 +8,5 @@ returns c =
     let a = c .before .before .args in
     located-refused _ _ _ _ _ _ (length-refused (a .file .now) (a .start .0) (a .id .now) (c .if1 .taken))
 
-returns-2 : tie.Need-returns-2
-returns-2 c =
-    let left = c .before in
-    let a = left .before .before .args in
-    located-so _ _ _ _ _ _ _ (length-total (a .file .now) (a .start .0) (a .id .now) (left .if1 .left)) (c .locate .ensures)
-
 pub locate-data-spec : {M : Type 1} → statement M
-locate-data-spec = tie.close (tie.spec returns (λ c κs. search needs) returns-2)
+locate-data-spec = tie.close (tie.spec returns (λ c κs. search needs) (λ c. search needs))

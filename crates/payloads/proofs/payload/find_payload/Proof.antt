@@ -7,7 +7,7 @@ use lib.Dec.{leb}
 use borrow.Author.Needs.{needs}
 use borrow.Author.Tests.{not-true, not-false, leb-true}
 use Rattle.chain.specs.Meaning.{locatedReply}
-use Rattle.chain.specs.declared.place.DataPosition.{DataPosition}
+use Rattle.places.specs.declared.place.DataPosition.{DataPosition}
 use Rattle.payloads.proofs.Found.{chain-refused, on-the-way, ahead, limited, found-no-length, found-cut, found-whole}
 use Rattle.payloads.proofs.payload.find_payload.Statement.{statement}
 use Rattle.payloads.proofs.payload.find_payload.Tie as tie
@@ -51,7 +51,7 @@ further-requires c κs =
 returns-3 : tie.Need-returns-3
 returns-3 c =
     let behind = c .before in
-    let further = behind .before in
+    let further = behind .before .before in
     let else = further .before .before in
     let told = else .before .before in
     found-cut _ _ (told .before .before .before .before .before .before .pre) _ (told .before .before .before .locate-data .ensures) (told .before .found .given .1) (there else)
@@ -60,13 +60,14 @@ returns-3 c =
 
 returns-4 : tie.Need-returns-4
 returns-4 c =
-    let behind = c .before in
-    let further = behind .before in
+    let else2 = c .before in
+    let behind = else2 .before in
+    let further = behind .before .before in
     let else = further .before .before in
     let told = else .before .before in
     found-whole _ _ (told .before .before .before .before .before .before .pre) _ (told .before .before .before .locate-data .ensures) (told .before .found .given .1) (there else)
     (ap (λ (q : DataPosition). q .0) (further .further .ensures)) (further .before .length-at .ensures)
-    (sym (behind .is-behind2 .ensures) ∙ not-false _ (c .if2 .left))
+    (sym (behind .is-behind2 .ensures) ∙ not-false _ (else2 .if2 .left))
 
 pub find-payload-spec : {M : Type 1} → statement M
 find-payload-spec =

@@ -60,7 +60,7 @@ returns-4 : tie.Need-returns-4
 returns-4 c =
     let call = c .before .before in
     let l = lies (call .before .before .before .before) in
-    stored-in-front _ _ l (omega arith) (call .window .ensures (l .walked))
+    stored-in-front _ _ l (omega arith) (call .window .ensures (l .walked) .0)
 
 pub store-payload-spec : {M : Type 1} → statement M
 store-payload-spec =

@@ -84,7 +84,7 @@ returns-4 c =
     let a = told .before .before .before .before .before .before .before .before .before .before .args in
     let sized = good (told .before .before .before .before .before .before) in
     let first = told .before .before .before .before .before .first-byte .ensures (fetch-first (a .file .now) (a .start .0) (a .number) (a .record-size) (a .buffer .now) sized _ (total told) (inside two)) in
-    fetch-record _ _ _ _ _ sized _ (total told) _ _ (inside two) first (call .window .ensures (walked told))
+    fetch-record _ _ _ _ _ sized _ (total told) _ _ (inside two) first (call .window .ensures (walked told) .0)
 
 pub read-record-spec : {M : Type 1} → statement M
 read-record-spec =

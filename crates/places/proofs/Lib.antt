@@ -1,0 +1,5 @@
+pub mod Answers
+pub mod Addresses
+pub mod Blocks
+pub mod Lists
+pub mod Back
