@@ -11,3 +11,4 @@ pub mod ChannelReadWritten
 pub mod RoundTripsInBuffers
 pub mod RoundTripsByCalls
 pub mod RoundTripsToC
+pub mod BlockCauses

@@ -9,3 +9,4 @@ pub mod AnswersByCalls
 pub mod AnswersToC
 pub mod RefusalNumbers
 pub mod ToldToC
+pub mod TestsInTurn

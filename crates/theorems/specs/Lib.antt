@@ -4,6 +4,9 @@ pub mod Clauses
 pub mod ClausesToC
 pub mod Exactly
 pub mod Causes
+pub mod Refused
+pub mod BlockCauses
+pub mod ChainCauses
 pub mod PayloadEnds
 pub mod OverlapEnds
 pub mod WrittenValue

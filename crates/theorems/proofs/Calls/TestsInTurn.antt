@@ -1,0 +1,133 @@
+-- Tests in turn: the first that finds something refuses, with its own number, and where none does there is an answer.
+use mathlib.Core.Path.{_≡_, refl, sym, ap, _∙_, subst}
+use mathlib.Core.Logic.{_⊎_, inl, inr, ⊎-elim}
+use mathlib.Core.Bool.{Bool, true, false, not, _&&_, _||_, true≢false}
+use mathlib.Core.List.{List}
+use Prim.Native.Nat.{ℕ, zero, suc, _≤_, _<_}
+use native.Mathlib.Omega.{arith}
+use lib.Dec.{ltb, leb, eqb}
+use borrow.Author.Tests.{ltb-true, lt-ltb, leb-false, lt-leb, eqb-true, eq-eqb, eqb-false}
+use Rattle.definitions.specs.Reply.{Reply, Outcome, answer, refusal, if_then_else_, andThen, onAnswer}
+use Rattle.definitions.proofs.Replies.{not-answered, both}
+use Rattle.theorems.specs.Exactly.{Exactly}
+use Rattle.theorems.specs.Causes.{Not}
+use Rattle.theorems.specs.Refused.{Cause, refused, Absent, _orElse_, firstOf, provided, RefusedExactly, ToldExactly}
+
+-- ---- a test and what it tests
+
+pub record Tests (P : Type 0) (b : Bool) : Type 0 where
+  pub holds : b ≡ true → P
+  pub shows : P → b ≡ true
+
+pub tests-less : (a b : ℕ) → Tests (a < b) (ltb a b)
+tests-less a b = record { holds = ltb-true a b; shows = lt-ltb a b }
+
+pub tests-equal : (a b : ℕ) → Tests (a ≡ b) (eqb a b)
+tests-equal a b = record { holds = eqb-true a b; shows = eq-eqb a b }
+
+pub tests-false : (b : Bool) → Tests (b ≡ false) (not b)
+tests-false true = record { holds = λ h. absurd (true≢false (sym h)); shows = λ h. absurd (true≢false h) }
+tests-false false = record { holds = λ h. refl; shows = λ h. refl }
+
+pub tests-not : {P : Type 0} (b : Bool) → Tests P b → Tests (Not P) (not b)
+tests-not true t = record { holds = λ h. absurd (true≢false (sym h)); shows = λ n. absurd (n (t .holds refl)) }
+tests-not false t = record { holds = λ h p. true≢false (sym (t .shows p)); shows = λ n. refl }
+
+pub tests-more : (a b : ℕ) → Tests (b < a) (not (leb a b))
+tests-more a b = go (leb a b) refl
+  where
+    go : (t : Bool) → leb a b ≡ t → Tests (b < a) (not t)
+    go true e = record { holds = λ h. absurd (true≢false (sym h)); shows = λ h. absurd (true≢false (sym e ∙ lt-leb a b h)) }
+    go false e = record { holds = λ h. leb-false a b e; shows = λ h. refl }
+
+pub tests-or : {P Q : Type 0} (a b : Bool) → Tests P a → Tests Q b → Tests (P ⊎ Q) (a || b)
+tests-or true b p q = record { holds = λ h. inl (p .holds refl); shows = λ h. refl }
+tests-or false b p q = record { holds = λ h. inr (q .holds h); shows = ⊎-elim (λ x. absurd (true≢false (sym (p .shows x)))) (q .shows) }
+
+-- one of two is not met
+pub tests-either : {P Q : Type 0} (a b : Bool) → Tests P (not a) → Tests Q (not b) → Tests (P ⊎ Q) (not (a && b))
+tests-either true b p q = record { holds = λ h. inr (q .holds h); shows = ⊎-elim (λ x. absurd (true≢false (sym (p .shows x)))) (q .shows) }
+tests-either false b p q = record { holds = λ h. inl (p .holds refl); shows = λ h. refl }
+
+-- ---- one after the other
+
+module _ {A : Type 0} where
+  -- a reply that is another one
+  pub as-is : {c : Cause} {r q : Reply A} → r ≡ q → RefusedExactly c q → RefusedExactly c r
+  as-is {c = c} e h = subst (RefusedExactly c) (sym e) h
+
+  -- a test, and what comes behind it
+  pub tested : {P : Type 0} {c : Cause} (b : Bool) (n t : ℕ) (r : Reply A) → Tests P b → RefusedExactly c r
+      → RefusedExactly (refused n t P orElse c) (if b then refusal n t else r)
+  unfolding refused _orElse_
+  tested true n t r p h = record {
+    given = λ m u. ⊎-elim (λ x. rw (x .1, x .2)) (λ x. absurd (x .0 n t (p .holds refl, refl, refl)));
+    only = λ m u e. inl (p .holds refl, cc, cc);
+  }
+  tested false n t r p h =
+      let none : Absent (refused n t _) = λ m u x. true≢false (sym (p .shows (x .0))) in record {
+        given = λ m u. ⊎-elim (λ x. absurd (none m u x)) (λ x. h .given m u (x .1));
+        only = λ m u e. inr (none, h .only m u e);
+      }
+
+  -- the last test
+  pub last-tested : {P : Type 0} (b : Bool) (n t : ℕ) (a : A) → Tests P b → RefusedExactly (refused n t P) (if b then refusal n t else answer a)
+  unfolding refused
+  last-tested true n t a p = record { given = λ m u x. rw (x .1, x .2); only = λ m u e. (p .holds refl, cc, cc) }
+  last-tested false n t a p = record {
+    given = λ m u x. absurd (true≢false (sym (p .shows (x .0))));
+    only = λ m u e. not-answered a m u (sym e);
+  }
+
+  -- where nothing is refused there is an answer
+  pub answered-else : {c : Cause} (r : Reply A) → RefusedExactly c r → Exactly (Absent c) r
+  answered-else (answer a) h = record { answers = λ none. (a, refl); only = λ b e n t x. not-answered a n t (sym (h .given n t x)) }
+  answered-else (refusal m u) h = record { answers = λ none. absurd (none m u (h .only m u refl)); only = λ b e. not-answered b m u e }
+
+-- what is done with an answer
+pub going-on : {A B : Type 0} {c d : Cause} (r : Reply A) (g : A → Reply B) → RefusedExactly c r → ((a : A) → r ≡ answer a → RefusedExactly d (g a))
+    → RefusedExactly (c orElse d) (andThen r g)
+unfolding _orElse_
+going-on {c = c} {d = d} (answer a) g h i =
+    let none : Absent c = λ n t x. not-answered a n t (sym (h .given n t x)) in record {
+      given = λ n t. ⊎-elim (λ x. absurd (none n t x)) (λ x. i a refl .given n t (x .1));
+      only = λ n t e. inr (none, i a refl .only n t e);
+    }
+going-on {B = B} {c = c} {d = d} (refusal m u) g h i = record {
+  given = λ n t. ⊎-elim (λ x. again n t (h .given n t x)) (λ x. absurd (x .0 m u (h .only m u refl)));
+  only = λ n t e. inl (h .only n t (again n t e));
+}
+  where
+    -- a refusal is the same for answers of any kind
+    again : {C D : Type 0} (n t : ℕ) → _≡_ {A = Reply C} (refusal m u) (refusal n t) → _≡_ {A = Reply D} (refusal m u) (refusal n t)
+    again n t e = cc
+
+-- ---- beside a buffer
+
+module _ {A : Type 0} where
+  pub tested-lent : {c : Cause} (b : Bool) (n t : ℕ) (out : List ℕ) (o : Outcome A) → RefusedExactly c (if b then refusal n t else o .reply)
+      → RefusedExactly c (if_then_else_ {A = Outcome A} b (record { reply = refusal n t; buffer = out }) o .reply)
+  tested-lent true n t out o h = h
+  tested-lent false n t out o h = h
+
+pub going-on-lent : {A B : Type 0} {c : Cause} (r : Reply A) (g : A → Outcome B) (out : List ℕ) → RefusedExactly c (andThen r (λ a. g a .reply))
+    → RefusedExactly c (onAnswer r g out .reply)
+going-on-lent (answer a) g out h = h
+going-on-lent (refusal n t) g out h = h
+
+-- ---- as C is told
+
+-- from the number and what is told with it, where 0 stands for an answer
+pub told-exactly : {A : Type 0} {c : Cause} (n t : ℕ) (a : A) (r : Reply A) → (if eqb n 0 then answer a else refusal n t) ≡ r → RefusedExactly c r → ToldExactly c n t
+told-exactly {c = c} n t a r q h = go (eqb n 0) refl q
+  where
+    go : (b : Bool) → eqb n 0 ≡ b → (if b then answer a else refusal n t) ≡ r → ToldExactly c n t
+    go true e q = record {
+      given = λ m u x. not-answered a m u (sym (h .given m u x) ∙ sym q);
+      only = λ z. let zero = eqb-true n 0 e in let no : ⊥ = omega arith in absurd no;
+    }
+    go false e q =
+        let some : 0 < n = let no = eqb-false n 0 e in omega arith in record {
+          given = λ m u x. let same = q ∙ h .given m u x in let number : n ≡ m = cc in (omega arith, number, cc);
+          only = λ z. h .only n t (sym q);
+        }
