@@ -3,3 +3,5 @@ pub mod BlocksStand
 pub mod ListsAlike
 pub mod AcceptedChains
 pub mod FoundByLength
+pub mod ListCauses
+pub mod ChainCauses

@@ -1,3 +1,4 @@
 -- Records of two files that join to the same bytes.
 pub mod TwoFiles
 pub mod TwoFilesRead
+pub mod RecordCauses

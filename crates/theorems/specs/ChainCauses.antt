@@ -134,12 +134,16 @@ chainRefused id f start =
 abbrev pub lengthRefused : List ℕ → ℕ → Cause
 lengthRefused f start = refused 7 0 (fileLimit < length f) orElse chainRefused idDT f start
 
+-- not from 1 to 16,384, or more than the buffer holds
+abbrev pub BadSize : ℕ → ℕ → Type 0
+BadSize size room = (size ≡ 0) ⊎ (recordLimit < size) ⊎ (room < size)
+
 -- the joined data ends before record k does
 abbrev pub PastEnd : List ℕ → ℕ → ℕ → ℕ → Type 0
 PastEnd f start k size = (blocks : List Block) × (Accepted idDT f start blocks × (length (joined f blocks) < k * size + size))
 
 abbrev pub recordRefused : List ℕ → ℕ → ℕ → ℕ → List ℕ → Cause
 recordRefused f start k size out =
-    refused 15 0 ((size ≡ 0) ⊎ (recordLimit < size) ⊎ (length out < size))
+    refused 15 0 (BadSize size (length out))
     orElse lengthRefused f start
     orElse refused 16 0 (PastEnd f start k size)

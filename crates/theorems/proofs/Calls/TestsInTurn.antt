@@ -1,9 +1,9 @@
 -- Tests in turn: the first that finds something refuses, with its own number, and where none does there is an answer.
 use mathlib.Core.Path.{_≡_, refl, sym, ap, _∙_, subst}
-use mathlib.Core.Logic.{_⊎_, inl, inr, ⊎-elim}
+use mathlib.Core.Logic.{_⊎_, inl, inr, ⊎-elim, _↔_}
 use mathlib.Core.Bool.{Bool, true, false, not, _&&_, _||_, true≢false}
 use mathlib.Core.List.{List}
-use Prim.Native.Nat.{ℕ, zero, suc, _≤_, _<_}
+use Prim.Native.Nat.{ℕ, zero, suc, _+_, _≤_, _<_}
 use native.Mathlib.Omega.{arith}
 use lib.Dec.{ltb, leb, eqb}
 use borrow.Author.Tests.{ltb-true, lt-ltb, leb-false, lt-leb, eqb-true, eq-eqb, eqb-false}
@@ -32,6 +32,10 @@ tests-false false = record { holds = λ h. refl; shows = λ h. refl }
 pub tests-not : {P : Type 0} (b : Bool) → Tests P b → Tests (Not P) (not b)
 tests-not true t = record { holds = λ h. absurd (true≢false (sym h)); shows = λ n. absurd (n (t .holds refl)) }
 tests-not false t = record { holds = λ h p. true≢false (sym (t .shows p)); shows = λ n. refl }
+
+pub tests-not-not : {P : Type 0} (b : Bool) → Tests P b → Tests P (not (not b))
+tests-not-not true t = t
+tests-not-not false t = t
 
 pub tests-more : (a b : ℕ) → Tests (b < a) (not (leb a b))
 tests-more a b = go (leb a b) refl
@@ -84,6 +88,10 @@ module _ {A : Type 0} where
   answered-else (answer a) h = record { answers = λ none. (a, refl); only = λ b e n t x. not-answered a n t (sym (h .given n t x)) }
   answered-else (refusal m u) h = record { answers = λ none. absurd (none m u (h .only m u refl)); only = λ b e. not-answered b m u e }
 
+-- a refusal is the same, whatever there would have been for an answer
+same-refusal : {A B : Type 0} {m u n t : ℕ} → _≡_ {A = Reply A} (refusal m u) (refusal n t) → _≡_ {A = Reply B} (refusal m u) (refusal n t)
+same-refusal e = cc
+
 -- what is done with an answer
 pub going-on : {A B : Type 0} {c d : Cause} (r : Reply A) (g : A → Reply B) → RefusedExactly c r → ((a : A) → r ≡ answer a → RefusedExactly d (g a))
     → RefusedExactly (c orElse d) (andThen r g)
@@ -94,13 +102,77 @@ going-on {c = c} {d = d} (answer a) g h i =
       only = λ n t e. inr (none, i a refl .only n t e);
     }
 going-on {B = B} {c = c} {d = d} (refusal m u) g h i = record {
-  given = λ n t. ⊎-elim (λ x. again n t (h .given n t x)) (λ x. absurd (x .0 m u (h .only m u refl)));
-  only = λ n t e. inl (h .only n t (again n t e));
+  given = λ n t. ⊎-elim (λ x. same-refusal (h .given n t x)) (λ x. absurd (x .0 m u (h .only m u refl)));
+  only = λ n t e. inl (h .only n t (same-refusal e));
 }
+
+-- what is made of an answer is refused where there is none
+pub made-of : {A B : Type 0} {c : Cause} (g : A → B) (r : Reply A) → RefusedExactly c r → RefusedExactly c (andThen r (λ a. answer (g a)))
+made-of g (answer a) h = record {
+  given = λ n t x. not-answered a n t (sym (h .given n t x));
+  only = λ n t e. not-answered (g a) n t (sym e);
+}
+made-of g (refusal m u) h = record { given = λ n t x. same-refusal (h .given n t x); only = λ n t e. h .only n t (same-refusal e) }
+
+-- where two causes come first, they may be taken for one
+pub together : {A : Type 0} (c d e : Cause) {r : Reply A} → RefusedExactly (c orElse d orElse e) r → RefusedExactly ((c orElse d) orElse e) r
+unfolding _orElse_
+together c d e h = record {
+  given = λ n t. ⊎-elim
+      (⊎-elim (λ x. h .given n t (inl x)) (λ x. h .given n t (inr (x .0, inl (x .1)))))
+      (λ x. h .given n t (inr (λ m u y. x .0 m u (inl y), inr (λ m u y. x .0 m u (inr (λ k v z. x .0 k v (inl z), y)), x .1))));
+  only = λ n t q. ⊎-elim (λ x. inl (inl x))
+      (λ x. ⊎-elim (λ y. inl (inr (x .0, y))) (λ y. inr (λ m u. ⊎-elim (x .0 m u) (λ z. y .0 m u (z .1)), y .1)) (x .1))
+      (h .only n t q);
+}
+
+-- ---- many in a row
+
+-- of each place, by whether it is the last
+pub before-or-last : {P : ℕ → Type 0} (k : ℕ) → ((j : ℕ) → j < k → P j) → P k → (j : ℕ) → j < suc k → P j
+before-or-last {P = P} k before last j l = go (eqb j k) refl
   where
-    -- a refusal is the same for answers of any kind
-    again : {C D : Type 0} (n t : ℕ) → _≡_ {A = Reply C} (refusal m u) (refusal n t) → _≡_ {A = Reply D} (refusal m u) (refusal n t)
-    again n t e = cc
+    go : (b : Bool) → eqb j k ≡ b → P j
+    go true e = subst P (sym (eqb-true j k e)) last
+    go false e = let no = eqb-false j k e in before j (omega arith)
+
+-- W i is what refuses from test i on: that test, or else what comes behind it
+module _ (W c : ℕ → Cause) (count : ℕ) (step : (i : ℕ) → i < count → (n t : ℕ) → W i n t ↔ (c i orElse W (suc i)) n t) where
+  -- nothing before test k refuses
+  abbrev Past : ℕ → Type 0
+  Past k = (j : ℕ) → j < k → Absent (c j)
+
+  on-from : (left k n t : ℕ) → k + left ≡ count → Past k → W k n t → (firstOf count c orElse W count) n t
+  unfolding _orElse_ firstOf
+  on-from zero k n t e past w =
+      let end : k ≡ count = omega arith in
+      inr (λ m u x. past (x .0) (omega (arith, x .1 .0)) m u (x .1 .2), subst (λ (i : ℕ). W i n t) end w)
+  on-from (suc left) k n t e past w =
+      ⊎-elim (λ x. inl (k, (omega arith, past, x))) (λ x. on-from left (suc k) n t (omega arith) (before-or-last k past (x .0)) (x .1))
+      (step k (omega arith) n t .0 w)
+
+  back-from : (k n t : ℕ) → k ≤ count → Past k → W k n t → W 0 n t
+  unfolding _orElse_
+  back-from zero n t l past w = w
+  back-from (suc k) n t l past w =
+      back-from k n t (omega arith) (λ j m. past j (omega arith)) (step k (omega arith) n t .1 (inr (past k (omega arith), w)))
+
+  all-past : Absent (firstOf count c) → (k : ℕ) → k ≤ count → Past k
+  unfolding firstOf
+  all-past none zero l = λ j m. let no : ⊥ = omega arith in absurd no
+  all-past none (suc k) l =
+      let past : Past k = all-past none k (omega arith) in
+      before-or-last k past (λ n t x. none n t (k, (omega arith, past, x)))
+
+  -- so it is the first that refuses, or else what comes behind them all
+  pub in-a-row : (n t : ℕ) → W 0 n t ↔ (firstOf count c orElse W count) n t
+  unfolding _orElse_ firstOf
+  in-a-row n t = (
+    λ w. on-from count 0 n t (omega arith) (λ j l. let no : ⊥ = omega arith in absurd no) w,
+    ⊎-elim
+        (λ x. back-from (x .0) n t (omega (arith, x .1 .0)) (x .1 .1) (step (x .0) (x .1 .0) n t .1 (inl (x .1 .2))))
+        (λ x. back-from count n t (omega arith) (all-past (x .0) count (omega arith)) (x .1)),
+  )
 
 -- ---- beside a buffer
 

@@ -1,0 +1,55 @@
+-- When the length of the joined data is refused, and a record of it, exactly.
+use mathlib.Core.Path.{_≡_, sym, _∙_, subst}
+use mathlib.Core.Logic.{inl, inr, ⊎-elim}
+use mathlib.Core.Bool.{_||_}
+use mathlib.Core.List.{List}
+use Prim.Native.Nat.{ℕ, _+_, _*_, _<_}
+use lib.ListN.{length}
+use lib.Dec.{ltb, eqb}
+use borrow.Author.Tests.{ltb-true, lt-ltb}
+use Rattle.definitions.specs.Reply.{answer}
+use Rattle.definitions.specs.Chain.{Block, idDT, fileLimit, recordLimit, total, joined, chainOf, totalOf, dataLength, badSize, recordOf, fetched}
+use Rattle.definitions.proofs.Replies.{answered}
+use Rattle.theorems.specs.Refused.{RefusedExactly}
+use Rattle.theorems.specs.ChainCauses.{BadSize, PastEnd, chainRefused, lengthRefused, recordRefused}
+use Rattle.theorems.proofs.Chains.AcceptedChains.{accepted, accepts}
+use Rattle.theorems.proofs.Chains.ChainCauses.{chain-refused}
+use Rattle.theorems.proofs.Calls.TestsInTurn.{Tests, tests-less, tests-equal, tests-or, tested, last-tested, going-on, made-of, together, tested-lent, going-on-lent}
+
+pub total-refused : (id f : List ℕ) (start : ℕ) → RefusedExactly (chainRefused id f start) (totalOf id f start)
+unfolding totalOf
+total-refused id f start = made-of total (chainOf id f start) (chain-refused id f start)
+
+pub length-refused : (f : List ℕ) (start : ℕ) → RefusedExactly (lengthRefused f start) (dataLength f start)
+unfolding dataLength
+length-refused f start = tested (ltb fileLimit (length f)) 7 0 _ (tests-less fileLimit (length f)) (total-refused idDT f start)
+
+tests-size : (size room : ℕ) → Tests (BadSize size room) (badSize size room)
+tests-size size room =
+    let t = tests-or (eqb size 0 || ltb recordLimit size) (ltb room size) (tests-or (eqb size 0) (ltb recordLimit size) (tests-equal size 0) (tests-less recordLimit size)) (tests-less room size) in
+    record {
+      holds = λ h. ⊎-elim (⊎-elim inl (λ x. inr (inl x))) (λ x. inr (inr x)) (t .holds h);
+      shows = λ p. t .shows (⊎-elim (λ x. inl (inl x)) (⊎-elim (λ x. inl (inr x)) inr) p);
+    }
+
+module _ (f : List ℕ) (start k size : ℕ) (out : List ℕ) where
+  -- the blocks of an accepted chain are the chain's
+  tests-end : (bs : List Block) → chainOf idDT f start ≡ answer bs → Tests (PastEnd f start k size) (ltb (length (joined f bs)) (k * size + size))
+  tests-end bs e = record {
+    holds = λ h. (bs, (accepted idDT f start bs e, ltb-true _ _ h));
+    shows = λ p.
+        let same : p .0 ≡ bs = answered (sym (accepts idDT f start (p .0) (p .1 .0)) ∙ e) in
+        lt-ltb _ _ (subst (λ (x : List Block). length (joined f x) < k * size + size) same (p .1 .1));
+  }
+
+  pub record-refused : RefusedExactly (recordRefused f start k size out) (fetched f start k size out .reply)
+  unfolding fetched recordOf
+  record-refused =
+      tested-lent (badSize size (length out)) 15 0 out _
+      (tested (badSize size (length out)) 15 0 _ (tests-size size (length out))
+      (together _ _ _
+      (tested-lent (ltb fileLimit (length f)) 7 0 out _
+      (tested (ltb fileLimit (length f)) 7 0 _ (tests-less fileLimit (length f))
+      (going-on-lent (chainOf idDT f start) _ out
+      (going-on (chainOf idDT f start) _ (chain-refused idDT f start)
+      (λ bs e. tested-lent (ltb (length (joined f bs)) (k * size + size)) 16 0 out _ (last-tested (ltb (length (joined f bs)) (k * size + size)) 16 0 tt (tests-end bs e)))))))))
