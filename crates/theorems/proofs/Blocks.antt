@@ -12,3 +12,4 @@ pub mod RoundTripsInBuffers
 pub mod RoundTripsByCalls
 pub mod RoundTripsToC
 pub mod BlockCauses
+pub mod BlockCausesByCalls

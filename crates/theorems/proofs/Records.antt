@@ -2,3 +2,4 @@
 pub mod TwoFiles
 pub mod TwoFilesRead
 pub mod RecordCauses
+pub mod RecordCausesByCalls

@@ -63,25 +63,25 @@ module _ (out : List ℕ) where
       (tested-lent (ltb (length out) (length bytes)) 6 (told (length bytes)) out _
       (last-tested (ltb (length out) (length bytes)) 6 (told (length bytes)) a (tests-less (length out) (length bytes))))
 
-  pub header-write-refused : (h : Header) → RefusedExactly (headerUnwritten out) (headerWritten out h .reply)
+  pub header-written-refused : (h : Header) → RefusedExactly (headerUnwritten out) (headerWritten out h .reply)
   unfolding headerWritten
-  header-write-refused h = room-refused 24 (headerBytes h) 24 (length-header h)
+  header-written-refused h = room-refused 24 (headerBytes h) 24 (length-header h)
 
-  pub channel-write-refused : (b : ChannelBlock) → RefusedExactly (channelUnwritten out) (channelWritten out b .reply)
+  pub channel-written-refused : (b : ChannelBlock) → RefusedExactly (channelUnwritten out) (channelWritten out b .reply)
   unfolding channelWritten
-  channel-write-refused b = room-refused 160 (channelBytes b) 160 (length-channel b)
+  channel-written-refused b = room-refused 160 (channelBytes b) 160 (length-channel b)
 
-  pub text-write-refused : (e : Encoding) (s : List ℕ) → RefusedExactly (textUnwritten out e s) (textWritten out e s .reply)
+  pub text-written-refused : (e : Encoding) (s : List ℕ) → RefusedExactly (textUnwritten out e s) (textWritten out e s .reply)
   unfolding textWritten writtenText
-  text-write-refused e s = room-refused _ (textOf e s .bytes) _ refl
+  text-written-refused e s = room-refused _ (textOf e s .bytes) _ refl
 
   tests-unwritable : (n : ℕ) (l : Lengths) → Tests ((linkLimit < n) ⊎ Uncounted n l) (unwritable n l)
   tests-unwritable n (equal k) = record { holds = λ h. inl (ltb-true linkLimit n h); shows = ⊎-elim (lt-ltb linkLimit n) (λ no. absurd no) }
   tests-unwritable n (variable ns) = tests-or (ltb linkLimit n) (not (eqb n (length ns))) (tests-less linkLimit n) (tests-not (eqb n (length ns)) (tests-equal n (length ns)))
 
-  pub list-write-refused : (next : ℕ) (links : List ℕ) (l : Lengths) → RefusedExactly (listUnwritten out links l) (listWritten out next links l .reply)
+  pub list-written-refused : (next : ℕ) (links : List ℕ) (l : Lengths) → RefusedExactly (listUnwritten out links l) (listWritten out next links l .reply)
   unfolding listWritten
-  list-write-refused next links l =
+  list-written-refused next links l =
       tested-lent (unwritable (length links) l) 5 0 out _
       (tested (unwritable (length links) l) 5 0 _ (tests-unwritable (length links) l)
       (room-refused (listSize (length links) (length (restFor l))) (listBytes next links (flagsFor l) (restFor l)) _ (omega (arith, length-list next links (flagsFor l) (restFor l)))))
