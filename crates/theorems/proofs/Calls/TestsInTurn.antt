@@ -44,9 +44,25 @@ tests-more a b = go (leb a b) refl
     go true e = record { holds = λ h. absurd (true≢false (sym h)); shows = λ h. absurd (true≢false (sym e ∙ lt-leb a b h)) }
     go false e = record { holds = λ h. leb-false a b e; shows = λ h. refl }
 
+pub tests-both : {P Q : Type 0} (a b : Bool) → Tests P a → Tests Q b → Tests (P × Q) (a && b)
+tests-both a b p q = record {
+  holds = λ h. let x = both a b h in (p .holds (x .0), q .holds (x .1));
+  shows = λ x. rw (p .shows (x .0), q .shows (x .1));
+}
+
+pub tests-true : (b : Bool) → Tests (b ≡ true) b
+tests-true b = record { holds = λ h. h; shows = λ h. h }
+
 pub tests-or : {P Q : Type 0} (a b : Bool) → Tests P a → Tests Q b → Tests (P ⊎ Q) (a || b)
 tests-or true b p q = record { holds = λ h. inl (p .holds refl); shows = λ h. refl }
 tests-or false b p q = record { holds = λ h. inr (q .holds h); shows = ⊎-elim (λ x. absurd (true≢false (sym (p .shows x)))) (q .shows) }
+
+pub tests-neither : {P Q : Type 0} (a b : Bool) → Tests P a → Tests Q b → Tests (Not P × Not Q) (not (a || b))
+tests-neither a b p q =
+    let t = tests-not (a || b) (tests-or a b p q) in record {
+      holds = λ h. (λ x. t .holds h (inl x), λ x. t .holds h (inr x));
+      shows = λ n. t .shows (⊎-elim (n .0) (n .1));
+    }
 
 -- one of two is not met
 pub tests-either : {P Q : Type 0} (a b : Bool) → Tests P (not a) → Tests Q (not b) → Tests (P ⊎ Q) (not (a && b))
@@ -107,12 +123,19 @@ going-on {B = B} {c = c} {d = d} (refusal m u) g h i = record {
 }
 
 -- what is made of an answer is refused where there is none
-pub made-of : {A B : Type 0} {c : Cause} (g : A → B) (r : Reply A) → RefusedExactly c r → RefusedExactly c (andThen r (λ a. answer (g a)))
-made-of g (answer a) h = record {
-  given = λ n t x. not-answered a n t (sym (h .given n t x));
-  only = λ n t e. not-answered (g a) n t (sym e);
-}
-made-of g (refusal m u) h = record { given = λ n t x. same-refusal (h .given n t x); only = λ n t e. h .only n t (same-refusal e) }
+module _ {A B : Type 0} (g : A → B) where
+  abbrev made : Reply A → Reply B
+  made r = andThen r (λ a. answer (g a))
+
+  pub refused-made : (r : Reply A) (n t : ℕ) → r ≡ refusal n t → made r ≡ refusal n t
+  refused-made r n t e = rw e
+
+  pub made-refused : (r : Reply A) (n t : ℕ) → made r ≡ refusal n t → r ≡ refusal n t
+  made-refused (answer a) n t e = not-answered (g a) n t (sym e)
+  made-refused (refusal k u) n t e = same-refusal e
+
+  pub made-of : {c : Cause} (r : Reply A) → RefusedExactly c r → RefusedExactly c (made r)
+  made-of r h = record { given = λ n t x. refused-made r n t (h .given n t x); only = λ n t e. h .only n t (made-refused r n t e) }
 
 -- where two causes come first, they may be taken for one
 pub together : {A : Type 0} (c d e : Cause) {r : Reply A} → RefusedExactly (c orElse d orElse e) r → RefusedExactly ((c orElse d) orElse e) r
