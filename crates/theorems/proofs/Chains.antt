@@ -5,3 +5,4 @@ pub mod AcceptedChains
 pub mod FoundByLength
 pub mod ListCauses
 pub mod ChainCauses
+pub mod ChainNumbers

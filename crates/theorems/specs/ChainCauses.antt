@@ -3,9 +3,10 @@
 use mathlib.Core.Path.{_≡_}
 use mathlib.Core.Logic.{_⊎_}
 use mathlib.Core.List.{List, [], _∷_, _++_}
-use mathlib.Core.Bool.{false}
+use mathlib.Core.Bool.{Bool, false, _&&_, _||_}
 use Prim.Native.Nat.{ℕ, zero, suc, _+_, _-_, _*_, _<_}
 use lib.ListN.{length, drop}
+use lib.Dec.{leb, eqb}
 use Rattle.definitions.specs.Bytes.{u64At, idAt, bit}
 use Rattle.definitions.specs.Header.{headerIn}
 use Rattle.definitions.specs.DataList.{DataList, listIn}
@@ -147,3 +148,14 @@ recordRefused f start k size out =
     refused 15 0 (BadSize size (length out))
     orElse lengthRefused f start
     orElse refused 16 0 (PastEnd f start k size)
+
+-- ---- the numbers, in a file that is not too long: 14 is not among them
+
+abbrev pub ofChain : ℕ → Bool
+ofChain n = leb 2 n && leb n 4 || leb 8 n && leb n 13
+
+abbrev pub ofLength : ℕ → Bool
+ofLength n = eqb n 7 || ofChain n
+
+abbrev pub ofRecord : ℕ → Bool
+ofRecord n = eqb n 15 || eqb n 16 || ofLength n

@@ -11,7 +11,7 @@ use Rattle.definitions.specs.Reply.{Reply, Outcome, answer, refusal, if_then_el
 use Rattle.definitions.proofs.Replies.{not-answered, both}
 use Rattle.theorems.specs.Exactly.{Exactly}
 use Rattle.theorems.specs.Causes.{Not}
-use Rattle.theorems.specs.Refused.{Cause, refused, Absent, _orElse_, firstOf, provided, RefusedExactly, ToldExactly}
+use Rattle.theorems.specs.Refused.{Cause, refused, Absent, _orElse_, firstOf, Among, RefusedExactly, ToldExactly}
 
 -- ---- a test and what it tests
 
@@ -159,13 +159,21 @@ before-or-last {P = P} k before last j l = go (eqb j k) refl
     go true e = subst P (sym (eqb-true j k e)) last
     go false e = let no = eqb-false j k e in before j (omega arith)
 
+-- nothing before test k refuses
+abbrev Past : (ℕ → Cause) → ℕ → Type 0
+Past c k = (j : ℕ) → j < k → Absent (c j)
+
+-- nothing does, where none is the first
+pub none-of : (c : ℕ → Cause) (count : ℕ) → Absent (firstOf count c) → (k : ℕ) → k ≤ count → Past c k
+unfolding firstOf
+none-of c count none zero l = λ j m. let no : ⊥ = omega arith in absurd no
+none-of c count none (suc k) l =
+    let past : Past c k = none-of c count none k (omega arith) in
+    before-or-last k past (λ n t x. none n t (k, (omega arith, past, x)))
+
 -- W i is what refuses from test i on: that test, or else what comes behind it
 module _ (W c : ℕ → Cause) (count : ℕ) (step : (i : ℕ) → i < count → (n t : ℕ) → W i n t ↔ (c i orElse W (suc i)) n t) where
-  -- nothing before test k refuses
-  abbrev Past : ℕ → Type 0
-  Past k = (j : ℕ) → j < k → Absent (c j)
-
-  on-from : (left k n t : ℕ) → k + left ≡ count → Past k → W k n t → (firstOf count c orElse W count) n t
+  on-from : (left k n t : ℕ) → k + left ≡ count → Past c k → W k n t → (firstOf count c orElse W count) n t
   unfolding _orElse_ firstOf
   on-from zero k n t e past w =
       let end : k ≡ count = omega arith in
@@ -174,28 +182,31 @@ module _ (W c : ℕ → Cause) (count : ℕ) (step : (i : ℕ) → i < count →
       ⊎-elim (λ x. inl (k, (omega arith, past, x))) (λ x. on-from left (suc k) n t (omega arith) (before-or-last k past (x .0)) (x .1))
       (step k (omega arith) n t .0 w)
 
-  back-from : (k n t : ℕ) → k ≤ count → Past k → W k n t → W 0 n t
+  back-from : (k n t : ℕ) → k ≤ count → Past c k → W k n t → W 0 n t
   unfolding _orElse_
   back-from zero n t l past w = w
   back-from (suc k) n t l past w =
       back-from k n t (omega arith) (λ j m. past j (omega arith)) (step k (omega arith) n t .1 (inr (past k (omega arith), w)))
-
-  all-past : Absent (firstOf count c) → (k : ℕ) → k ≤ count → Past k
-  unfolding firstOf
-  all-past none zero l = λ j m. let no : ⊥ = omega arith in absurd no
-  all-past none (suc k) l =
-      let past : Past k = all-past none k (omega arith) in
-      before-or-last k past (λ n t x. none n t (k, (omega arith, past, x)))
 
   -- so it is the first that refuses, or else what comes behind them all
   pub in-a-row : (n t : ℕ) → W 0 n t ↔ (firstOf count c orElse W count) n t
   unfolding _orElse_ firstOf
   in-a-row n t = (
     λ w. on-from count 0 n t (omega arith) (λ j l. let no : ⊥ = omega arith in absurd no) w,
-    ⊎-elim
-        (λ x. back-from (x .0) n t (omega (arith, x .1 .0)) (x .1 .1) (step (x .0) (x .1 .0) n t .1 (inl (x .1 .2))))
-        (λ x. back-from count n t (omega arith) (all-past (x .0) count (omega arith)) (x .1)),
+    ⊎-elim (λ x. back-from (x .0) n t (omega (arith, x .1 .0)) (x .1 .1) (step (x .0) (x .1 .0) n t .1 (inl (x .1 .2))))
+        (λ x. back-from count n t (omega arith) (none-of c count (x .0) count (omega arith)) (x .1)),
   )
+
+-- ---- which numbers
+
+module _ {test : ℕ → Bool} where
+  pub one-of : (number tells : ℕ) (P : Type 0) → test number ≡ true → Among test (refused number tells P)
+  unfolding refused
+  one-of number tells P e = record { passes = λ n t x. ap test (x .1) ∙ e }
+
+  pub or-of : {c d : Cause} → Among test c → Among test d → Among test (c orElse d)
+  unfolding _orElse_
+  or-of g h = record { passes = λ n t. ⊎-elim (g .passes n t) (λ x. h .passes n t (x .1)) }
 
 -- ---- beside a buffer
 
