@@ -1,4 +1,4 @@
--- Headers, data lists and channel blocks: when they are read, and both round trips.
+-- Headers, data lists and channel blocks: when they are read, why they are refused, and both round trips.
 pub mod HeaderAnswers
 pub mod HeaderRoundTrip
 pub mod ListAnswers

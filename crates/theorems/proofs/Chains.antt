@@ -1,4 +1,4 @@
--- Which chains are accepted, and what follows of their blocks.
+-- Which chains are accepted, why others are refused, and what follows of the blocks.
 pub mod BlocksStand
 pub mod ListsAlike
 pub mod AcceptedChains

@@ -1,4 +1,4 @@
--- Records of two files that join to the same bytes.
+-- Why a record is refused, and records of two files that join to the same bytes.
 pub mod TwoFiles
 pub mod TwoFilesRead
 pub mod RecordCauses

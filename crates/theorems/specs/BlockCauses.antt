@@ -26,22 +26,20 @@ headerRefused s = tooShort s 24
 abbrev pub linkCountIn : List ℕ → ℕ
 linkCountIn s = u64At s 16
 
--- another id; no link, not even to a next list; the links with flags and count behind them; and the one length or the offsets
 abbrev pub listRefused : List ℕ → Cause
 listRefused s =
     headerRefused s
-    orElse refused 3 0 (idAt s 0 idDL ≡ false)
-    orElse refused 4 0 (linkCountIn s ≡ 0)
-    orElse tooShort s (flagsAt (linkCountIn s) + 8)
-    orElse tooShort s (flagsAt (linkCountIn s) + 8 + restIn s (linkCountIn s) * 8)
+    orElse refused 3 0 (idAt s 0 idDL ≡ false)  -- the id is not `##DL`
+    orElse refused 4 0 (linkCountIn s ≡ 0)  -- no link, not even to a next list
+    orElse tooShort s (flagsAt (linkCountIn s) + 8)  -- header, links, flags and count
+    orElse tooShort s (flagsAt (linkCountIn s) + 8 + restIn s (linkCountIn s) * 8)  -- and the one length or the offsets
 
--- another id; fewer links than the eight that every channel has; and the fields behind all links
 abbrev pub channelRefused : List ℕ → Cause
 channelRefused s =
     headerRefused s
-    orElse refused 3 0 (idAt s 0 idCN ≡ false)
-    orElse refused 17 0 (linkCountIn s < 8)
-    orElse tooShort s (fieldsAt (linkCountIn s) + 72)
+    orElse refused 3 0 (idAt s 0 idCN ≡ false)  -- the id is not `##CN`
+    orElse refused 17 0 (linkCountIn s < 8)  -- fewer links than every channel has
+    orElse tooShort s (fieldsAt (linkCountIn s) + 72)  -- header, all links and the fields
 
 -- ---- written
 
@@ -54,10 +52,9 @@ abbrev pub Uncounted : ℕ → Lengths → Type 0
 Uncounted n (equal k) = ⊥
 Uncounted n (variable ns) = Not (n ≡ length ns)
 
--- too many data links, or those offsets; then the buffer
 abbrev pub listUnwritten : List ℕ → List ℕ → Lengths → Cause
 listUnwritten out links l =
-    refused 5 0 ((linkLimit < length links) ⊎ Uncounted (length links) l)
+    refused 5 0 ((linkLimit < length links) ⊎ Uncounted (length links) l)  -- too many data links, or such offsets
     orElse noRoom out (listSize (length links) (length (restFor l)))
 
 abbrev pub headerUnwritten : List ℕ → Cause

@@ -1,5 +1,5 @@
--- Why a chain of data lists is not read, or a record not fetched: each refusal with its condition, in the order of the tests.
--- f is the file, and id the id of its data blocks.
+-- Why a chain of data lists is not read, or a record or a payload not fetched: each refusal with its condition, in the order of
+-- the tests. f is the file, and id the id of its data blocks.
 use mathlib.Core.Path.{_≡_}
 use mathlib.Core.Logic.{_⊎_}
 use mathlib.Core.List.{List, [], _∷_, _++_}
@@ -7,11 +7,14 @@ use mathlib.Core.Bool.{Bool, false, _&&_, _||_}
 use Prim.Native.Nat.{ℕ, zero, suc, _+_, _-_, _*_, _<_}
 use lib.ListN.{length, drop}
 use lib.Dec.{leb, eqb}
-use Rattle.definitions.specs.Bytes.{u64At, idAt, bit}
+use Rattle.definitions.specs.Reply.{told}
+use Rattle.definitions.specs.Bytes.{u32At, u64At, idAt, bit}
 use Rattle.definitions.specs.Header.{headerIn}
 use Rattle.definitions.specs.DataList.{DataList, listIn}
 use Rattle.definitions.specs.Chain.{Block, idDT, total, joined, fileLimit, dataLimit, listLimit, fragmentLimit, recordLimit}
 use Rattle.definitions.specs.Accepted.{Accepted}
+use Rattle.definitions.specs.Channel.{Channel}
+use Rattle.definitions.specs.Payload.{idSD}
 use Rattle.theorems.specs.Causes.{Not}
 use Rattle.theorems.specs.Refused.{Cause, refused, _orElse_, firstOf, provided}
 use Rattle.theorems.specs.BlockCauses.{listRefused}
@@ -26,14 +29,13 @@ NoHeader f a = (a ≡ 0) ⊎ (length f < a + 24)
 abbrev pub blockThere : List ℕ → ℕ → Block
 blockThere f a = record { address = a; size = u64At f (a + 8) - 24 }
 
--- then another id; links; a length under the header's own; an end past the file
 abbrev pub blockRefused : List ℕ → List ℕ → ℕ → Cause
 blockRefused id f a =
     refused 11 0 (NoHeader f a)
-    orElse refused 12 0 (idAt f a id ≡ false)
-    orElse refused 12 0 (Not (u64At f (a + 16) ≡ 0))
-    orElse refused 12 0 (u64At f (a + 8) < 24)
-    orElse refused 12 0 (length f < a + u64At f (a + 8))
+    orElse refused 12 0 (idAt f a id ≡ false)  -- another id
+    orElse refused 12 0 (Not (u64At f (a + 16) ≡ 0))  -- it has links
+    orElse refused 12 0 (u64At f (a + 8) < 24)  -- a length under the header's own
+    orElse refused 12 0 (length f < a + u64At f (a + 8))  -- it ends past the file
 
 -- ---- a fragment
 
@@ -54,11 +56,12 @@ pub data Untrue (s : List ℕ) (d : DataList) (i p n : ℕ) : Type 0 where
 abbrev pub fragmentThere : List ℕ → List ℕ → DataList → ℕ → Block
 fragmentThere f s d i = blockThere f (u64At s (d .linksAt + i * 8))
 
+-- with p bytes of data before it
 abbrev pub fragmentRefused : List ℕ → List ℕ → List ℕ → DataList → ℕ → ℕ → Cause
 fragmentRefused id f s d i p =
     blockRefused id f (fragmentThere f s d i .address)
-    orElse refused 14 0 (dataLimit < p + fragmentThere f s d i .size)
-    orElse refused 13 0 (Untrue s d i p (fragmentThere f s d i .size))
+    orElse refused 14 0 (dataLimit < p + fragmentThere f s d i .size)  -- too much data with this block
+    orElse refused 13 0 (Untrue s d i p (fragmentThere f s d i .size))  -- the list does not tell the truth of it
 
 -- ---- a list
 
@@ -85,9 +88,9 @@ pub data Unlike (f : List ℕ) (start a : ℕ) : Type 0 where
 abbrev pub listAtRefused : List ℕ → ℕ → ℕ → Cause
 listAtRefused f n a =
     refused 11 0 (NoHeader f a)
-    orElse listRefused (drop a f)
+    orElse listRefused (drop a f)  -- its own: 2, 3, 4
     orElse refused 10 0 (Disagrees (listThere f a))
-    orElse refused 9 0 (fragmentLimit < n + listThere f a .links)
+    orElse refused 9 0 (fragmentLimit < n + listThere f a .links)  -- too many fragments with these
 
 -- in the chain whose first list is at the start
 abbrev pub chainedRefused : List ℕ → ℕ → ℕ → ℕ → Cause
@@ -114,17 +117,17 @@ unfoldable pub blocksBefore : List ℕ → ℕ → ℕ → List Block
 blocksBefore f start zero = []
 blocksBefore f start (suc k) = blocksBefore f start k ++ blocksAt f (addressOf f start k)
 
--- the lists before list k name a next one
+-- the chain has a list k: those before it name a next one
 abbrev pub HasList : List ℕ → ℕ → ℕ → Type 0
 HasList f start k = (j : ℕ) → j < k → 0 < listThere f (addressOf f start j) .next
 
--- list k, then its fragments in turn, with the blocks of the lists before it
+-- the list at a, then its fragments in turn, where the lists before it have these blocks
 abbrev pub partRefused : List ℕ → List ℕ → ℕ → ℕ → List Block → Cause
 partRefused id f start a before =
     chainedRefused f start (length before) a
     orElse firstOf (listThere f a .links) (λ i. fragmentRefused id f (drop a f) (listThere f a) i (total (before ++ blocksTo f (drop a f) (listThere f a) i)))
 
--- the lists in turn; 8: there is one more than may be read
+-- the lists in turn, each with its fragments; 8: there is one more than may be read
 abbrev pub chainRefused : List ℕ → List ℕ → ℕ → Cause
 chainRefused id f start =
     firstOf listLimit (λ k. provided (HasList f start k) (partRefused id f start (addressOf f start k) (blocksBefore f start k)))
@@ -139,15 +142,32 @@ lengthRefused f start = refused 7 0 (fileLimit < length f) orElse chainRefused i
 abbrev pub BadSize : ℕ → ℕ → Type 0
 BadSize size room = (size ≡ 0) ⊎ (recordLimit < size) ⊎ (room < size)
 
--- the joined data ends before record k does
-abbrev pub PastEnd : List ℕ → ℕ → ℕ → ℕ → Type 0
-PastEnd f start k size = (blocks : List Block) × (Accepted idDT f start blocks × (length (joined f blocks) < k * size + size))
+-- P holds of the joined data of an accepted chain
+abbrev pub JoinedSo : List ℕ → List ℕ → ℕ → (List ℕ → Type 0) → Type 0
+JoinedSo id f start P = (blocks : List Block) × (Accepted id f start blocks × P (joined f blocks))
 
 abbrev pub recordRefused : List ℕ → ℕ → ℕ → ℕ → List ℕ → Cause
 recordRefused f start k size out =
     refused 15 0 (BadSize size (length out))
-    orElse lengthRefused f start
-    orElse refused 16 0 (PastEnd f start k size)
+    orElse lengthRefused f start  -- 7, and the chain's own
+    orElse refused 16 0 (JoinedSo idDT f start (λ j. length j < k * size + size))  -- the data ends before record k does
+
+-- ---- the payload of a record
+
+-- where the record s says that it is
+abbrev pub positionIn : List ℕ → ℕ → Channel → ℕ
+positionIn s idSize c = u64At s (idSize + c .byteOffset)
+
+-- the data of the chain at the data link ends before so many bytes
+abbrev pub EndsBefore : List ℕ → Channel → (List ℕ → ℕ) → Type 0
+EndsBefore f c end = JoinedSo idSD f (c .dataLink) (λ j. length j < end j)
+
+abbrev pub payloadRefused : List ℕ → List ℕ → ℕ → Channel → Cause
+payloadRefused f s idSize c =
+    refused 21 (told (idSize + c .byteOffset + 8)) (length s < idSize + c .byteOffset + 8)  -- the record ends before the position does
+    orElse chainRefused idSD f (c .dataLink)
+    orElse refused 23 0 (EndsBefore f c (λ j. positionIn s idSize c + 4))  -- the data before the length
+    orElse refused 23 0 (EndsBefore f c (λ j. positionIn s idSize c + 4 + u32At j (positionIn s idSize c)))  -- or before the payload
 
 -- ---- the numbers, in a file that is not too long: 14 is not among them
 

@@ -18,11 +18,11 @@ abbrev pub Absent : Cause → Type 0
 Absent c = (n t : ℕ) → c n t → ⊥
 
 infixr 5 _orElse_
--- tests in turn: the second where the first refuses nothing
+-- tests in turn: the first, or the second where the first refuses nothing
 unfoldable pub _orElse_ : Cause → Cause → Cause
 _orElse_ c d n t = c n t ⊎ (Absent c × d n t)
 
--- so many tests in turn: that of the first which refuses
+-- so many tests in turn: the first that refuses, which is test k where none before it does
 unfoldable pub firstOf : ℕ → (ℕ → Cause) → Cause
 firstOf count c n t = (k : ℕ) × ((k < count) × ((j : ℕ) → j < k → Absent (c j)) × c k n t)
 

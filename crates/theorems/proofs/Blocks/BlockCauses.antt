@@ -1,14 +1,14 @@
 -- When each refusal of a block is given, read or written, exactly, and that there is no other.
-use mathlib.Core.Path.{_≡_, refl, sym, ap, _∙_, subst}
+use mathlib.Core.Path.{_≡_, refl, ap, subst}
 use mathlib.Core.Logic.{_⊎_, inl, ⊎-elim}
-use mathlib.Core.Bool.{Bool, true, false, not, _||_}
+use mathlib.Core.Bool.{not}
 use mathlib.Core.List.{List}
 use Prim.Native.Nat.{ℕ, _+_, _*_, _<_}
 use native.Mathlib.Omega.{arith}
 use lib.ListN.{length}
 use lib.Dec.{ltb, eqb}
 use borrow.Author.Tests.{ltb-true, lt-ltb}
-use Rattle.definitions.specs.Reply.{Reply, answer, refusal, andThen, told, needing, writing}
+use Rattle.definitions.specs.Reply.{Reply, andThen, told, needing, writing}
 use Rattle.definitions.specs.Bytes.{idAt}
 use Rattle.definitions.specs.Unicode.{Encoding, textOf, writtenText, textWritten}
 use Rattle.definitions.specs.Header.{Header, headerIn, headerOf, headerBytes, headerWritten}
@@ -17,7 +17,7 @@ use Rattle.definitions.specs.ChannelBlock.{ChannelBlock, idCN, fieldsAt, fields
 use Rattle.blocks.proofs.Headers.{header-answered, length-header}
 use Rattle.blocks.proofs.Writes.{length-list}
 use Rattle.channels.proofs.Channels.{length-channel}
-use Rattle.theorems.specs.Refused.{Cause, refused, _orElse_, RefusedExactly}
+use Rattle.theorems.specs.Refused.{Cause, _orElse_, RefusedExactly}
 use Rattle.theorems.specs.BlockCauses.{tooShort, headerRefused, linkCountIn, listRefused, channelRefused, noRoom, Uncounted, headerUnwritten, listUnwritten, channelUnwritten, textUnwritten}
 use Rattle.theorems.proofs.Calls.TestsInTurn.{Tests, tests-less, tests-equal, tests-false, tests-not, tests-or, as-is, tested, last-tested, going-on, tested-lent}
 

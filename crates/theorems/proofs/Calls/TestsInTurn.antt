@@ -112,12 +112,12 @@ same-refusal e = cc
 pub going-on : {A B : Type 0} {c d : Cause} (r : Reply A) (g : A → Reply B) → RefusedExactly c r → ((a : A) → r ≡ answer a → RefusedExactly d (g a))
     → RefusedExactly (c orElse d) (andThen r g)
 unfolding _orElse_
-going-on {c = c} {d = d} (answer a) g h i =
+going-on {c = c} (answer a) g h i =
     let none : Absent c = λ n t x. not-answered a n t (sym (h .given n t x)) in record {
       given = λ n t. ⊎-elim (λ x. absurd (none n t x)) (λ x. i a refl .given n t (x .1));
       only = λ n t e. inr (none, i a refl .only n t e);
     }
-going-on {B = B} {c = c} {d = d} (refusal m u) g h i = record {
+going-on (refusal m u) g h i = record {
   given = λ n t. ⊎-elim (λ x. same-refusal (h .given n t x)) (λ x. absurd (x .0 m u (h .only m u refl)));
   only = λ n t e. inl (h .only n t (same-refusal e));
 }
@@ -137,7 +137,7 @@ module _ {A B : Type 0} (g : A → B) where
   pub made-of : {c : Cause} (r : Reply A) → RefusedExactly c r → RefusedExactly c (made r)
   made-of r h = record { given = λ n t x. refused-made r n t (h .given n t x); only = λ n t e. h .only n t (made-refused r n t e) }
 
--- where two causes come first, they may be taken for one
+-- the first two of three causes may be taken for one
 pub together : {A : Type 0} (c d e : Cause) {r : Reply A} → RefusedExactly (c orElse d orElse e) r → RefusedExactly ((c orElse d) orElse e) r
 unfolding _orElse_
 together c d e h = record {
@@ -151,7 +151,7 @@ together c d e h = record {
 
 -- ---- many in a row
 
--- of each place, by whether it is the last
+-- of each place up to k, by whether it is k
 pub before-or-last : {P : ℕ → Type 0} (k : ℕ) → ((j : ℕ) → j < k → P j) → P k → (j : ℕ) → j < suc k → P j
 before-or-last {P = P} k before last j l = go (eqb j k) refl
   where

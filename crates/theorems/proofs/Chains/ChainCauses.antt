@@ -1,6 +1,6 @@
 -- When a chain is refused, exactly: by the first list or fragment that is, or for one list too many.
-use mathlib.Core.Path.{_≡_, refl, sym, ap, ap₂, _∙_, subst}
-use mathlib.Core.Logic.{_⊎_, inl, inr, ⊎-elim, _↔_}
+use mathlib.Core.Path.{_≡_, refl, sym, ap, ap₂, _∙_}
+use mathlib.Core.Logic.{inl, inr, ⊎-elim, _↔_}
 use mathlib.Core.Bool.{Bool, true, false}
 use mathlib.Core.List.{List, [], _∷_, _++_, append-assoc, append-nil}
 use Prim.Native.Nat.{ℕ, zero, suc, _+_, _-_, _<_}
@@ -13,8 +13,8 @@ use Rattle.definitions.specs.DataList.{DataList}
 use Rattle.definitions.specs.Chain.{Block, total, listLimit, fragmentOf, fragments, listAt, Declaration, declarationOf, chainedAt, lists, chainOf}
 use Rattle.definitions.proofs.Replies.{not-answered, answered}
 use Rattle.chain.proofs.Answers.{followed}
-use Rattle.theorems.specs.Refused.{Cause, refused, Absent, _orElse_, firstOf, provided, RefusedExactly}
-use Rattle.theorems.specs.ChainCauses.{fragmentThere, fragmentRefused, listThere, chainedRefused, addressOf, blocksTo, blocksAt, blocksBefore, HasList, partRefused, chainRefused}
+use Rattle.theorems.specs.Refused.{Cause, refused, _orElse_, firstOf, provided, RefusedExactly}
+use Rattle.theorems.specs.ChainCauses.{fragmentThere, fragmentRefused, listThere, addressOf, blocksTo, blocksAt, blocksBefore, HasList, partRefused, chainRefused}
 use Rattle.theorems.proofs.Chains.ListCauses.{fragment-refused, fragment-there, list-is-there, chained-refused, chained-is-there}
 use Rattle.theorems.proofs.Calls.TestsInTurn.{as-is, going-on, together, before-or-last, in-a-row}
 

@@ -1,20 +1,19 @@
 -- 14 is never due where the file is not too long for 7: 4,096 blocks of at most 2^40 bytes are far from 2^63.
-use mathlib.Core.Path.{_≡_, refl, sym, ap, _∙_, subst}
-use mathlib.Core.Bool.{Bool, true}
+use mathlib.Core.Path.{_≡_, refl, sym, ap, _∙_}
+use mathlib.Core.Bool.{true}
 use mathlib.Core.Logic.{inl, inr, ⊎-elim}
 use mathlib.Core.List.{List, [], _∷_, _++_, append-nil}
 use Prim.Native.Nat.{ℕ, zero, suc, _+_, _*_, _≤_, _<_}
 use native.Mathlib.Omega.{arith}
 use lib.ListN.{length, drop, length-append}
 use Rattle.definitions.specs.DataList.{DataList}
-use Rattle.definitions.specs.Chain.{Block, total, fileLimit, fragmentLimit, listLimit, blockAt, chainedAt, declarationOf}
+use Rattle.definitions.specs.Chain.{Block, total, fileLimit, fragmentLimit, blockAt, chainedAt, declarationOf}
 use Rattle.chain.proofs.Blocks.{block-stands}
 use Rattle.chain.proofs.Chains.{total-more}
 use Rattle.chain.proofs.Declarations.{chained-answer}
-use Rattle.theorems.specs.Causes.{Not}
 use Rattle.theorems.specs.Refused.{Cause, refused, Absent, Among, _orElse_, firstOf, provided}
 use Rattle.theorems.specs.BlockCauses.{listRefused}
-use Rattle.theorems.specs.ChainCauses.{blockThere, blockRefused, fragmentThere, fragmentRefused, listThere, listAtRefused, chainedRefused, addressOf, blocksTo, blocksAt, blocksBefore, HasList, partRefused, chainRefused, lengthRefused, recordRefused, ofChain, ofLength, ofRecord}
+use Rattle.theorems.specs.ChainCauses.{blockThere, blockRefused, fragmentThere, fragmentRefused, listThere, chainedRefused, addressOf, blocksTo, blocksAt, blocksBefore, HasList, partRefused, chainRefused, ofChain}
 use Rattle.theorems.proofs.Chains.BlocksStand.{list-there}
 use Rattle.theorems.proofs.Chains.ListCauses.{block-refused, block-there, chained-refused, chained-is-there}
 use Rattle.theorems.proofs.Chains.ChainCauses.{one-more}

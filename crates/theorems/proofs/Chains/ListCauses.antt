@@ -1,5 +1,5 @@
 -- When a data block, a fragment or a list of a chain is refused, exactly, and what is read where it is not.
-use mathlib.Core.Path.{_≡_, refl, sym, ap, _∙_, subst}
+use mathlib.Core.Path.{_≡_, refl, sym, ap, _∙_}
 use mathlib.Core.Logic.{_⊎_, inl, inr, ⊎-elim}
 use mathlib.Core.Bool.{Bool, true, false, not, _&&_, true≢false}
 use mathlib.Core.List.{List}
@@ -7,9 +7,9 @@ use Prim.Native.Nat.{ℕ, _+_, _*_, _<_}
 use native.Mathlib.Omega.{arith}
 use lib.ListN.{length, drop}
 use lib.Dec.{ltb, leb, eqb}
-use borrow.Author.Tests.{leb-true, leb-false, lt-leb, eqb-true, eqb-false, ne-eqb}
+use borrow.Author.Tests.{leb-true, leb-false, eqb-true, eqb-false}
 use Rattle.definitions.specs.Reply.{Reply, answer, refusal, if_then_else_}
-use Rattle.definitions.specs.Bytes.{u64At, idAt, bit}
+use Rattle.definitions.specs.Bytes.{u64At, idAt}
 use Rattle.definitions.specs.DataList.{DataList, oneLength, listOf}
 use Rattle.definitions.specs.Chain.{Block, dataLimit, fragmentLimit, hasHeader, blockAt, isLast, declared, judged, fragmentOf, agrees, admitted, listAt, Declaration, byLength, byOffsets, declarationOf, keepsTo, chainedAt}
 use Rattle.definitions.proofs.Replies.{both, answered}

@@ -7,12 +7,11 @@ use Prim.Native.Nat.{ℕ, _+_, _*_, _≤_, _<_}
 use native.Mathlib.Omega.{arith}
 use lib.ListN.{length}
 use lib.Dec.{ltb, eqb}
-use borrow.Author.Tests.{ltb-true, lt-ltb}
 use Rattle.definitions.specs.Reply.{answer}
 use Rattle.definitions.specs.Chain.{Block, idDT, fileLimit, recordLimit, total, joined, chainOf, totalOf, dataLength, badSize, recordOf, fetched}
 use Rattle.definitions.proofs.Replies.{answered}
 use Rattle.theorems.specs.Refused.{refused, _orElse_, Among, RefusedExactly}
-use Rattle.theorems.specs.ChainCauses.{BadSize, PastEnd, chainRefused, lengthRefused, recordRefused, ofChain, ofLength, ofRecord}
+use Rattle.theorems.specs.ChainCauses.{BadSize, JoinedSo, chainRefused, lengthRefused, recordRefused, ofChain, ofLength, ofRecord}
 use Rattle.theorems.proofs.Chains.AcceptedChains.{accepted, accepts}
 use Rattle.theorems.proofs.Chains.ChainCauses.{chain-refused}
 use Rattle.theorems.proofs.Chains.ChainNumbers.{chain-among}
@@ -26,6 +25,16 @@ pub length-refused : (f : List ℕ) (start : ℕ) → RefusedExactly (lengthRefu
 unfolding dataLength
 length-refused f start = tested (ltb fileLimit (length f)) 7 0 _ (tests-less fileLimit (length f)) (total-refused idDT f start)
 
+-- the blocks of an accepted chain are the chain's
+pub tests-joined : (id f : List ℕ) (start : ℕ) (P : List ℕ → Type 0) (test : List ℕ → Bool) → ((j : List ℕ) → Tests (P j) (test j))
+    → (bs : List Block) → chainOf id f start ≡ answer bs → Tests (JoinedSo id f start P) (test (joined f bs))
+tests-joined id f start P test t bs e = record {
+  holds = λ h. (bs, (accepted id f start bs e, t (joined f bs) .holds h));
+  shows = λ p.
+      let same : p .0 ≡ bs = answered (sym (accepts id f start (p .0) (p .1 .0)) ∙ e) in
+      t (joined f bs) .shows (subst (λ (x : List Block). P (joined f x)) same (p .1 .1));
+}
+
 tests-size : (size room : ℕ) → Tests (BadSize size room) (badSize size room)
 tests-size size room =
     let t = tests-or (eqb size 0 || ltb recordLimit size) (ltb room size) (tests-or (eqb size 0) (ltb recordLimit size) (tests-equal size 0) (tests-less recordLimit size)) (tests-less room size) in
@@ -35,15 +44,6 @@ tests-size size room =
     }
 
 module _ (f : List ℕ) (start k size : ℕ) (out : List ℕ) where
-  -- the blocks of an accepted chain are the chain's
-  tests-end : (bs : List Block) → chainOf idDT f start ≡ answer bs → Tests (PastEnd f start k size) (ltb (length (joined f bs)) (k * size + size))
-  tests-end bs e = record {
-    holds = λ h. (bs, (accepted idDT f start bs e, ltb-true _ _ h));
-    shows = λ p.
-        let same : p .0 ≡ bs = answered (sym (accepts idDT f start (p .0) (p .1 .0)) ∙ e) in
-        lt-ltb _ _ (subst (λ (x : List Block). length (joined f x) < k * size + size) same (p .1 .1));
-  }
-
   pub record-refused : RefusedExactly (recordRefused f start k size out) (fetched f start k size out .reply)
   unfolding fetched recordOf
   record-refused =
@@ -54,7 +54,8 @@ module _ (f : List ℕ) (start k size : ℕ) (out : List ℕ) where
       (tested (ltb fileLimit (length f)) 7 0 _ (tests-less fileLimit (length f))
       (going-on-lent (chainOf idDT f start) _ out
       (going-on (chainOf idDT f start) _ (chain-refused idDT f start)
-      (λ bs e. tested-lent (ltb (length (joined f bs)) (k * size + size)) 16 0 out _ (last-tested (ltb (length (joined f bs)) (k * size + size)) 16 0 tt (tests-end bs e)))))))))
+      (λ bs e. tested-lent (ltb (length (joined f bs)) (k * size + size)) 16 0 out _
+      (last-tested _ 16 0 tt (tests-joined idDT f start _ (λ j. ltb (length j) (k * size + size)) (λ j. tests-less (length j) (k * size + size)) bs e)))))))))
 
 -- ---- their numbers: 14 is not among them, since a file that is too long for that has 7 first
 
