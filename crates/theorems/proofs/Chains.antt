@@ -5,4 +5,3 @@ pub mod AcceptedChains
 pub mod FoundByLength
 pub mod ListCauses
 pub mod ChainCauses
-pub mod ChainNumbers

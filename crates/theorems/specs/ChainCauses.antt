@@ -3,10 +3,9 @@
 use mathlib.Core.Path.{_≡_}
 use mathlib.Core.Logic.{_⊎_}
 use mathlib.Core.List.{List, [], _∷_, _++_}
-use mathlib.Core.Bool.{Bool, false, _&&_, _||_}
+use mathlib.Core.Bool.{false}
 use Prim.Native.Nat.{ℕ, zero, suc, _+_, _-_, _*_, _<_}
 use lib.ListN.{length, drop}
-use lib.Dec.{leb, eqb}
 use Rattle.definitions.specs.Reply.{told}
 use Rattle.definitions.specs.Bytes.{u32At, u64At, idAt, bit}
 use Rattle.definitions.specs.Header.{headerIn}
@@ -168,14 +167,3 @@ payloadRefused f s idSize c =
     orElse chainRefused idSD f (c .dataLink)
     orElse refused 23 0 (EndsBefore f c (λ j. positionIn s idSize c + 4))  -- the data before the length
     orElse refused 23 0 (EndsBefore f c (λ j. positionIn s idSize c + 4 + u32At j (positionIn s idSize c)))  -- or before the payload
-
--- ---- the numbers, in a file that is not too long: 14 is not among them
-
-abbrev pub ofChain : ℕ → Bool
-ofChain n = leb 2 n && leb n 4 || leb 8 n && leb n 13
-
-abbrev pub ofLength : ℕ → Bool
-ofLength n = eqb n 7 || ofChain n
-
-abbrev pub ofRecord : ℕ → Bool
-ofRecord n = eqb n 15 || eqb n 16 || ofLength n

@@ -1,7 +1,6 @@
 -- When a reply is a refusal, and which: one shape for all that is refused.
 use mathlib.Core.Path.{_≡_}
 use mathlib.Core.Logic.{_⊎_}
-use mathlib.Core.Bool.{Bool, true}
 use Prim.Native.Nat.{ℕ, _<_}
 use Rattle.definitions.specs.Reply.{Reply, refusal}
 
@@ -29,10 +28,6 @@ firstOf count c n t = (k : ℕ) × ((k < count) × ((j : ℕ) → j < k → Abse
 -- a test that is made where P holds
 unfoldable pub provided : Type 0 → Cause → Cause
 provided P c n t = P × c n t
-
--- only numbers that pass the test are ever due
-pub record Among (test : ℕ → Bool) (c : Cause) : Type 0 where
-  pub passes : (n t : ℕ) → c n t → test n ≡ true
 
 -- r is the refusal that is due, and no other; so where none is due there is an answer
 pub record RefusedExactly {A : Type 0} (c : Cause) (r : Reply A) : Type 0 where

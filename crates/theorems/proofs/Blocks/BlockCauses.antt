@@ -34,7 +34,7 @@ module _ (s : List ℕ) where
 
   -- what is read behind the header goes by the header in the bytes
   behind-header : {A : Type 0} {c : Cause} (g : Header → Reply A) → RefusedExactly c (g (headerIn s)) → RefusedExactly (headerRefused s orElse c) (andThen (headerOf s) g)
-  behind-header {c = c} g h = going-on (headerOf s) g header-refused (λ x e. as-is (ap g (header-answered s x e .1)) h)
+  behind-header g h = going-on (headerOf s) g header-refused (λ x e. as-is (ap g (header-answered s x e .1)) h)
 
   pub list-refused : RefusedExactly (listRefused s) (listOf s)
   unfolding listOf linksOf restOf

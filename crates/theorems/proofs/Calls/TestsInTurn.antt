@@ -1,5 +1,5 @@
 -- Tests in turn: the first that finds something refuses, with its own number, and where none does there is an answer.
-use mathlib.Core.Path.{_≡_, refl, sym, ap, _∙_, subst}
+use mathlib.Core.Path.{_≡_, refl, sym, _∙_, subst}
 use mathlib.Core.Logic.{_⊎_, inl, inr, ⊎-elim, _↔_}
 use mathlib.Core.Bool.{Bool, true, false, not, _&&_, _||_, true≢false}
 use mathlib.Core.List.{List}
@@ -11,7 +11,7 @@ use Rattle.definitions.specs.Reply.{Reply, Outcome, answer, refusal, if_then_el
 use Rattle.definitions.proofs.Replies.{not-answered, both}
 use Rattle.theorems.specs.Exactly.{Exactly}
 use Rattle.theorems.specs.Causes.{Not}
-use Rattle.theorems.specs.Refused.{Cause, refused, Absent, _orElse_, firstOf, Among, RefusedExactly, ToldExactly}
+use Rattle.theorems.specs.Refused.{Cause, refused, Absent, _orElse_, firstOf, RefusedExactly, ToldExactly}
 
 -- ---- a test and what it tests
 
@@ -164,7 +164,7 @@ abbrev Past : (ℕ → Cause) → ℕ → Type 0
 Past c k = (j : ℕ) → j < k → Absent (c j)
 
 -- nothing does, where none is the first
-pub none-of : (c : ℕ → Cause) (count : ℕ) → Absent (firstOf count c) → (k : ℕ) → k ≤ count → Past c k
+none-of : (c : ℕ → Cause) (count : ℕ) → Absent (firstOf count c) → (k : ℕ) → k ≤ count → Past c k
 unfolding firstOf
 none-of c count none zero l = λ j m. let no : ⊥ = omega arith in absurd no
 none-of c count none (suc k) l =
@@ -196,17 +196,6 @@ module _ (W c : ℕ → Cause) (count : ℕ) (step : (i : ℕ) → i < count →
     ⊎-elim (λ x. back-from (x .0) n t (omega (arith, x .1 .0)) (x .1 .1) (step (x .0) (x .1 .0) n t .1 (inl (x .1 .2))))
         (λ x. back-from count n t (omega arith) (none-of c count (x .0) count (omega arith)) (x .1)),
   )
-
--- ---- which numbers
-
-module _ {test : ℕ → Bool} where
-  pub one-of : (number tells : ℕ) (P : Type 0) → test number ≡ true → Among test (refused number tells P)
-  unfolding refused
-  one-of number tells P e = record { passes = λ n t x. ap test (x .1) ∙ e }
-
-  pub or-of : {c d : Cause} → Among test c → Among test d → Among test (c orElse d)
-  unfolding _orElse_
-  or-of g h = record { passes = λ n t. ⊎-elim (g .passes n t) (λ x. h .passes n t (x .1)) }
 
 -- ---- beside a buffer
 

@@ -36,7 +36,7 @@ module _ (id f s : List ℕ) (d : DataList) (before : List Block) where
   abbrev from : ℕ → ℕ → Reply (List Block)
   from i n = fragments id f s d i n (so-far i)
 
-  pub one-more : (i : ℕ) → so-far i ++ (fragmentThere f s d i ∷ []) ≡ so-far (suc i)
+  one-more : (i : ℕ) → so-far i ++ (fragmentThere f s d i ∷ []) ≡ so-far (suc i)
   unfolding blocksTo
   one-more i = append-assoc before (blocksTo f s d i) (fragmentThere f s d i ∷ [])
 

@@ -1,21 +1,19 @@
 -- When the length of the joined data is refused, and a record of it, exactly.
-use mathlib.Core.Path.{_≡_, refl, sym, ap, _∙_, subst}
+use mathlib.Core.Path.{_≡_, sym, _∙_, subst}
 use mathlib.Core.Logic.{inl, inr, ⊎-elim}
-use mathlib.Core.Bool.{Bool, true, false, _||_}
+use mathlib.Core.Bool.{Bool, _||_}
 use mathlib.Core.List.{List}
-use Prim.Native.Nat.{ℕ, _+_, _*_, _≤_, _<_}
-use native.Mathlib.Omega.{arith}
+use Prim.Native.Nat.{ℕ, _+_, _*_}
 use lib.ListN.{length}
 use lib.Dec.{ltb, eqb}
 use Rattle.definitions.specs.Reply.{answer}
 use Rattle.definitions.specs.Chain.{Block, idDT, fileLimit, recordLimit, total, joined, chainOf, totalOf, dataLength, badSize, recordOf, fetched}
 use Rattle.definitions.proofs.Replies.{answered}
-use Rattle.theorems.specs.Refused.{refused, _orElse_, Among, RefusedExactly}
-use Rattle.theorems.specs.ChainCauses.{BadSize, JoinedSo, chainRefused, lengthRefused, recordRefused, ofChain, ofLength, ofRecord}
+use Rattle.theorems.specs.Refused.{RefusedExactly}
+use Rattle.theorems.specs.ChainCauses.{BadSize, JoinedSo, chainRefused, lengthRefused, recordRefused}
 use Rattle.theorems.proofs.Chains.AcceptedChains.{accepted, accepts}
 use Rattle.theorems.proofs.Chains.ChainCauses.{chain-refused}
-use Rattle.theorems.proofs.Chains.ChainNumbers.{chain-among}
-use Rattle.theorems.proofs.Calls.TestsInTurn.{Tests, tests-less, tests-equal, tests-or, tested, last-tested, going-on, made-of, together, tested-lent, going-on-lent, one-of, or-of}
+use Rattle.theorems.proofs.Calls.TestsInTurn.{Tests, tests-less, tests-equal, tests-or, tested, last-tested, going-on, made-of, together, tested-lent, going-on-lent}
 
 pub total-refused : (id f : List ℕ) (start : ℕ) → RefusedExactly (chainRefused id f start) (totalOf id f start)
 unfolding totalOf
@@ -56,24 +54,3 @@ module _ (f : List ℕ) (start k size : ℕ) (out : List ℕ) where
       (going-on (chainOf idDT f start) _ (chain-refused idDT f start)
       (λ bs e. tested-lent (ltb (length (joined f bs)) (k * size + size)) 16 0 out _
       (last-tested _ 16 0 tt (tests-joined idDT f start _ (λ j. ltb (length j) (k * size + size)) (λ j. tests-less (length j) (k * size + size)) bs e)))))))))
-
--- ---- their numbers: 14 is not among them, since a file that is too long for that has 7 first
-
-or-true : (a b : Bool) → b ≡ true → a || b ≡ true
-or-true true b e = refl
-or-true false b e = e
-
-module _ (f : List ℕ) (start : ℕ) where
-  pub length-among : Among ofLength (lengthRefused f start)
-  unfolding _orElse_ refused
-  length-among = record {
-    passes = λ n t. ⊎-elim (λ x. ap ofLength (x .1))
-        (λ x. or-true (eqb n 7) (ofChain n) (chain-among idDT f (short (λ long. x .0 7 0 (long, refl, refl))) start .passes n t (x .1)));
-  }
-    where
-      short : (fileLimit < length f → ⊥) → length f ≤ fileLimit
-      short h = omega arith
-
-  pub record-among : (k size : ℕ) (out : List ℕ) → Among ofRecord (recordRefused f start k size out)
-  record-among k size out =
-      or-of (one-of _ _ _ refl) (or-of (record { passes = λ n t x. or-true (eqb n 15 || eqb n 16) (ofLength n) (length-among .passes n t x) }) (one-of _ _ _ refl))
