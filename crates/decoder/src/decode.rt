@@ -4,7 +4,7 @@ ghost use Prim.Native.Nat.{_+_, _/_, _%_};
 ghost use Rattle.definitions.specs.Bytes.{le, fieldAt};
 ghost use Rattle.definitions.specs.DataType.{typeOf};
 ghost use Rattle.definitions.specs.Channel.{valueOf, validValueOf};
-ghost use Rattle.fields.specs.Meaning.{channelMeant, valueMeant, valueReply, validValueReply};
+ghost use Rattle.fields.specs.Meaning.{channelMeant, groupMeant, valueMeant, valueReply, validValueReply};
 ghost use Rattle.fields.specs.Form.{orderMeant, formOf, formKind, formValue, numberValue};
 ghost use Rattle.fields.specs.Known.{Sound, valueAt};
 ghost use Rattle.decoder.specs.Meaning.{judgedReply, placed};
@@ -20,6 +20,7 @@ use fields::DecodedChannelValue;
 use fields::DecodedValue;
 use fields::FieldFound;
 use fields::Form;
+use fields::Group;
 use fields::Number;
 use fields::ValidValueRead;
 use fields::ValueRead;
@@ -145,43 +146,43 @@ fn judged(read: ValueRead, is_valid: bool) -> ValidValueRead
 // It goes the same ways as the value alone, and calls what that does: each of the two calls has the short way inlined.
 pub fn decode_channel_value_with_validity(
     record: &[u8],
-    record_id_size: usize,
-    cg_data_bytes: u32,
+    group: Group,
     channel: Channel,
 ) -> ValidValueRead
-    ensures { λ r. ⌜ validValueReply r ≡ validValueOf (now («record» .entry)) «record_id_size» «cg_data_bytes» (channelMeant channel) ⌝ }
+    ensures { λ r. ⌜ validValueReply r ≡ validValueOf (now («record» .entry)) (groupMeant group) (channelMeant channel) ⌝ }
 {
-    let is_valid = check_value_validity(record, record_id_size, cg_data_bytes, channel);
+    let is_valid = check_value_validity(record, group, channel);
     if channel.is_variable_length() {
-        return judged(any_value(record, record_id_size, channel), is_valid);
+        return judged(any_value(record, group.record_id_size, channel), is_valid);
     }
     let data_type = channel.data_type;
     let offset = channel.bit_offset;
     let count = channel.bit_count;
     let form = number_form(data_type, count);
     let NumberForm::Number(number, big_endian) = form else {
-        return judged(any_value(record, record_id_size, channel), is_valid);
+        return judged(any_value(record, group.record_id_size, channel), is_valid);
     };
     if 7 < offset {
-        return judged(any_value(record, record_id_size, channel), is_valid);
+        return judged(any_value(record, group.record_id_size, channel), is_valid);
     }
-    let found = find_word(record, record_id_size, channel.byte_offset, offset, count);
+    let found = find_word(
+        record,
+        group.record_id_size,
+        channel.byte_offset,
+        offset,
+        count,
+    );
     let WordFound::Word(word, from) = found else {
-        return judged(any_value(record, record_id_size, channel), is_valid);
+        return judged(any_value(record, group.record_id_size, channel), is_valid);
     };
     let value = near_value(number, big_endian, word, from, count);
     ValidValueRead::Value(DecodedChannelValue { value, is_valid })
 }
 
 // The same by the general way, for callers that have done much already: a second one would keep the short way from being inlined.
-pub fn any_valid_value(
-    record: &[u8],
-    record_id_size: usize,
-    cg_data_bytes: u32,
-    channel: Channel,
-) -> ValidValueRead
-    ensures { λ r. ⌜ validValueReply r ≡ validValueOf (now («record» .entry)) «record_id_size» «cg_data_bytes» (channelMeant channel) ⌝ }
+pub fn any_valid_value(record: &[u8], group: Group, channel: Channel) -> ValidValueRead
+    ensures { λ r. ⌜ validValueReply r ≡ validValueOf (now («record» .entry)) (groupMeant group) (channelMeant channel) ⌝ }
 {
-    let is_valid = check_value_validity(record, record_id_size, cg_data_bytes, channel);
-    judged(any_value(record, record_id_size, channel), is_valid)
+    let is_valid = check_value_validity(record, group, channel);
+    judged(any_value(record, group.record_id_size, channel), is_valid)
 }

@@ -13,6 +13,7 @@ pub use double::decode_f64_from_record;
 pub use fields::Channel;
 pub use fields::DecodedChannelValue;
 pub use fields::DecodedValue;
+pub use fields::Group;
 pub use fields::ValidValueRead;
 pub use fields::ValueRead;
 pub use fields::check_value_validity;

@@ -5,8 +5,8 @@ use Prim.Native.Nat.{ℕ, zero, suc, _+_, _≤_, _<_}
 use native.Mathlib.Omega.{arith}
 use lib.Dec.{eqb}
 use borrow.Author.Tests.{eqb-true, eqb-false, eq-eqb}
-use Rattle.definitions.specs.Channel.{Channel}
-use Rattle.definitions.specs.Overlap.{bitPlace, someFrom, shareABit}
+use Rattle.definitions.specs.Channel.{Channel, bitPlace}
+use Rattle.definitions.specs.Overlap.{someFrom, shareABit}
 
 -- ---- a test over numbers in a row
 

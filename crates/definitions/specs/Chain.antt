@@ -8,7 +8,7 @@ use lib.Dec.{ltb, leb, eqb}
 use Rattle.definitions.specs.Reply.{Reply, Outcome, answer, refusal, if_then_else_, andThen, onAnswer}
 use Rattle.definitions.specs.Bytes.{span, u64At, idAt}
 use Rattle.definitions.specs.DataList.{DataList, listOf, oneLength}
-use Rattle.definitions.specs.Channel.{Channel, ValidValue, validValueOf}
+use Rattle.definitions.specs.Channel.{Channel, Group, ValidValue, validValueOf}
 
 -- `##DT`
 abbrev pub idDT : List ℕ
@@ -189,11 +189,11 @@ fetched f start k size out =
     else onAnswer (chainOf idDT f start) (λ bs. recordOf (joined f bs) k size out) out
 
 -- the record, then its field from those bytes alone; a refused field leaves the record in the buffer
-abbrev pub fieldOf : ℕ → ℕ → ℕ → Channel → Outcome (Unit {0}) → Outcome ValidValue
-fieldOf size idSize dataBytes c o = record {
-  reply = andThen (o .reply) (λ u. validValueOf (take size (o .buffer)) idSize dataBytes c);
+abbrev pub fieldOf : ℕ → Group → Channel → Outcome (Unit {0}) → Outcome ValidValue
+fieldOf size g c o = record {
+  reply = andThen (o .reply) (λ u. validValueOf (take size (o .buffer)) g c);
   buffer = o .buffer;
 }
 
-unfoldable pub valueFetched : List ℕ → ℕ → ℕ → ℕ → ℕ → ℕ → Channel → List ℕ → Outcome ValidValue
-valueFetched f start k size idSize dataBytes c out = fieldOf size idSize dataBytes c (fetched f start k size out)
+unfoldable pub valueFetched : List ℕ → ℕ → ℕ → ℕ → Group → Channel → List ℕ → Outcome ValidValue
+valueFetched f start k size g c out = fieldOf size g c (fetched f start k size out)

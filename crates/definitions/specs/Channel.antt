@@ -1,5 +1,5 @@
 -- A channel's value in a record, as a double too, and its validity.
-use Prim.Native.Nat.{ℕ, _+_, _/_, _%_, max}
+use Prim.Native.Nat.{ℕ, _+_, _*_, _/_, _%_, max}
 use mathlib.Core.List.{List}
 use mathlib.Core.Bool.{Bool, true, false, not, _&&_, _||_}
 use lib.IntN.{ℤ, pos}
@@ -7,10 +7,10 @@ use lib.ListN.{length, getD}
 use lib.Dec.{ltb, eqb}
 use lib.Ieee.{Float, binary64, ofBits}
 use Rattle.definitions.specs.Reply.{Reply, answer, refusal, if_then_else_, andThen, told}
-use Rattle.definitions.specs.Bytes.{Order, span, bit, bytesFor, fieldAt, twosComplement}
+use Rattle.definitions.specs.Bytes.{Order, span, bit, bytesFor, byteWith, fieldAt, twosComplement}
 use Rattle.definitions.specs.Ieee754.{nanPattern, doubleOf, widened}
 use Rattle.definitions.specs.Unicode.{stopped}
-use Rattle.definitions.specs.DataType.{DataType, unsignedInteger, signedInteger, float, complex, string, byteArray, mimeSample, mimeStream, canOpenDate, canOpenTime, unknown, Kind, integer, floating, whole, undecoded, kindOf}
+use Rattle.definitions.specs.DataType.{DataType, unsignedInteger, signedInteger, float, complex, string, byteArray, mimeSample, mimeStream, canOpenDate, canOpenTime, unknown, Kind, integer, floating, whole, undecoded, kindOf, orderOf}
 
 -- what is known of a channel
 pub record Channel : Type 0 where
@@ -22,6 +22,11 @@ pub record Channel : Type 0 where
   pub flags : ℕ
   pub invalidationBit : ℕ
   pub dataLink : ℕ
+
+-- what is known of a channel's group: how many bytes the id in front of each record has, and the channels' data behind it
+pub record Group : Type 0 where
+  pub idSize : ℕ
+  pub dataBytes : ℕ
 
 -- ---- where the field lies
 
@@ -98,6 +103,24 @@ isFloating undecoded = false
 abbrev pub isNumber : Kind → Bool
 isNumber k = isInteger k || isFloating k
 
+-- a fixed number: a number in the record itself
+abbrev pub isFixedNumber : Channel → Bool
+isFixedNumber c = isNumber (kindOf (c .dataType)) && not (variableLength c)
+
+-- a number's description passes 18, 19, 20 and 22, the tests below that ask nothing of the slice
+abbrev pub isWellDescribed : Kind → Channel → Bool
+isWellDescribed k c =
+    not (eqb (c .bitCount) 0) && not (ltb 7 (c .bitOffset)) && not (isInteger k && ltb 64 (c .bitCount))
+    && not (isFloating k && not (eqb (c .bitCount) 32 || eqb (c .bitCount) 64))
+
+-- a fixed number that has a value in every record which is long enough
+unfoldable pub isSoundNumber : Channel → Bool
+isSoundNumber c = isFixedNumber c && isWellDescribed (kindOf (c .dataType)) c
+
+-- where bit k of the number in a field's span stands in the record, counted from behind the record id: 8 bits to a byte, the lowest first
+abbrev pub bitPlace : Channel → ℕ → ℕ
+bitPlace c k = (c .byteOffset + byteWith (orderOf (c .dataType)) (bytesFor (c .bitOffset) (c .bitCount)) k) * 8 + k % 8
+
 -- The tests in turn. 18: a number of no bits. 19: one that begins behind its first byte. 20: an integer of over 64 bits.
 -- 21: a field of any kind that ends outside the slice; told are the bytes that the slice needs, counted from its front.
 -- 22: a float that is neither a single nor a double
@@ -134,17 +157,16 @@ recordDouble s idSize c = if variableLength c then nanPattern else doubleIn (val
 -- ---- validity
 
 -- flag 0: never. Without flag 1: always. With it, where the invalidation bit is clear, as one beyond the slice counts
-unfoldable pub validOf : List ℕ → ℕ → ℕ → Channel → Bool
-validOf s idSize dataBytes c =
+unfoldable pub validOf : List ℕ → Group → Channel → Bool
+validOf s g c =
     if eqb (bit (c .flags) 0) 1 then false
     else if eqb (bit (c .flags) 1) 0 then true
-    else eqb (bit (getD s (idSize + dataBytes + c .invalidationBit / 8) 0) (c .invalidationBit % 8)) 0
+    else eqb (bit (getD s (g .idSize + g .dataBytes + c .invalidationBit / 8) 0) (c .invalidationBit % 8)) 0
 
 -- both; there is no validity without a value
 pub record ValidValue : Type 0 where
   pub value : Value
   pub valid : Bool
 
-unfoldable pub validValueOf : List ℕ → ℕ → ℕ → Channel → Reply ValidValue
-validValueOf s idSize dataBytes c =
-    andThen (valueOf s idSize c) (λ v. answer (record { value = v; valid = validOf s idSize dataBytes c }))
+unfoldable pub validValueOf : List ℕ → Group → Channel → Reply ValidValue
+validValueOf s g c = andThen (valueOf s (g .idSize) c) (λ v. answer (record { value = v; valid = validOf s g c }))

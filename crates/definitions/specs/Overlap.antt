@@ -1,19 +1,13 @@
 -- The first two channels of a list whose fields share a bit of the record.
-use Prim.Native.Nat.{ℕ, zero, suc, _+_, _*_, _%_}
-use mathlib.Core.Bool.{Bool, false, not, _&&_, _||_}
+use Prim.Native.Nat.{ℕ, zero, suc, _+_}
+use mathlib.Core.Bool.{Bool, false, _||_}
 use mathlib.Core.List.{List, [], _∷_}
 use lib.ListN.{length}
-use lib.Dec.{ltb, leb, eqb}
+use lib.Dec.{ltb, eqb}
 use Rattle.definitions.specs.Reply.{Reply, answer, refusal, if_then_else_}
-use Rattle.definitions.specs.Bytes.{bytesFor, byteWith}
-use Rattle.definitions.specs.DataType.{kindOf, orderOf}
-use Rattle.definitions.specs.Channel.{Channel, variableLength, isNumber, isInteger, isFloating}
+use Rattle.definitions.specs.Channel.{Channel, bitPlace, isSoundNumber}
 
 -- ---- the bits of a field
-
--- where bit k of the field's number stands in the record, counted from behind the record id: 8 bits to a byte, the lowest first
-abbrev pub bitPlace : Channel → ℕ → ℕ
-bitPlace c k = (c .byteOffset + byteWith (orderOf (c .dataType)) (bytesFor (c .bitOffset) (c .bitCount)) k) * 8 + k % 8
 
 -- whether one of the n numbers from k on passes a test
 unfoldable pub someFrom : ℕ → ℕ → (ℕ → Bool) → Bool
@@ -30,13 +24,6 @@ shareABit a b = someBit a (λ k. someBit b (λ l. eqb (bitPlace a k) (bitPlace b
 
 -- ---- the list
 
--- a number in the record itself that passes 18 (no bits), 19 (offset), 20 (an integer over 64 bits) and 22 (a float's width)
-unfoldable pub isFixedNumber : Channel → Bool
-isFixedNumber c =
-    isNumber (kindOf (c .dataType)) && not (variableLength c) && not (eqb (c .bitCount) 0) && leb (c .bitOffset) 7
-    && not (isInteger (kindOf (c .dataType)) && ltb 64 (c .bitCount))
-    && not (isFloating (kindOf (c .dataType)) && not (eqb (c .bitCount) 32 || eqb (c .bitCount) 64))
-
 -- two places of the list, counted from 0, or none
 pub data Overlap : Type 0 where
   pair : ℕ → ℕ → Overlap
@@ -52,10 +39,10 @@ unfoldable pub firstPair : ℕ → List Channel → Overlap
 firstPair i [] = none
 firstPair i (a ∷ cs) = pairWith i a (i + 1) cs (firstPair (i + 1) cs)
 
--- 27: the first entry that is no fixed number, by its place; the entries given are those from place i on
+-- 27: the first entry that is no sound number, by its place; the entries given are those from place i on
 unfoldable pub allFixed : ℕ → List Channel → Reply Overlap → Reply Overlap
 allFixed i [] r = r
-allFixed i (c ∷ cs) r = if isFixedNumber c then allFixed (i + 1) cs r else refusal 27 i
+allFixed i (c ∷ cs) r = if isSoundNumber c then allFixed (i + 1) cs r else refusal 27 i
 
 -- 26: over 256 entries
 abbrev pub channelLimit : ℕ

@@ -7,7 +7,7 @@ use lib.ListN.{length, take}
 use lib.Dec.{ltb, eqb}
 use Rattle.definitions.specs.Reply.{Reply, Outcome, answer, refusal, if_then_else_, andThen, onAnswer, told, writing}
 use Rattle.definitions.specs.Bytes.{span, u32At, u64At}
-use Rattle.definitions.specs.Channel.{Channel, Value, variableLength, valueOf, validOf}
+use Rattle.definitions.specs.Channel.{Channel, Group, Value, variableLength, valueOf, validOf}
 use Rattle.definitions.specs.Chain.{joined, chainOf, fetched}
 
 -- `##SD`
@@ -57,10 +57,9 @@ pub record PayloadValue : Type 0 where
   pub size : ℕ
 
 -- the value is that of the payload alone, and the validity that of the record s
-unfoldable pub payloadValueOf : List ℕ → ℕ → ℕ → Channel → List ℕ → Reply PayloadValue
-payloadValueOf s idSize dataBytes c payload =
-    andThen (valueOf payload idSize c)
-    (λ v. answer (record { value = v; valid = validOf s idSize dataBytes c; size = length payload }))
+unfoldable pub payloadValueOf : List ℕ → Group → Channel → List ℕ → Reply PayloadValue
+payloadValueOf s g c payload =
+    andThen (valueOf payload (g .idSize) c) (λ v. answer (record { value = v; valid = validOf s g c; size = length payload }))
 
 -- the reply of a call that was lent two buffers, and both as the call leaves them
 pub record Outcomes (A : Type 0) : Type 0 where
@@ -69,22 +68,22 @@ pub record Outcomes (A : Type 0) : Type 0 where
   pub payloadBuffer : List ℕ
 
 -- behind the fetch o of a record into its buffer, and the fetch p of its payload
-abbrev pub valueBehind : ℕ → ℕ → ℕ → Channel → Outcome (Unit {0}) → Outcome (List ℕ) → Outcomes PayloadValue
-valueBehind size idSize dataBytes c o p = record {
-  reply = andThen (p .reply) (payloadValueOf (take size (o .buffer)) idSize dataBytes c);
+abbrev pub valueBehind : ℕ → Group → Channel → Outcome (Unit {0}) → Outcome (List ℕ) → Outcomes PayloadValue
+valueBehind size g c o p = record {
+  reply = andThen (p .reply) (payloadValueOf (take size (o .buffer)) g c);
   recordBuffer = o .buffer;
   payloadBuffer = p .buffer;
 }
 
 -- Behind the fetch o alone: what refuses the record, or the position in it, refuses the payload. What was fetched stays in its
 -- buffer, whatever is refused then
-abbrev pub payloadBehind : Reply (List ℕ) → ℕ → ℕ → ℕ → Channel → Outcome (Unit {0}) → List ℕ → Outcomes PayloadValue
-payloadBehind j size idSize dataBytes c o out =
-    valueBehind size idSize dataBytes c o
-    (stored (andThen (o .reply) (λ u. payloadOf j (take size (o .buffer)) idSize c)) out)
+abbrev pub payloadBehind : Reply (List ℕ) → ℕ → Group → Channel → Outcome (Unit {0}) → List ℕ → Outcomes PayloadValue
+payloadBehind j size g c o out =
+    valueBehind size g c o
+    (stored (andThen (o .reply) (λ u. payloadOf j (take size (o .buffer)) (g .idSize) c)) out)
 
 -- 35, the record's own, 21 for the position, the chain's own at the data link, 23, 6, and the payload's own
-unfoldable pub payloadFetched : List ℕ → ℕ → ℕ → ℕ → ℕ → ℕ → Channel → List ℕ → List ℕ → Outcomes PayloadValue
-payloadFetched f start k size idSize dataBytes c out payloadOut =
+unfoldable pub payloadFetched : List ℕ → ℕ → ℕ → ℕ → Group → Channel → List ℕ → List ℕ → Outcomes PayloadValue
+payloadFetched f start k size g c out payloadOut =
     if not (holdsPosition c) then record { reply = refusal 35 0; recordBuffer = out; payloadBuffer = payloadOut }
-    else payloadBehind (joinedOf idSD f (c .dataLink)) size idSize dataBytes c (fetched f start k size out) payloadOut
+    else payloadBehind (joinedOf idSD f (c .dataLink)) size g c (fetched f start k size out) payloadOut

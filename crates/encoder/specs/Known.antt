@@ -1,13 +1,13 @@
 -- What is known of the field that was chosen.
 use mathlib.Core.Path.{_≡_}
-use mathlib.Core.Bool.{Bool, not, _&&_, _||_}
+use mathlib.Core.Bool.{Bool, not, _&&_}
 use mathlib.Core.List.{List}
 use Prim.Native.Nat.{ℕ, _+_, _^_, _<_}
-use lib.Dec.{ltb, eqb}
+use lib.Dec.{ltb}
 use Rattle.definitions.specs.Reply.{answer}
 use Rattle.definitions.specs.Bytes.{bytesFor}
 use Rattle.definitions.specs.DataType.{orderOf}
-use Rattle.definitions.specs.Channel.{Channel, Value, startOf, isInteger, isFloating, valueOf}
+use Rattle.definitions.specs.Channel.{Channel, Value, startOf, isWellDescribed, valueOf}
 use Rattle.definitions.specs.WrittenValue.{Given, otherKind, fieldGiven}
 use Rattle.refusals.specs.Meaning.{refused}
 use Rattle.refusals.specs.declared.Refusal.{Refusal}
@@ -28,8 +28,7 @@ AlwaysRefused s idSize c r = (v : Given) → fieldGiven s idSize c v ≡ refused
 -- a number's field passes all tests of decoding, in a record of l bytes
 abbrev pub isReadable : ℕ → ℕ → Number → Channel → Bool
 isReadable l idSize number c =
-    not (eqb (c .bitCount) 0) && not (ltb 7 (c .bitOffset)) && not (isInteger (numberKind number) && ltb 64 (c .bitCount))
-    && not (isFloating (numberKind number) && not (eqb (c .bitCount) 32 || eqb (c .bitCount) 64))
+    isWellDescribed (numberKind number) c
     && not (ltb l (idSize + c .byteOffset + bytesFor (c .bitOffset) (c .bitCount)))
 
 -- the field lies at `at` in the order b, and x fits into it

@@ -18,8 +18,7 @@ use fields::Number;
 use fields::ValueRead;
 use fields::ends_outside;
 use fields::form_of;
-use fields::is_no_float_width;
-use fields::is_over_a_word;
+use fields::is_well_described;
 use refusals::Refusal;
 use words::put_field_be;
 use words::put_field_le;
@@ -84,16 +83,7 @@ fn is_readable(length: usize, record_id_size: usize, number: Number, channel: Ch
 {
     let span = (channel.bit_offset as usize + channel.bit_count as usize + 7) / 8;
     let byte_offset = channel.byte_offset as usize;
-    if channel.bit_count == 0 {
-        return false;
-    }
-    if 7 < channel.bit_offset {
-        return false;
-    }
-    if is_over_a_word(number, channel.bit_count) {
-        return false;
-    }
-    if is_no_float_width(number, channel.bit_count) {
+    if !is_well_described(number, channel) {
         return false;
     }
     !ends_outside(length, record_id_size, byte_offset, span)

@@ -9,7 +9,7 @@ use lib.ListN.{length, getD}
 use lib.Dec.{eqb}
 use borrow.Author.Tests.{eq-eqb, ne-eqb}
 use Rattle.definitions.specs.Bytes.{bit}
-use Rattle.definitions.specs.Channel.{Channel, validOf}
+use Rattle.definitions.specs.Channel.{Channel, Group, validOf}
 
 -- past the end there are zeros
 getD-past : (s : List ℕ) (i : ℕ) → length s ≤ i → getD s i 0 ≡ 0
@@ -28,17 +28,17 @@ module _ (s : List ℕ) (skipped bytes place : ℕ) where
   pub past-place : length s - skipped - bytes ≤ place → 0 ≡ getD s (skipped + bytes + place) 0
   past-place h = sym (getD-past s (skipped + bytes + place) (omega arith))
 
-module _ (s : List ℕ) (idSize dataBytes : ℕ) (c : Channel) {a : ℕ} (ea : a ≡ bit (c .flags) 0) where
-  pub all-invalid : a ≡ 1 → false ≡ validOf s idSize dataBytes c
+module _ (s : List ℕ) (g : Group) (c : Channel) {a : ℕ} (ea : a ≡ bit (c .flags) 0) where
+  pub all-invalid : a ≡ 1 → false ≡ validOf s g c
   unfolding validOf
   all-invalid h = rw (eq-eqb (bit (c .flags) 0) 1 (sym ea ∙ h))
 
-  pub all-valid : {b : ℕ} → (a ≡ 1 → ⊥) → b ≡ bit (c .flags) 1 → b ≡ 0 → true ≡ validOf s idSize dataBytes c
+  pub all-valid : {b : ℕ} → (a ≡ 1 → ⊥) → b ≡ bit (c .flags) 1 → b ≡ 0 → true ≡ validOf s g c
   unfolding validOf
   all-valid some eb h = rw (ne-eqb (bit (c .flags) 0) 1 (λ e. some (ea ∙ e)), eq-eqb (bit (c .flags) 1) 0 (sym eb ∙ h))
 
   pub by-bit : {b byte d : ℕ} → (a ≡ 1 → ⊥) → b ≡ bit (c .flags) 1 → (b ≡ 0 → ⊥)
-      → byte ≡ getD s (idSize + dataBytes + c .invalidationBit / 8) 0 → d ≡ bit byte (c .invalidationBit % 8) → eqb d 0 ≡ validOf s idSize dataBytes c
+      → byte ≡ getD s (g .idSize + g .dataBytes + c .invalidationBit / 8) 0 → d ≡ bit byte (c .invalidationBit % 8) → eqb d 0 ≡ validOf s g c
   unfolding validOf
   by-bit some eb told ey ed =
       rw (ne-eqb (bit (c .flags) 0) 1 (λ e. some (ea ∙ e)), ne-eqb (bit (c .flags) 1) 0 (λ e. told (eb ∙ e)), ed, ey)

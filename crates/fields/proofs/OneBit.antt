@@ -6,15 +6,15 @@ use lib.ListN.{getD}
 use lib.Dec.{eqb}
 use Rattle.definitions.specs.Reply.{if_then_else_}
 use Rattle.definitions.specs.Bytes.{bit}
-use Rattle.definitions.specs.Channel.{Channel, validOf}
+use Rattle.definitions.specs.Channel.{Channel, Group, validOf}
 use mathlib.Core.Bool.{true, false}
 
 -- the invalidation bit, which reads 0 beyond the slice
-abbrev pub invalidationBitIn : List ℕ → ℕ → ℕ → Channel → ℕ
-invalidationBitIn s idSize dataBytes c = bit (getD s (idSize + dataBytes + c .invalidationBit / 8) 0) (c .invalidationBit % 8)
+abbrev pub invalidationBitIn : List ℕ → Group → Channel → ℕ
+invalidationBitIn s g c = bit (getD s (g .idSize + g .dataBytes + c .invalidationBit / 8) 0) (c .invalidationBit % 8)
 
-pub one-bit : (s t : List ℕ) (idSize dataBytes : ℕ) (c : Channel) → invalidationBitIn s idSize dataBytes c ≡ invalidationBitIn t idSize dataBytes c
-    → validOf s idSize dataBytes c ≡ validOf t idSize dataBytes c
+pub one-bit : (s t : List ℕ) (g : Group) (c : Channel) → invalidationBitIn s g c ≡ invalidationBitIn t g c
+    → validOf s g c ≡ validOf t g c
 unfolding validOf
-one-bit s t idSize dataBytes c e =
+one-bit s t g c e =
     ap (λ (b : ℕ). if eqb (bit (c .flags) 0) 1 then false else if eqb (bit (c .flags) 1) 0 then true else eqb b 0) e

@@ -10,6 +10,7 @@ use Rattle.fields.specs.declared.value.DecodedValue.the-variants.{Unsign
 use Rattle.fields.specs.declared.value.ValueRead.{ValueRead}
 use Rattle.fields.specs.declared.value.ValueRead.the-variants.{Value as Valued, Refused as NotValued}
 use Rattle.fields.specs.declared.value.DecodedChannelValue.{DecodedChannelValue}
+use Rattle.fields.specs.declared.group.Group.{Group}
 use Rattle.fields.specs.declared.value.ValidValueRead.{ValidValueRead}
 use Rattle.fields.specs.declared.value.ValidValueRead.the-variants.{Value as Judged, Refused as NotJudged}
 
@@ -24,6 +25,9 @@ channelMeant c = record {
   invalidationBit = c .«pos_invalidation_bit»;
   dataLink = c .data;
 }
+
+abbrev pub groupMeant : Group → channels.Group
+groupMeant g = record { idSize = g .«record_id_size»; dataBytes = g .«data_bytes» }
 
 abbrev pub valueMeant : DecodedValue → Value
 valueMeant (UnsignedInteger n) = unsigned n

@@ -4,7 +4,7 @@ ghost use mathlib.Core.Bool.{not, _&&_, _||_};
 ghost use Prim.Native.Nat.{_+_};
 ghost use lib.Dec.{ltb, eqb};
 ghost use lib.ListN.{length};
-ghost use Rattle.definitions.specs.Channel.{isInteger, isFloating, bitSpan, spanIn, valueBy};
+ghost use Rattle.definitions.specs.Channel.{isInteger, isFloating, isWellDescribed, bitSpan, spanIn, valueBy};
 ghost use Rattle.fields.specs.Meaning.{channelMeant};
 ghost use Rattle.fields.specs.Form.{numberKind, contentKind, formKind};
 ghost use Rattle.fields.specs.Known.{valueAt, FieldTold, FieldPlaced};
@@ -63,6 +63,22 @@ pub fn is_no_float_width(number: Number, bit_count: u32) -> bool
         Number::Signed => false,
         Number::Float => !is_float_width(bit_count),
     }
+}
+
+// Whether a number's description passes each test that asks nothing of the slice
+pub fn is_well_described(number: Number, channel: Channel) -> bool
+    ensures { λ r. ⌜ r ≡ isWellDescribed (numberKind number) (channelMeant channel) ⌝ }
+{
+    if channel.bit_count == 0 {
+        return false;
+    }
+    if 7 < channel.bit_offset {
+        return false;
+    }
+    if is_over_a_word(number, channel.bit_count) {
+        return false;
+    }
+    !is_no_float_width(number, channel.bit_count)
 }
 
 // A number's field, which starts `byte_offset` bytes after those skipped, or the first cause to have none

@@ -4,8 +4,9 @@ ghost use Prim.Native.Nat.{_+_, _/_, _<_};
 ghost use lib.ListN.{getD};
 ghost use Rattle.definitions.specs.Bytes.{bit};
 ghost use Rattle.definitions.specs.Channel.{validOf};
-ghost use Rattle.fields.specs.Meaning.{channelMeant};
+ghost use Rattle.fields.specs.Meaning.{channelMeant, groupMeant};
 use crate::channel::Channel;
+use crate::group::Group;
 use words::cut;
 
 fn bit_of(word: u64, place: u32) -> u64
@@ -32,13 +33,8 @@ fn byte_after(record: &[u8], skipped: usize, data_bytes: usize, place: usize) ->
     record[skipped + data_bytes + place] as u64
 }
 
-pub fn check_value_validity(
-    record: &[u8],
-    record_id_size: usize,
-    cg_data_bytes: u32,
-    channel: Channel,
-) -> bool
-    ensures { λ r. ⌜ r ≡ validOf (now («record» .entry)) «record_id_size» «cg_data_bytes» (channelMeant channel) ⌝ }
+pub fn check_value_validity(record: &[u8], group: Group, channel: Channel) -> bool
+    ensures { λ r. ⌜ r ≡ validOf (now («record» .entry)) (groupMeant group) (channelMeant channel) ⌝ }
 {
     let flags = channel.flags as u64;
     // bit 0: every value is invalid
@@ -52,8 +48,8 @@ pub fn check_value_validity(
     let position = channel.pos_invalidation_bit;
     let byte = byte_after(
         record,
-        record_id_size,
-        cg_data_bytes as usize,
+        group.record_id_size,
+        group.data_bytes as usize,
         (position / 8) as usize,
     );
     bit_of(byte, position % 8) == 0

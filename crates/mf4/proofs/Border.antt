@@ -18,8 +18,9 @@ use Rattle.definitions.specs.Payload.{payloadFetched}
 use Rattle.definitions.specs.Overlap.{overlapOf}
 use Rattle.mf4.specs.Clauses.{Slice, Allows}
 use Rattle.mf4.specs.ByHand.{ClausesIn, Says}
+use Rattle.mf4.specs.Version.{version}
 use Rattle.replies.specs.Replies.{flagC, writtenC, headerC, headerGiven, listC, textC, returned, returnedBy, doneC}
-use Rattle.replies.specs.Values.{channelGiven, valueC, validValueC, lengthC, payloadC, returnedBoth, returnedBothBy}
+use Rattle.replies.specs.Values.{channelGiven, groupGiven, valueC, validValueC, lengthC, payloadC, returnedBoth, returnedBothBy}
 use Rattle.replies.specs.Channels.{channelC, blockGiven}
 use Rattle.replies.specs.Stored.{numberGiven}
 use Rattle.replies.specs.Overlaps.{overlapC}
@@ -29,6 +30,7 @@ use Rattle.replies.specs.declared.header.Mf4HeaderReply.{Mf4HeaderReply}
 use Rattle.replies.specs.declared.list.Mf4ListReply.{Mf4ListReply}
 use Rattle.replies.specs.declared.texts.Mf4TextReply.{Mf4TextReply}
 use Rattle.replies.specs.declared.channel.Mf4Channel.{Mf4Channel}
+use Rattle.replies.specs.declared.group.Mf4Group.{Mf4Group}
 use Rattle.replies.specs.declared.channel_block.Mf4ChannelBlock.{Mf4ChannelBlock}
 use Rattle.replies.specs.declared.channel_block.Mf4ChannelReply.{Mf4ChannelReply}
 use Rattle.replies.specs.declared.values.Mf4ValueReply.{Mf4ValueReply}
@@ -82,6 +84,8 @@ use Rattle.mf4.proofs.mf4_record_payload.Kinds as mf4-record-payload-ki
 use Rattle.mf4.proofs.mf4_record_payload.Reads as mf4-record-payload
 use Rattle.mf4.proofs.mf4_write_value.Kinds as mf4-write-value-kinds
 use Rattle.mf4.proofs.mf4_write_value.Reads as mf4-write-value
+use Rattle.mf4.proofs.mf4_version.Kinds as mf4-version-kinds
+use Rattle.mf4.proofs.mf4_version.Reads as mf4-version
 use Rattle.mf4.proofs.mf4_first_overlap as mf4-first-overlap
 
 pub mf4-read-header-arguments : (κs : Lfts 1) (bytes : Slice) (y : Mf4HeaderReply)
@@ -109,15 +113,15 @@ pub mf4-read-list-arguments : (κs : Lfts 1) (bytes : Slice) (y : Mf4ListReply)
     ≡ (y ≡ listC (listOf (bytes .now)))
 mf4-read-list-arguments κs bytes y = refl
 
-pub mf4-write-list-equal-arguments : (κs : Lfts 2) (next : ℕ) (links : Slice) (length : ℕ) (out : Slice) (y : Mf4WrittenReply) (after : List ℕ)
-    → Allows 2 mf4-write-list-equal-kinds.ps mf4-write-list-equal-kinds.r mf4-write-list-equal.Learnt κs (next, (links, (length, (out, tt)))) y (tt, (tt, (tt, (after, tt))))
-    ≡ (returned y after ≡ returnedBy writtenC (listWritten (out .now) next (links .now) (equal length)))
-mf4-write-list-equal-arguments κs next links length out y after = refl
+pub mf4-write-list-equal-arguments : (κs : Lfts 2) (nextAddr : ℕ) (links : Slice) (length : ℕ) (out : Slice) (y : Mf4WrittenReply) (after : List ℕ)
+    → Allows 2 mf4-write-list-equal-kinds.ps mf4-write-list-equal-kinds.r mf4-write-list-equal.Learnt κs (nextAddr, (links, (length, (out, tt)))) y (tt, (tt, (tt, (after, tt))))
+    ≡ (returned y after ≡ returnedBy writtenC (listWritten (out .now) nextAddr (links .now) (equal length)))
+mf4-write-list-equal-arguments κs nextAddr links length out y after = refl
 
-pub mf4-write-list-variable-arguments : (κs : Lfts 3) (next : ℕ) (links offsets out : Slice) (y : Mf4WrittenReply) (after : List ℕ)
-    → Allows 3 mf4-write-list-variable-kinds.ps mf4-write-list-variable-kinds.r mf4-write-list-variable.Learnt κs (next, (links, (offsets, (out, tt)))) y (tt, (tt, (tt, (after, tt))))
-    ≡ (returned y after ≡ returnedBy writtenC (listWritten (out .now) next (links .now) (variable (offsets .now))))
-mf4-write-list-variable-arguments κs next links offsets out y after = refl
+pub mf4-write-list-variable-arguments : (κs : Lfts 3) (nextAddr : ℕ) (links offsets out : Slice) (y : Mf4WrittenReply) (after : List ℕ)
+    → Allows 3 mf4-write-list-variable-kinds.ps mf4-write-list-variable-kinds.r mf4-write-list-variable.Learnt κs (nextAddr, (links, (offsets, (out, tt)))) y (tt, (tt, (tt, (after, tt))))
+    ≡ (returned y after ≡ returnedBy writtenC (listWritten (out .now) nextAddr (links .now) (variable (offsets .now))))
+mf4-write-list-variable-arguments κs nextAddr links offsets out y after = refl
 
 pub mf4-read-channel-arguments : (κs : Lfts 1) (bytes : Slice) (y : Mf4ChannelReply)
     → Allows 1 mf4-read-channel-kinds.ps mf4-read-channel-kinds.r mf4-read-channel.Learnt κs (bytes, tt) y (tt, tt)
@@ -134,15 +138,15 @@ pub mf4-decode-value-arguments : (κs : Lfts 1) (bytes : Slice) (recordIdSize : 
     ≡ (y ≡ valueC (valueOf (bytes .now) recordIdSize (channelGiven channel)))
 mf4-decode-value-arguments κs bytes recordIdSize channel y = refl
 
-pub mf4-check-validity-arguments : (κs : Lfts 1) (bytes : Slice) (recordIdSize dataBytes : ℕ) (channel : Mf4Channel) (y : ℕ)
-    → Allows 1 mf4-check-validity-kinds.ps mf4-check-validity-kinds.r mf4-check-validity.Learnt κs (bytes, (recordIdSize, (dataBytes, (channel, tt)))) y (tt, (tt, (tt, (tt, tt))))
-    ≡ (y ≡ flagC (validOf (bytes .now) recordIdSize dataBytes (channelGiven channel)))
-mf4-check-validity-arguments κs bytes recordIdSize dataBytes channel y = refl
+pub mf4-check-validity-arguments : (κs : Lfts 1) (bytes : Slice) (group : Mf4Group) (channel : Mf4Channel) (y : ℕ)
+    → Allows 1 mf4-check-validity-kinds.ps mf4-check-validity-kinds.r mf4-check-validity.Learnt κs (bytes, (group, (channel, tt))) y (tt, (tt, (tt, tt)))
+    ≡ (y ≡ flagC (validOf (bytes .now) (groupGiven group) (channelGiven channel)))
+mf4-check-validity-arguments κs bytes group channel y = refl
 
-pub mf4-decode-valid-value-arguments : (κs : Lfts 1) (bytes : Slice) (recordIdSize dataBytes : ℕ) (channel : Mf4Channel) (y : Mf4ValidValueReply)
-    → Allows 1 mf4-decode-valid-value-kinds.ps mf4-decode-valid-value-kinds.r mf4-decode-valid-value.Learnt κs (bytes, (recordIdSize, (dataBytes, (channel, tt)))) y (tt, (tt, (tt, (tt, tt))))
-    ≡ (y ≡ validValueC (validValueOf (bytes .now) recordIdSize dataBytes (channelGiven channel)))
-mf4-decode-valid-value-arguments κs bytes recordIdSize dataBytes channel y = refl
+pub mf4-decode-valid-value-arguments : (κs : Lfts 1) (bytes : Slice) (group : Mf4Group) (channel : Mf4Channel) (y : Mf4ValidValueReply)
+    → Allows 1 mf4-decode-valid-value-kinds.ps mf4-decode-valid-value-kinds.r mf4-decode-valid-value.Learnt κs (bytes, (group, (channel, tt))) y (tt, (tt, (tt, tt)))
+    ≡ (y ≡ validValueC (validValueOf (bytes .now) (groupGiven group) (channelGiven channel)))
+mf4-decode-valid-value-arguments κs bytes group channel y = refl
 
 pub mf4-decode-double-bits-arguments : (κs : Lfts 1) (bytes : Slice) (recordIdSize : ℕ) (channel : Mf4Channel) (y : ℕ)
     → Allows 1 mf4-decode-double-bits-kinds.ps mf4-decode-double-bits-kinds.r mf4-decode-double-bits.Learnt κs (bytes, (recordIdSize, (channel, tt))) y (tt, (tt, (tt, tt)))
@@ -179,15 +183,15 @@ pub mf4-read-record-arguments : (κs : Lfts 2) (file : Slice) (start number reco
     ≡ (returned y after ≡ returnedBy doneC (fetched (file .now) start number recordSize (buffer .now)))
 mf4-read-record-arguments κs file start number recordSize buffer y after = refl
 
-pub mf4-record-value-arguments : (κs : Lfts 2) (file : Slice) (start number recordSize recordIdSize dataBytes : ℕ) (channel : Mf4Channel) (buffer : Slice) (y : Mf4ValidValueReply) (after : List ℕ)
-    → Allows 2 mf4-record-value-kinds.ps mf4-record-value-kinds.r mf4-record-value.Learnt κs (file, (start, (number, (recordSize, (recordIdSize, (dataBytes, (channel, (buffer, tt)))))))) y (tt, (tt, (tt, (tt, (tt, (tt, (tt, (after, tt))))))))
-    ≡ (returned y after ≡ returnedBy validValueC (valueFetched (file .now) start number recordSize recordIdSize dataBytes (channelGiven channel) (buffer .now)))
-mf4-record-value-arguments κs file start number recordSize recordIdSize dataBytes channel buffer y after = refl
+pub mf4-record-value-arguments : (κs : Lfts 2) (file : Slice) (start number recordSize : ℕ) (group : Mf4Group) (channel : Mf4Channel) (buffer : Slice) (y : Mf4ValidValueReply) (after : List ℕ)
+    → Allows 2 mf4-record-value-kinds.ps mf4-record-value-kinds.r mf4-record-value.Learnt κs (file, (start, (number, (recordSize, (group, (channel, (buffer, tt))))))) y (tt, (tt, (tt, (tt, (tt, (tt, (after, tt)))))))
+    ≡ (returned y after ≡ returnedBy validValueC (valueFetched (file .now) start number recordSize (groupGiven group) (channelGiven channel) (buffer .now)))
+mf4-record-value-arguments κs file start number recordSize group channel buffer y after = refl
 
-pub mf4-record-payload-arguments : (κs : Lfts 3) (file : Slice) (start number recordSize recordIdSize dataBytes : ℕ) (channel : Mf4Channel) (bytes payload : Slice) (y : Mf4PayloadReply) (recordAfter payloadAfter : List ℕ)
-    → Allows 3 mf4-record-payload-kinds.ps mf4-record-payload-kinds.r mf4-record-payload.Learnt κs (file, (start, (number, (recordSize, (recordIdSize, (dataBytes, (channel, (bytes, (payload, tt))))))))) y (tt, (tt, (tt, (tt, (tt, (tt, (tt, (recordAfter, (payloadAfter, tt)))))))))
-    ≡ (returnedBoth y recordAfter payloadAfter ≡ returnedBothBy payloadC (payloadFetched (file .now) start number recordSize recordIdSize dataBytes (channelGiven channel) (bytes .now) (payload .now)))
-mf4-record-payload-arguments κs file start number recordSize recordIdSize dataBytes channel bytes payload y recordAfter payloadAfter = refl
+pub mf4-record-payload-arguments : (κs : Lfts 3) (file : Slice) (start number recordSize : ℕ) (group : Mf4Group) (channel : Mf4Channel) (bytes payload : Slice) (y : Mf4PayloadReply) (recordAfter payloadAfter : List ℕ)
+    → Allows 3 mf4-record-payload-kinds.ps mf4-record-payload-kinds.r mf4-record-payload.Learnt κs (file, (start, (number, (recordSize, (group, (channel, (bytes, (payload, tt)))))))) y (tt, (tt, (tt, (tt, (tt, (tt, (recordAfter, (payloadAfter, tt))))))))
+    ≡ (returnedBoth y recordAfter payloadAfter ≡ returnedBothBy payloadC (payloadFetched (file .now) start number recordSize (groupGiven group) (channelGiven channel) (bytes .now) (payload .now)))
+mf4-record-payload-arguments κs file start number recordSize group channel bytes payload y recordAfter payloadAfter = refl
 
 pub mf4-write-value-arguments : (κs : Lfts 1) (recordIdSize : ℕ) (channel : Mf4Channel) (value : Mf4Number) (bytes : Slice) (y : Mf4DoneReply) (after : List ℕ)
     → Allows 1 mf4-write-value-kinds.ps mf4-write-value-kinds.r mf4-write-value.Learnt κs (recordIdSize, (channel, (value, (bytes, tt)))) y (tt, (tt, (tt, (after, tt))))
@@ -202,3 +206,8 @@ pub mf4-first-overlap-arguments : (κs : Lfts 1) (list : RefT (List Mf4Channel))
     → Says mf4-first-overlap.ended mf4-first-overlap-clauses κs (list, tt) y (tt, tt)
     (y ≡ overlapC (overlapOf (map channelGiven (list .now))))
 mf4-first-overlap-arguments κs list y w g = refl
+
+pub mf4-version-arguments : (κs : Lfts 0) (y : ℕ)
+    → Allows 0 mf4-version-kinds.ps mf4-version-kinds.r mf4-version.Learnt κs tt y tt
+    ≡ (y ≡ version)
+mf4-version-arguments κs y = refl

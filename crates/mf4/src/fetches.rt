@@ -2,17 +2,19 @@
 ghost use mathlib.Core.Path.{_≡_};
 ghost use Rattle.definitions.specs.Chain.{dataLength, fetched, valueFetched};
 ghost use Rattle.replies.specs.Replies.{returned, returnedBy, doneC};
-ghost use Rattle.replies.specs.Values.{channelGiven, validValueC, lengthC};
+ghost use Rattle.replies.specs.Values.{channelGiven, groupGiven, validValueC, lengthC};
 use chain::FileAddress;
 use chain::data_length;
 use records::read_record;
 use records::read_value;
 use replies::Mf4Channel;
 use replies::Mf4DoneReply;
+use replies::Mf4Group;
 use replies::Mf4LengthReply;
 use replies::Mf4ValidValueReply;
 use replies::channel_of;
 use replies::fetched_reply;
+use replies::group_of;
 use replies::length_reply;
 use replies::valid_value_reply;
 
@@ -42,20 +44,18 @@ pub extern "C" fn mf4_record_value(
     start: u64,
     number: u64,
     record_size: u64,
-    record_id_size: u64,
-    data_bytes: u32,
+    group: Mf4Group,
     channel: Mf4Channel,
     buffer: &mut [u8],
 ) -> Mf4ValidValueReply
-    ensures { λ r. ⌜ returned r (now (buffer .exit)) ≡ returnedBy validValueC (valueFetched (now (file .entry)) start number «record_size» «record_id_size» «data_bytes» (channelGiven channel) (now (buffer .entry))) ⌝ }
+    ensures { λ r. ⌜ returned r (now (buffer .exit)) ≡ returnedBy validValueC (valueFetched (now (file .entry)) start number «record_size» (groupGiven group) (channelGiven channel) (now (buffer .entry))) ⌝ }
 {
     valid_value_reply(read_value(
         file,
         FileAddress(start),
         number,
         record_size,
-        record_id_size as usize,
-        data_bytes,
+        group_of(group),
         channel_of(channel),
         buffer,
     ))

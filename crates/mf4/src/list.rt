@@ -17,24 +17,24 @@ pub extern "C" fn mf4_read_list(bytes: &[u8]) -> Mf4ListReply
 
 #[no_mangle]
 pub extern "C" fn mf4_write_list_equal(
-    next: u64,
+    next_addr: u64,
     links: &[u64],
     length: u64,
     out: &mut [u8],
 ) -> Mf4WrittenReply
-    ensures { λ r. ⌜ returned r (now (out .exit)) ≡ returnedBy writtenC (listWritten (now (out .entry)) next (now (links .entry)) (equal length)) ⌝ }
+    ensures { λ r. ⌜ returned r (now (out .exit)) ≡ returnedBy writtenC (listWritten (now (out .entry)) «next_addr» (now (links .entry)) (equal length)) ⌝ }
 {
-    written_reply(DataListBlock::write_equal(next, links, length, out))
+    written_reply(DataListBlock::write_equal(next_addr, links, length, out))
 }
 
 #[no_mangle]
 pub extern "C" fn mf4_write_list_variable(
-    next: u64,
+    next_addr: u64,
     links: &[u64],
     offsets: &[u64],
     out: &mut [u8],
 ) -> Mf4WrittenReply
-    ensures { λ r. ⌜ returned r (now (out .exit)) ≡ returnedBy writtenC (listWritten (now (out .entry)) next (now (links .entry)) (variable (now (offsets .entry)))) ⌝ }
+    ensures { λ r. ⌜ returned r (now (out .exit)) ≡ returnedBy writtenC (listWritten (now (out .entry)) «next_addr» (now (links .entry)) (variable (now (offsets .entry)))) ⌝ }
 {
-    written_reply(DataListBlock::write_variable(next, links, offsets, out))
+    written_reply(DataListBlock::write_variable(next_addr, links, offsets, out))
 }

@@ -1,12 +1,14 @@
 // A record through its chain, and the payload that it tells through another.
 ghost use mathlib.Core.Path.{_≡_};
 ghost use Rattle.definitions.specs.Payload.{payloadFetched};
-ghost use Rattle.replies.specs.Values.{channelGiven, payloadC, returnedBoth, returnedBothBy};
+ghost use Rattle.replies.specs.Values.{channelGiven, groupGiven, payloadC, returnedBoth, returnedBothBy};
 use chain::FileAddress;
 use payloads::read_payload;
 use replies::Mf4Channel;
+use replies::Mf4Group;
 use replies::Mf4PayloadReply;
 use replies::channel_of;
+use replies::group_of;
 use replies::payload_reply;
 
 #[no_mangle]
@@ -15,21 +17,19 @@ pub extern "C" fn mf4_record_payload(
     start: u64,
     number: u64,
     record_size: u64,
-    record_id_size: u64,
-    data_bytes: u32,
+    group: Mf4Group,
     channel: Mf4Channel,
     record: &mut [u8],
     payload: &mut [u8],
 ) -> Mf4PayloadReply
-    ensures { λ r. ⌜ returnedBoth r (now («record» .exit)) (now (payload .exit)) ≡ returnedBothBy payloadC (payloadFetched (now (file .entry)) start number «record_size» «record_id_size» «data_bytes» (channelGiven channel) (now («record» .entry)) (now (payload .entry))) ⌝ }
+    ensures { λ r. ⌜ returnedBoth r (now («record» .exit)) (now (payload .exit)) ≡ returnedBothBy payloadC (payloadFetched (now (file .entry)) start number «record_size» (groupGiven group) (channelGiven channel) (now («record» .entry)) (now (payload .entry))) ⌝ }
 {
     payload_reply(read_payload(
         file,
         FileAddress(start),
         number,
         record_size,
-        record_id_size as usize,
-        data_bytes,
+        group_of(group),
         channel_of(channel),
         record,
         payload,

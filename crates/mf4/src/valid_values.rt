@@ -1,26 +1,26 @@
 // A channel's value with its validity.
 ghost use mathlib.Core.Path.{_≡_};
 ghost use Rattle.definitions.specs.Channel.{validValueOf};
-ghost use Rattle.replies.specs.Values.{channelGiven, validValueC};
+ghost use Rattle.replies.specs.Values.{channelGiven, groupGiven, validValueC};
 use decoder::decode_channel_value_with_validity;
 use replies::Mf4Channel;
+use replies::Mf4Group;
 use replies::Mf4ValidValueReply;
 use replies::channel_of;
+use replies::group_of;
 use replies::valid_value_reply;
 
 #[no_mangle]
 pub extern "C" fn mf4_decode_valid_value(
     record: &[u8],
-    record_id_size: u64,
-    data_bytes: u32,
+    group: Mf4Group,
     channel: Mf4Channel,
 ) -> Mf4ValidValueReply
-    ensures { λ r. ⌜ r ≡ validValueC (validValueOf (now («record» .entry)) «record_id_size» «data_bytes» (channelGiven channel)) ⌝ }
+    ensures { λ r. ⌜ r ≡ validValueC (validValueOf (now («record» .entry)) (groupGiven group) (channelGiven channel)) ⌝ }
 {
     valid_value_reply(decode_channel_value_with_validity(
         record,
-        record_id_size as usize,
-        data_bytes,
+        group_of(group),
         channel_of(channel),
     ))
 }

@@ -2,25 +2,17 @@
 ghost use mathlib.Core.Path.{_≡_};
 ghost use Rattle.definitions.specs.Channel.{validOf};
 ghost use Rattle.replies.specs.Replies.{flagC};
-ghost use Rattle.replies.specs.Values.{channelGiven};
+ghost use Rattle.replies.specs.Values.{channelGiven, groupGiven};
 use decoder::check_value_validity;
 use replies::Mf4Channel;
+use replies::Mf4Group;
 use replies::channel_of;
 use replies::flag;
+use replies::group_of;
 
 #[no_mangle]
-pub extern "C" fn mf4_check_validity(
-    record: &[u8],
-    record_id_size: u64,
-    data_bytes: u32,
-    channel: Mf4Channel,
-) -> u8
-    ensures { λ r. ⌜ r ≡ flagC (validOf (now («record» .entry)) «record_id_size» «data_bytes» (channelGiven channel)) ⌝ }
+pub extern "C" fn mf4_check_validity(record: &[u8], group: Mf4Group, channel: Mf4Channel) -> u8
+    ensures { λ r. ⌜ r ≡ flagC (validOf (now («record» .entry)) (groupGiven group) (channelGiven channel)) ⌝ }
 {
-    flag(check_value_validity(
-        record,
-        record_id_size as usize,
-        data_bytes,
-        channel_of(channel),
-    ))
+    flag(check_value_validity(record, group_of(group), channel_of(channel)))
 }

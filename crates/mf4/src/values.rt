@@ -21,7 +21,11 @@ pub extern "C" fn mf4_decode_value(
 }
 
 #[no_mangle]
-pub extern "C" fn mf4_decode_double_bits(record: &[u8], record_id_size: u64, channel: Mf4Channel) -> u64
+pub extern "C" fn mf4_decode_double_bits(
+    record: &[u8],
+    record_id_size: u64,
+    channel: Mf4Channel,
+) -> u64
     ensures { λ r. ⌜ r ≡ recordDouble (now («record» .entry)) «record_id_size» (channelGiven channel) ⌝ }
 {
     decode_f64_from_record(record, record_id_size as usize, channel_of(channel))

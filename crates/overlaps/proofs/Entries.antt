@@ -1,12 +1,10 @@
 -- The tests of an entry in turn.
-use mathlib.Core.Path.{_≡_, refl, sym, ap, _∙_}
+use mathlib.Core.Path.{_≡_, refl, sym, ap, ap₂, _∙_}
 use mathlib.Core.Bool.{Bool, true, false, not, _&&_, _||_}
-use Prim.Native.Nat.{_≤_, _<_}
-use lib.Dec.{ltb, leb, eqb}
-use borrow.Author.Tests.{le-leb, lt-leb, eq-eqb, ne-eqb, not-true}
+use lib.Dec.{ltb, eqb}
+use borrow.Author.Tests.{not-true}
 use Rattle.definitions.specs.DataType.{Kind, kindOf}
-use Rattle.definitions.specs.Channel.{Channel, variableLength, isNumber, isInteger, isFloating}
-use Rattle.definitions.specs.Overlap.{isFixedNumber}
+use Rattle.definitions.specs.Channel.{Channel, variableLength, isNumber, isInteger, isFloating, isWellDescribed, isSoundNumber}
 use Rattle.definitions.proofs.Replies.{both}
 use Rattle.fields.specs.Form.{formOf, formKind, numberKind, contentKind}
 use Rattle.fields.specs.declared.form.Number.{Number}
@@ -15,9 +13,9 @@ use Rattle.fields.specs.declared.form.Form.{Form}
 use Rattle.fields.specs.declared.form.Form.the-variants.{Number as numbered, Other}
 use Rattle.fields.proofs.Forms.{kind-form, is-number, other-number}
 
--- a number, of variable length, of no bits, from a bit of its first byte on, an integer too wide, a float of no width
-abbrev tested : Bool → Bool → Bool → Bool → Bool → Bool → Bool
-tested n v z l w x = n && not v && not z && l && not w && not x
+-- a number, of variable length, described well
+abbrev tested : Bool → Bool → Bool → Bool
+tested n v w = n && not v && w
 
 abbrev pub overWord : Kind → Channel → Bool
 overWord k c = isInteger k && ltb 64 (c .bitCount)
@@ -26,17 +24,13 @@ abbrev pub noWidth : Kind → Channel → Bool
 noWidth k c = isFloating k && not (eqb (c .bitCount) 32 || eqb (c .bitCount) 64)
 
 module _ (c : Channel) where
-  pub by-tests : {k : Kind} {n v z l w x : Bool} → kindOf (c .dataType) ≡ k → isNumber k ≡ n → variableLength c ≡ v → eqb (c .bitCount) 0 ≡ z
-      → leb (c .bitOffset) 7 ≡ l → overWord k c ≡ w → noWidth k c ≡ x → isFixedNumber c ≡ tested n v z l w x
-  unfolding isFixedNumber
-  by-tests {k} {n} {v} {z} {l} {w} {x} ek en ev ez el ew ex =
-      ap (λ (t : Kind). tested (isNumber t) (variableLength c) (eqb (c .bitCount) 0) (leb (c .bitOffset) 7) (overWord t c) (noWidth t c)) ek
-      ∙ ap (λ (t : Bool). tested t (variableLength c) (eqb (c .bitCount) 0) (leb (c .bitOffset) 7) (overWord k c) (noWidth k c)) en
-      ∙ ap (λ (t : Bool). tested n t (eqb (c .bitCount) 0) (leb (c .bitOffset) 7) (overWord k c) (noWidth k c)) ev
-      ∙ ap (λ (t : Bool). tested n v t (leb (c .bitOffset) 7) (overWord k c) (noWidth k c)) ez
-      ∙ ap (λ (t : Bool). tested n v z t (overWord k c) (noWidth k c)) el
-      ∙ ap (λ (t : Bool). tested n v z l t (noWidth k c)) ew
-      ∙ ap (λ (t : Bool). tested n v z l w t) ex
+  pub by-tests : {k : Kind} {n v w : Bool} → kindOf (c .dataType) ≡ k → isNumber k ≡ n → variableLength c ≡ v → isWellDescribed k c ≡ w
+      → isSoundNumber c ≡ tested n v w
+  unfolding isSoundNumber
+  by-tests {k} {n} {v} {w} ek en ev ew =
+      ap (λ (t : Kind). tested (isNumber t) (variableLength c) (isWellDescribed t c)) ek
+      ∙ ap (λ (t : Bool). tested t (variableLength c) (isWellDescribed k c)) en
+      ∙ ap₂ (λ (s t : Bool). tested n s t) ev ew
 
   kind-of : {f form : Form} → f ≡ formOf (c .dataType) → f ≡ form → kindOf (c .dataType) ≡ formKind form
   kind-of ef e = sym (kind-form (c .dataType)) ∙ ap formKind (sym ef ∙ e)
@@ -48,48 +42,30 @@ module _ (c : Channel) where
       go true e h = sym (ap (λ (b : Bool). b && true) e) ∙ h
       go false e h = refl
 
-  pub other-form : {f : Form} {content : Content} → f ≡ formOf (c .dataType) → f ≡ Other content → false ≡ isFixedNumber c
-  other-form {content = content} ef e = sym (by-tests (kind-of ef e) (no-number content) refl refl refl refl refl)
+  pub other-form : {f : Form} {content : Content} → f ≡ formOf (c .dataType) → f ≡ Other content → false ≡ isSoundNumber c
+  other-form {content = content} ef e = sym (by-tests (kind-of ef e) (no-number content) refl refl)
 
-  module _ {f : Form} {number : Number} {order : Bool} (ef : f ≡ formOf (c .dataType)) (e : f ≡ numbered number order) where
-    abbrev kind : Kind
-    kind = numberKind number
+  module _ {f : Form} {number : Number} {order v : Bool} (ef : f ≡ formOf (c .dataType)) (e : f ≡ numbered number order) (ev : v ≡ variableLength c) where
+    pub variable-length : v ≡ true → false ≡ isSoundNumber c
+    variable-length h = sym (by-tests (kind-of ef e) (is-number number) (sym ev ∙ h) refl)
 
-    its-kind : kindOf (c .dataType) ≡ kind
-    its-kind = kind-of ef e
+    pub by-description : {r : Bool} → v ≡ false → r ≡ isWellDescribed (numberKind number) c → r ≡ isSoundNumber c
+    by-description h er = sym (by-tests (kind-of ef e) (is-number number) (sym ev ∙ h) (sym er))
 
-    pub variable-length : {v : Bool} → v ≡ variableLength c → v ≡ true → false ≡ isFixedNumber c
-    variable-length ev h = sym (by-tests its-kind (is-number number) (sym ev ∙ h) refl refl refl refl)
-
-    module _ {v : Bool} (ev : v ≡ variableLength c) (fixed : v ≡ false) where
-      pub no-bits : c .bitCount ≡ 0 → false ≡ isFixedNumber c
-      no-bits h = sym (by-tests its-kind (is-number number) (sym ev ∙ fixed) (eq-eqb _ _ h) refl refl refl)
-
-      module _ (some : c .bitCount ≡ 0 → ⊥) where
-        pub past-a-byte : 7 < c .bitOffset → false ≡ isFixedNumber c
-        past-a-byte h = sym (by-tests its-kind (is-number number) (sym ev ∙ fixed) (ne-eqb _ _ some) (lt-leb _ _ h) refl refl)
-
-        module _ (low : c .bitOffset ≤ 7) {w : Bool} (ew : w ≡ overWord kind c) where
-          pub over-a-word : w ≡ true → false ≡ isFixedNumber c
-          over-a-word h = sym (by-tests its-kind (is-number number) (sym ev ∙ fixed) (ne-eqb _ _ some) (le-leb _ _ low) (sym ew ∙ h) refl)
-
-          pub by-float-width : {x : Bool} → w ≡ false → x ≡ noWidth kind c → not x ≡ isFixedNumber c
-          by-float-width narrow ex = sym (by-tests its-kind (is-number number) (sym ev ∙ fixed) (ne-eqb _ _ some) (le-leb _ _ low) (sym ew ∙ narrow) (sym ex))
-
-  -- a fixed number passes each of them
-  pub each-passed : isFixedNumber c ≡ true
-      → (isNumber (kindOf (c .dataType)) ≡ true) × (variableLength c ≡ false) × (eqb (c .bitCount) 0 ≡ false) × (leb (c .bitOffset) 7 ≡ true)
+  -- a sound number passes each test
+  pub each-passed : isSoundNumber c ≡ true
+      → (isNumber (kindOf (c .dataType)) ≡ true) × (variableLength c ≡ false) × (eqb (c .bitCount) 0 ≡ false) × (ltb 7 (c .bitOffset) ≡ false)
       × (overWord (kindOf (c .dataType)) c ≡ false) × (noWidth (kindOf (c .dataType)) c ≡ false)
-  unfolding isFixedNumber
+  unfolding isSoundNumber
   each-passed e =
       let k : Kind = kindOf (c .dataType) in
-      let p = both _ (not (noWidth k c)) e in
-      let q = both _ (not (overWord k c)) (p .0) in
-      let r = both _ (leb (c .bitOffset) 7) (q .0) in
-      let t = both _ (not (eqb (c .bitCount) 0)) (r .0) in
-      let u = both (isNumber k) (not (variableLength c)) (t .0) in
-      (u .0, not-true _ (u .1), not-true _ (t .1), r .1, not-true _ (q .1), not-true _ (p .1))
+      let p = both (isNumber k && not (variableLength c)) (isWellDescribed k c) e in
+      let u = both (isNumber k) (not (variableLength c)) (p .0) in
+      let q = both _ (not (noWidth k c)) (p .1) in
+      let r = both _ (not (overWord k c)) (q .0) in
+      let t = both (not (eqb (c .bitCount) 0)) (not (ltb 7 (c .bitOffset))) (r .0) in
+      (u .0, not-true _ (u .1), not-true _ (t .0), not-true _ (t .1), not-true _ (r .1), not-true _ (q .1))
 
   -- and is a number
-  pub fixed-is-number : isFixedNumber c ≡ true → isNumber (kindOf (c .dataType)) ≡ true
-  fixed-is-number e = each-passed e .0
+  pub sound-is-number : isSoundNumber c ≡ true → isNumber (kindOf (c .dataType)) ≡ true
+  sound-is-number e = each-passed e .0

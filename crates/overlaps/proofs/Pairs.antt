@@ -7,8 +7,8 @@ use lib.Dec.{eqb}
 use borrow.Author.Tests.{ltb-true, ltb-false, eqb-true, eqb-false}
 use Rattle.definitions.specs.Bytes.{bytesFor, byteWith}
 use Rattle.definitions.specs.DataType.{orderOf}
-use Rattle.definitions.specs.Channel.{Channel}
-use Rattle.definitions.specs.Overlap.{bitPlace, shareABit}
+use Rattle.definitions.specs.Channel.{Channel, bitPlace}
+use Rattle.definitions.specs.Overlap.{shareABit}
 use Rattle.definitions.proofs.Shared.{Within, shared-back, apart-back}
 use Rattle.words.proofs.Locality.{byte-inside}
 use Rattle.overlaps.specs.Meaning.{bare, InSpan, Covers, meets}

@@ -4,8 +4,7 @@ use Prim.Native.Nat.{ℕ, _+_, _-_, _*_, _/_, _%_, _≤_, _<_, min}
 use native.Mathlib.Omega.{arith}
 use Rattle.definitions.specs.Bytes.{Order, little, big, bytesFor, byteWith}
 use Rattle.definitions.specs.DataType.{orderOf}
-use Rattle.definitions.specs.Channel.{Channel}
-use Rattle.definitions.specs.Overlap.{bitPlace}
+use Rattle.definitions.specs.Channel.{Channel, bitPlace}
 use Rattle.definitions.proofs.Shared.{Within}
 use Rattle.overlaps.specs.Meaning.{InSpan, Covers, bitsOfByte}
 use Rattle.overlaps.specs.declared.run.Run.{Run}

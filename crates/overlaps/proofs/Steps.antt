@@ -8,8 +8,8 @@ use lib.Dec.{ltb, eqb}
 use lib.ListN.{length, length-map, getD, drop, drop-of-length-le}
 use borrow.Author.Tests.{ltb-true, ltb-false, le-ltb, lt-ltb, eqb-true, eqb-false}
 use Rattle.definitions.specs.Reply.{Reply, answer, refusal, if_then_else_}
-use Rattle.definitions.specs.Channel.{Channel}
-use Rattle.definitions.specs.Overlap.{shareABit, isFixedNumber, Overlap, pair, none, pairWith, firstPair, allFixed, channelLimit, overlapOf}
+use Rattle.definitions.specs.Channel.{Channel, isSoundNumber}
+use Rattle.definitions.specs.Overlap.{shareABit, Overlap, pair, none, pairWith, firstPair, allFixed, channelLimit, overlapOf}
 use Rattle.refusals.specs.declared.Refusal.the-variants.{TooManyChannels, NoFixedNumber}
 use Rattle.overlaps.specs.Meaning.{overlapReply, finishedWith, standing, pairAt, entryAt, beginOf, stepOf, Ready}
 use Rattle.overlaps.specs.declared.answer.OverlapRead.{OverlapRead}
@@ -27,11 +27,11 @@ module _ (n : ℕ) (s : Search) (a b : Channel) where
       → r ≡ pairAt n (s .first) (s .second + 1) → r ≡ stepOf n s a b
   step-apart p et ev er = rw (p, sym et ∙ ev) er
 
-  pub step-fixed : {t : Bool} {r : Search} → s .«in_pairs» ≡ false → t ≡ isFixedNumber a → t ≡ true
+  pub step-fixed : {t : Bool} {r : Search} → s .«in_pairs» ≡ false → t ≡ isSoundNumber a → t ≡ true
       → r ≡ entryAt n (s .first + 1) → r ≡ stepOf n s a b
   step-fixed p et ev er = rw (p, sym et ∙ ev) er
 
-  pub step-refused : {t : Bool} {r : Search} → s .«in_pairs» ≡ false → t ≡ isFixedNumber a → t ≡ false
+  pub step-refused : {t : Bool} {r : Search} → s .«in_pairs» ≡ false → t ≡ isSoundNumber a → t ≡ false
       → r ≡ finishedWith (Refused (NoFixedNumber (s .first))) → r ≡ stepOf n s a b
   step-refused p et ev er = rw (p, sym et ∙ ev) er
 
@@ -79,7 +79,7 @@ module _ {A : Type 0} (meant : A → Channel) (blank : A) where
   no-entry ys i l = ap (λ (zs : List A). allFixed i (given zs) (answer (firstPair 0 (given ys)))) (drop-of-length-le ys l)
 
   entry-step : (ys : List A) (i : ℕ) → i < length ys
-      → entriesLeft ys i ≡ (if isFixedNumber (entry ys i) then entriesLeft ys (i + 1) else refusal 27 i)
+      → entriesLeft ys i ≡ (if isSoundNumber (entry ys i) then entriesLeft ys (i + 1) else refusal 27 i)
   unfolding allFixed
   entry-step ys i l = ap (λ (zs : List A). allFixed i (given zs) (answer (firstPair 0 (given ys)))) (from-place ys i l)
 
@@ -126,21 +126,21 @@ module _ {A : Type 0} (meant : A → Channel) (blank : A) where
 
   -- the entries before place i are fixed numbers
   abbrev FixedBefore : List A → ℕ → Type 0
-  FixedBefore ys i = (k : ℕ) → k < i → isFixedNumber (entry ys k) ≡ true
+  FixedBefore ys i = (k : ℕ) → k < i → isSoundNumber (entry ys k) ≡ true
 
   -- those that were tested: in the pairs all of them
   abbrev testedTo : List A → Bool → ℕ → ℕ
   testedTo ys true i = length ys
   testedTo ys false i = i
 
-  one-more-fixed : (ys : List A) (i : ℕ) → FixedBefore ys i → isFixedNumber (entry ys i) ≡ true → FixedBefore ys (i + 1)
+  one-more-fixed : (ys : List A) (i : ℕ) → FixedBefore ys i → isSoundNumber (entry ys i) ≡ true → FixedBefore ys (i + 1)
   one-more-fixed ys i before e k l = go (eqb k i) refl
     where
       lower : (k ≡ i → ⊥) → k < i
       lower h = omega arith
 
-      go : (t : Bool) → eqb k i ≡ t → isFixedNumber (entry ys k) ≡ true
-      go true h = ap (λ (x : ℕ). isFixedNumber (entry ys x)) (eqb-true k i h) ∙ e
+      go : (t : Bool) → eqb k i ≡ t → isSoundNumber (entry ys k) ≡ true
+      go true h = ap (λ (x : ℕ). isSoundNumber (entry ys x)) (eqb-true k i h) ∙ e
       go false h = before k (lower (eqb-false k i h))
 
   -- at the places i and j of the list, and what is left is the whole
@@ -228,7 +228,7 @@ module _ {A : Type 0} (meant : A → Channel) (blank : A) where
     small : (i : ℕ) → i < length ys → i < channelLimit
     small i l = let few = at .few in omega arith
 
-    compared : (i : ℕ) → i < length ys → s .«in_pairs» ≡ true → isFixedNumber (entry ys i) ≡ true
+    compared : (i : ℕ) → i < length ys → s .«in_pairs» ≡ true → isSoundNumber (entry ys i) ≡ true
     compared i l p = subst (λ (x : Bool). FixedBefore ys (testedTo ys x (s .first))) p (at .fixed) i l
 
     pub ready : Ready s a b
@@ -260,20 +260,20 @@ module _ {A : Type 0} (meant : A → Channel) (blank : A) where
         whole = ap (λ (x : Bool). leftAt ys x (s .first) (s .second)) (sym p) ∙ at .rest
 
     in-entries : s .«in_pairs» ≡ false
-        → Ok ys (if isFixedNumber a then entryAt (length ys) (s .first + 1) else finishedWith (Refused (NoFixedNumber (s .first))))
+        → Ok ys (if isSoundNumber a then entryAt (length ys) (s .first + 1) else finishedWith (Refused (NoFixedNumber (s .first))))
     in-entries p =
-        if-elim (Ok ys) (isFixedNumber a) _ _
+        if-elim (Ok ys) (isSoundNumber a) _ _
         (λ t. entry-ok ys (at .few) (s .first + 1) (one-more-fixed ys (s .first) before t) (sym (step ∙ chosen t) ∙ whole))
         (λ t. finished-ok ys (Refused (NoFixedNumber (s .first))) (sym (step ∙ chosen t) ∙ whole))
       where
         before : FixedBefore ys (s .first)
         before = subst (λ (x : Bool). FixedBefore ys (testedTo ys x (s .first))) p (at .fixed)
 
-        step : entriesLeft ys (s .first) ≡ (if isFixedNumber a then entriesLeft ys (s .first + 1) else refusal 27 (s .first))
+        step : entriesLeft ys (s .first) ≡ (if isSoundNumber a then entriesLeft ys (s .first + 1) else refusal 27 (s .first))
         step = entry-step ys (s .first) (at .first-in)
 
-        chosen : {t : Bool} → isFixedNumber a ≡ t
-            → (if isFixedNumber a then entriesLeft ys (s .first + 1) else refusal 27 (s .first)) ≡ (if t then entriesLeft ys (s .first + 1) else refusal 27 (s .first))
+        chosen : {t : Bool} → isSoundNumber a ≡ t
+            → (if isSoundNumber a then entriesLeft ys (s .first + 1) else refusal 27 (s .first)) ≡ (if t then entriesLeft ys (s .first + 1) else refusal 27 (s .first))
         chosen t = ap (λ (x : Bool). if x then entriesLeft ys (s .first + 1) else refusal 27 (s .first)) t
 
         whole : entriesLeft ys (s .first) ≡ overlapOf (given ys)
@@ -330,8 +330,8 @@ module _ (n : ℕ) (s : Search) (a b : Channel) (few : n ≤ 256) (second : s .s
       next : s .first + 1 + 1 < n → 1 + (256 - (s .first + 1)) * 256 + (256 - (s .first + 1 + 1)) < 1 + (256 - s .first) * 256 + (256 - s .second)
       next h = omega arith
 
-  entries-fall : toGo (if isFixedNumber a then entryAt n (s .first + 1) else finishedWith (Refused (NoFixedNumber (s .first)))) < 70000 + (256 - s .first)
-  entries-fall = if-elim (λ r. toGo r < 70000 + (256 - s .first)) (isFixedNumber a) _ _ (λ _. entry-falls n (s .first) few) (λ _. some)
+  entries-fall : toGo (if isSoundNumber a then entryAt n (s .first + 1) else finishedWith (Refused (NoFixedNumber (s .first)))) < 70000 + (256 - s .first)
+  entries-fall = if-elim (λ r. toGo r < 70000 + (256 - s .first)) (isSoundNumber a) _ _ (λ _. entry-falls n (s .first) few) (λ _. some)
     where
       some : 0 < 70000 + (256 - s .first)
       some = omega arith
@@ -340,7 +340,7 @@ module _ (n : ℕ) (s : Search) (a b : Channel) (few : n ≤ 256) (second : s .s
   falls m in-order = rw m (go (s .«in_pairs») refl)
     where
       go : (p : Bool) → s .«in_pairs» ≡ p
-          → toGo (if p then (if shareABit a b then finishedWith (Pair (s .first) (s .second)) else pairAt n (s .first) (s .second + 1)) else (if isFixedNumber a then entryAt n (s .first + 1) else finishedWith (Refused (NoFixedNumber (s .first)))))
+          → toGo (if p then (if shareABit a b then finishedWith (Pair (s .first) (s .second)) else pairAt n (s .first) (s .second + 1)) else (if isSoundNumber a then entryAt n (s .first + 1) else finishedWith (Refused (NoFixedNumber (s .first)))))
           < (if p then 1 + (256 - s .first) * 256 + (256 - s .second) else 70000 + (256 - s .first))
       go true e = pairs-fall (in-order e)
       go false e = entries-fall

@@ -6,8 +6,8 @@ use lib.Dec.{ltb}
 use Rattle.definitions.specs.Reply.{Reply, answer, if_then_else_}
 use Rattle.definitions.specs.Bytes.{Order, bytesFor}
 use Rattle.definitions.specs.DataType.{unsignedInteger, orderOf}
-use Rattle.definitions.specs.Channel.{Channel}
-use Rattle.definitions.specs.Overlap.{bitPlace, shareABit, isFixedNumber, Overlap, pair, none, channelLimit}
+use Rattle.definitions.specs.Channel.{Channel, bitPlace, isSoundNumber}
+use Rattle.definitions.specs.Overlap.{shareABit, Overlap, pair, none, channelLimit}
 use Rattle.definitions.proofs.Shared.{Within}
 use Rattle.refusals.specs.Meaning.{refused}
 use Rattle.refusals.specs.declared.Refusal.the-variants.{TooManyChannels, NoFixedNumber}
@@ -85,11 +85,11 @@ abbrev pub stepOf : ℕ → Search → Channel → Channel → Search
 stepOf n s a b =
     if s .«in_pairs» then
     (if shareABit a b then finishedWith (Pair (s .first) (s .second)) else pairAt n (s .first) (s .second + 1))
-    else (if isFixedNumber a then entryAt n (s .first + 1) else finishedWith (Refused (NoFixedNumber (s .first))))
+    else (if isSoundNumber a then entryAt n (s .first + 1) else finishedWith (Refused (NoFixedNumber (s .first))))
 
 -- what a step asks: places in a list that is not too long, and fixed numbers where they are compared
 pub record Ready (s : Search) (a b : Channel) : Type 0 where
   pub first-low : s .first < channelLimit
   pub second-low : s .second < channelLimit
-  pub first-fixed : s .«in_pairs» ≡ true → isFixedNumber a ≡ true
-  pub second-fixed : s .«in_pairs» ≡ true → isFixedNumber b ≡ true
+  pub first-fixed : s .«in_pairs» ≡ true → isSoundNumber a ≡ true
+  pub second-fixed : s .«in_pairs» ≡ true → isSoundNumber b ≡ true

@@ -1,16 +1,15 @@
 // Which entries of a list can be compared.
 ghost use mathlib.Core.Path.{_≡_};
-ghost use Rattle.definitions.specs.Overlap.{isFixedNumber};
+ghost use Rattle.definitions.specs.Channel.{isSoundNumber};
 ghost use Rattle.fields.specs.Meaning.{channelMeant};
 use fields::Channel;
 use fields::Form;
 use fields::form_of;
-use fields::is_no_float_width;
-use fields::is_over_a_word;
+use fields::is_well_described;
 
-// A number in the record itself that every record decodes which is long enough
-pub(crate) fn is_fixed_number(channel: Channel) -> bool
-    ensures { λ r. ⌜ r ≡ isFixedNumber (channelMeant channel) ⌝ }
+// A number in the record itself that has a value in every record which is long enough
+pub(crate) fn is_sound_number(channel: Channel) -> bool
+    ensures { λ r. ⌜ r ≡ isSoundNumber (channelMeant channel) ⌝ }
 {
     let data_type = channel.data_type;
     let Form::Number(number, _) = form_of(data_type) else {
@@ -19,14 +18,5 @@ pub(crate) fn is_fixed_number(channel: Channel) -> bool
     if channel.is_variable_length() {
         return false;
     }
-    if channel.bit_count == 0 {
-        return false;
-    }
-    if 7 < channel.bit_offset {
-        return false;
-    }
-    if is_over_a_word(number, channel.bit_count) {
-        return false;
-    }
-    !is_no_float_width(number, channel.bit_count)
+    is_well_described(number, channel)
 }

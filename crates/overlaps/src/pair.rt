@@ -1,7 +1,8 @@
 // Whether two fields share a bit of the record.
 ghost use mathlib.Core.Path.{_≡_};
 ghost use mathlib.Core.Bool.{true};
-ghost use Rattle.definitions.specs.Overlap.{isFixedNumber, shareABit};
+ghost use Rattle.definitions.specs.Channel.{isSoundNumber};
+ghost use Rattle.definitions.specs.Overlap.{shareABit};
 ghost use Rattle.fields.specs.Meaning.{channelMeant};
 ghost use Rattle.overlaps.specs.Meaning.{fieldMeant};
 use crate::place::FieldPlace;
@@ -29,7 +30,7 @@ fn fields_share_a_bit(x: FieldPlace, y: FieldPlace) -> bool
 }
 
 pub(crate) fn share_a_bit(a: Channel, b: Channel) -> bool
-    requires { ⌜ (isFixedNumber (channelMeant a) ≡ true) × (isFixedNumber (channelMeant b) ≡ true) ⌝ }
+    requires { ⌜ (isSoundNumber (channelMeant a) ≡ true) × (isSoundNumber (channelMeant b) ≡ true) ⌝ }
     ensures { λ r. ⌜ r ≡ shareABit (channelMeant a) (channelMeant b) ⌝ }
 {
     fields_share_a_bit(field_place(a), field_place(b))

@@ -3,7 +3,7 @@ ghost use mathlib.Core.Path.{_≡_};
 ghost use mathlib.Core.Bool.{true};
 ghost use Prim.Native.Nat.{_+_};
 ghost use Rattle.definitions.specs.Bytes.{bytesFor};
-ghost use Rattle.definitions.specs.Overlap.{isFixedNumber};
+ghost use Rattle.definitions.specs.Channel.{isSoundNumber};
 ghost use Rattle.fields.specs.Form.{bigForm};
 ghost use Rattle.fields.specs.Meaning.{channelMeant};
 ghost use Rattle.overlaps.specs.Meaning.{fieldMeant, bare};
@@ -30,7 +30,7 @@ fn is_big_endian(form: Form) -> bool
 }
 
 pub(crate) fn field_place(channel: Channel) -> FieldPlace
-    requires { ⌜ isFixedNumber (channelMeant channel) ≡ true ⌝ }
+    requires { ⌜ isSoundNumber (channelMeant channel) ≡ true ⌝ }
     ensures { λ r. ⌜ fieldMeant r ≡ bare (channelMeant channel) ⌝ }
 {
     let data_type = channel.data_type;

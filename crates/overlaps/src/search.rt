@@ -4,7 +4,7 @@ ghost use Prim.Native.Nat.{_<_};
 ghost use Rattle.fields.specs.Meaning.{channelMeant};
 ghost use Rattle.overlaps.specs.Meaning.{Ready, finishedWith, standing, pairAt, entryAt, beginOf, stepOf};
 use crate::answer::OverlapRead;
-use crate::entry::is_fixed_number;
+use crate::entry::is_sound_number;
 use crate::pair::share_a_bit;
 use fields::Channel;
 use refusals::Refusal;
@@ -93,7 +93,7 @@ pub fn search_on(count: usize, search: Search, a: Channel, b: Channel) -> Search
         }
         return pair_at(count, first, second + 1);
     }
-    if is_fixed_number(a) {
+    if is_sound_number(a) {
         return entry_at(count, first + 1);
     }
     finished(OverlapRead::Refused(Refusal::NoFixedNumber(first as u64)))

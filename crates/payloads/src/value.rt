@@ -1,7 +1,7 @@
 // The value of a payload, with the validity that its record tells.
 ghost use mathlib.Core.Path.{_≡_};
 ghost use Rattle.definitions.specs.Payload.{payloadValueOf, payloadFetched};
-ghost use Rattle.fields.specs.Meaning.{channelMeant};
+ghost use Rattle.fields.specs.Meaning.{channelMeant, groupMeant};
 ghost use Rattle.payloads.specs.Meaning.{payloadReply, payloadFetchedBy};
 use crate::payload::PayloadStored;
 use crate::payload::store_payload;
@@ -9,6 +9,7 @@ use crate::position::holds_position;
 use chain::FileAddress;
 use decoder::Channel;
 use decoder::DecodedValue;
+use decoder::Group;
 use decoder::ValueRead;
 use decoder::any_value;
 use decoder::check_value_validity;
@@ -30,20 +31,14 @@ pub enum PayloadRead {
 }
 
 // The value from the payload's bytes alone, and the validity from those of the record
-fn payload_value(
-    record: &[u8],
-    payload: &[u8],
-    record_id_size: usize,
-    data_bytes: u32,
-    channel: Channel,
-) -> PayloadRead
-    ensures { λ r. ⌜ payloadReply r ≡ payloadValueOf (now («record» .entry)) «record_id_size» «data_bytes» (channelMeant channel) (now (payload .entry)) ⌝ }
+fn payload_value(record: &[u8], payload: &[u8], group: Group, channel: Channel) -> PayloadRead
+    ensures { λ r. ⌜ payloadReply r ≡ payloadValueOf (now («record» .entry)) (groupMeant group) (channelMeant channel) (now (payload .entry)) ⌝ }
 {
-    let read = any_value(payload, record_id_size, channel);
+    let read = any_value(payload, group.record_id_size, channel);
     let ValueRead::Value(value) = read else {
         return PayloadRead::Refused(read.refusal());
     };
-    let is_valid = check_value_validity(record, record_id_size, data_bytes, channel);
+    let is_valid = check_value_validity(record, group, channel);
     PayloadRead::Value(DecodedPayload {
         value,
         is_valid,
@@ -57,13 +52,12 @@ pub fn read_payload(
     start: FileAddress,
     number: u64,
     record_size: u64,
-    record_id_size: usize,
-    data_bytes: u32,
+    group: Group,
     channel: Channel,
     record: &mut [u8],
     payload: &mut [u8],
 ) -> PayloadRead
-    ensures { λ r. ⌜ payloadFetchedBy r (now («record» .exit)) (now (payload .exit)) ≡ payloadFetched (now (file .entry)) (start .0) number «record_size» «record_id_size» «data_bytes» (channelMeant channel) (now («record» .entry)) (now (payload .entry)) ⌝ }
+    ensures { λ r. ⌜ payloadFetchedBy r (now («record» .exit)) (now (payload .exit)) ≡ payloadFetched (now (file .entry)) (start .0) number «record_size» (groupMeant group) (channelMeant channel) (now («record» .entry)) (now (payload .entry)) ⌝ }
 {
     if !holds_position(channel) {
         return PayloadRead::Refused(Refusal::NoPosition);
@@ -73,17 +67,17 @@ pub fn read_payload(
         return PayloadRead::Refused(fetched.refusal());
     };
     let size = record_size as usize;
-    let stored = store_payload(file, &record[..size], record_id_size, channel, payload);
+    let stored = store_payload(
+        file,
+        &record[..size],
+        group.record_id_size,
+        channel,
+        payload,
+    );
     let PayloadStored::Bytes(length) = stored else {
         return PayloadRead::Refused(stored.refusal());
     };
-    payload_value(
-        &record[..size],
-        &payload[..length],
-        record_id_size,
-        data_bytes,
-        channel,
-    )
+    payload_value(&record[..size], &payload[..length], group, channel)
 }
 
 impl PayloadRead {

@@ -8,7 +8,7 @@ use lib.ListN.{length, take}
 use lib.Dec.{ltb, eqb}
 use borrow.Author.Tests.{ltb-false}
 use Rattle.definitions.specs.Reply.{Reply, Outcome, answer, refusal, if_then_else_}
-use Rattle.definitions.specs.Channel.{Channel, ValidValue, validValueOf}
+use Rattle.definitions.specs.Channel.{Channel, Group, ValidValue, validValueOf}
 use Rattle.definitions.specs.Chain.{fileLimit, recordLimit, badSize, fetched, fieldOf, valueFetched}
 use Rattle.definitions.proofs.Replies.{not-answered}
 use Rattle.refusals.specs.Meaning.{refused}
@@ -44,20 +44,20 @@ module _ (f : List ℕ) (start k size : ℕ) (out : List ℕ) where
   pub short : {r : RecordRead} {left : List ℕ} → fetchedBy r left ≡ fetched f start k size out → r ≡ Record → length f ≤ fileLimit
   short e is = tested (reply-is e is) .1
 
-  module _ (idSize dataBytes : ℕ) (c : Channel) {r : RecordRead} {left : List ℕ} (e : fetchedBy r left ≡ fetched f start k size out) where
+  module _ (g : Group) (c : Channel) {r : RecordRead} {left : List ℕ} (e : fetchedBy r left ≡ fetched f start k size out) where
     -- a refusal of the record is the reply, and the buffer is as the fetch left it
     pub not-fetched : {x : Refusal} → r ≡ Refused x
-        → record { reply = refused x; buffer = left } ≡ valueFetched f start k size idSize dataBytes c out
+        → record { reply = refused x; buffer = left } ≡ valueFetched f start k size g c out
     unfolding valueFetched
     not-fetched is =
-        ap (λ (x : RecordRead). fieldOf size idSize dataBytes c (fetchedBy x left)) (sym is)
-        ∙ ap (fieldOf size idSize dataBytes c) e
+        ap (λ (x : RecordRead). fieldOf size g c (fetchedBy x left)) (sym is)
+        ∙ ap (fieldOf size g c) e
 
     -- the field is read from the record alone
-    pub fetched-then : {v : Reply ValidValue} → r ≡ Record → v ≡ validValueOf (take size left) idSize dataBytes c
-        → record { reply = v; buffer = left } ≡ valueFetched f start k size idSize dataBytes c out
+    pub fetched-then : {v : Reply ValidValue} → r ≡ Record → v ≡ validValueOf (take size left) g c
+        → record { reply = v; buffer = left } ≡ valueFetched f start k size g c out
     unfolding valueFetched
     fetched-then is ev =
         ap (λ (p : Reply ValidValue). record { reply = p; buffer = left }) ev
-        ∙ ap (λ (x : RecordRead). fieldOf size idSize dataBytes c (fetchedBy x left)) (sym is)
-        ∙ ap (fieldOf size idSize dataBytes c) e
+        ∙ ap (λ (x : RecordRead). fieldOf size g c (fetchedBy x left)) (sym is)
+        ∙ ap (fieldOf size g c) e

@@ -72,7 +72,12 @@ pub(crate) fn same_refusal(at: usize, out: &[u8; 512], count: u64) -> usize {
     next_if(count == 0 && holds_only(out, b""), at)
 }
 
-pub(crate) fn same_written(line: &[u8], at: usize, out: &[u8; 512], given: Mf4WrittenReply) -> usize {
+pub(crate) fn same_written(
+    line: &[u8],
+    at: usize,
+    out: &[u8; 512],
+    given: Mf4WrittenReply,
+) -> usize {
     let next = same_reply(line, at, given.reply, given.told);
     if given.reply == 0 {
         same_output(line, next, out, given.count)

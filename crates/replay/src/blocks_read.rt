@@ -15,20 +15,20 @@ pub(crate) fn same_header(line: &[u8], at: usize, given: Mf4Header) -> usize {
     let next = same_number(line, at, given.id as u64);
     let next = same_number(line, next, given.reserved0 as u64);
     let next = same_number(line, next, given.block_len);
-    same_number(line, next, given.links_nr)
+    same_number(line, next, given.link_count)
 }
 
 fn same_list(line: &[u8], at: usize, given: Mf4ListReply) -> usize {
     let header = given.header;
     let next = same_header(line, at, header);
-    let next = same_number(line, next, given.next);
-    let next = same_number(line, next, given.links_at);
-    let next = same_number(line, next, given.links);
+    let next = same_number(line, next, given.next_addr);
+    let next = same_number(line, next, given.data_links_at);
+    let next = same_number(line, next, given.data_link_count);
     let next = same_number(line, next, given.flags as u64);
     let next = same_number(line, next, given.reserved1 as u64);
-    let next = same_number(line, next, given.data_block_nr as u64);
+    let next = same_number(line, next, given.data_block_count as u64);
     let next = same_number(line, next, given.rest_at);
-    same_number(line, next, given.rest)
+    same_number(line, next, given.rest_count)
 }
 
 fn read_header(line: &[u8], at: usize, block: &[u8]) -> usize {

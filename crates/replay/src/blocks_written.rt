@@ -20,16 +20,16 @@ pub(crate) fn header_words(line: &[u8], at: usize) -> HeaderWords {
     let id = small(line, at);
     let reserved0 = small(line, id.next);
     let block_len = number(line, reserved0.next);
-    let links_nr = number(line, block_len.next);
+    let link_count = number(line, block_len.next);
     let header = Mf4Header {
         id: id.value,
         reserved0: reserved0.value,
         block_len: block_len.value,
-        links_nr: links_nr.value,
+        link_count: link_count.value,
     };
     HeaderWords {
         header,
-        next: links_nr.next,
+        next: link_count.next,
     }
 }
 

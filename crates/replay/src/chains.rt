@@ -63,6 +63,7 @@ pub(crate) fn replay_record_value(line: &[u8], at: usize) -> usize {
     let mut out = [FILL; 512];
     let asked = fetch_words(line, at, &mut file, &out);
     let field = field_words(line, asked.next);
+    let group = field.group;
     let channel = field.channel;
     let file_count = asked.file_count;
     let room = asked.room;
@@ -71,8 +72,7 @@ pub(crate) fn replay_record_value(line: &[u8], at: usize) -> usize {
         asked.start,
         asked.number,
         asked.size,
-        field.id_size,
-        field.data_bytes,
+        group,
         channel,
         &mut out[..room],
     );

@@ -27,7 +27,7 @@ fn same_channel(line: &[u8], at: usize, given: Mf4Channel) -> usize {
     let next = same_number(line, next, given.bit_count as u64);
     let next = same_number(line, next, given.flags as u64);
     let next = same_number(line, next, given.pos_invalidation_bit as u64);
-    same_number(line, next, given.data)
+    same_number(line, next, given.data_addr)
 }
 
 fn same_links(line: &[u8], at: usize, given: Mf4ChannelBlock) -> usize {
@@ -39,7 +39,7 @@ fn same_links(line: &[u8], at: usize, given: Mf4ChannelBlock) -> usize {
     let next = same_number(line, next, given.unit_addr);
     let next = same_number(line, next, given.comment_addr);
     let next = same_number(line, next, given.more_links_at);
-    same_number(line, next, given.more_links)
+    same_number(line, next, given.more_link_count)
 }
 
 // Handed over one by one, since a search through all of the block's fields for each cast does not end
@@ -49,12 +49,12 @@ fn same_small(
     sync_type: u8,
     precision: u8,
     reserved1: u8,
-    attachment_nr: u16,
+    attachment_count: u16,
 ) -> usize {
     let next = same_number(line, at, sync_type as u64);
     let next = same_number(line, next, precision as u64);
     let next = same_number(line, next, reserved1 as u64);
-    same_number(line, next, attachment_nr as u64)
+    same_number(line, next, attachment_count as u64)
 }
 
 fn same_limits(line: &[u8], at: usize, given: Mf4ChannelBlock) -> usize {
@@ -78,7 +78,7 @@ fn same_block(line: &[u8], at: usize, given: Mf4ChannelBlock) -> usize {
         given.sync_type,
         given.precision,
         given.reserved1,
-        given.attachment_nr,
+        given.attachment_count,
     );
     same_limits(line, next, given)
 }
@@ -112,7 +112,7 @@ struct LinkWords {
     unit_addr: u64,
     comment_addr: u64,
     more_links_at: u64,
-    more_links: u64,
+    more_link_count: u64,
     next: usize,
 }
 
@@ -125,7 +125,7 @@ fn link_words(line: &[u8], at: usize) -> LinkWords {
     let unit_addr = number(line, conversion_addr.next);
     let comment_addr = number(line, unit_addr.next);
     let more_links_at = number(line, comment_addr.next);
-    let more_links = number(line, more_links_at.next);
+    let more_link_count = number(line, more_links_at.next);
     LinkWords {
         next_ch_addr: next_ch_addr.value,
         component_addr: component_addr.value,
@@ -135,8 +135,8 @@ fn link_words(line: &[u8], at: usize) -> LinkWords {
         unit_addr: unit_addr.value,
         comment_addr: comment_addr.value,
         more_links_at: more_links_at.value,
-        more_links: more_links.value,
-        next: more_links.next,
+        more_link_count: more_link_count.value,
+        next: more_link_count.next,
     }
 }
 
@@ -182,8 +182,8 @@ fn block_words(line: &[u8], at: usize) -> BlockWords {
     let sync_type = byte(line, channel_read.next);
     let precision = byte(line, sync_type.next);
     let reserved1 = byte(line, precision.next);
-    let attachment_nr = short(line, reserved1.next);
-    let limits = limit_words(line, attachment_nr.next);
+    let attachment_count = short(line, reserved1.next);
+    let limits = limit_words(line, attachment_count.next);
     let block = Mf4ChannelBlock {
         header,
         next_ch_addr: links.next_ch_addr,
@@ -194,12 +194,12 @@ fn block_words(line: &[u8], at: usize) -> BlockWords {
         unit_addr: links.unit_addr,
         comment_addr: links.comment_addr,
         more_links_at: links.more_links_at,
-        more_links: links.more_links,
+        more_link_count: links.more_link_count,
         channel,
         sync_type: sync_type.value,
         precision: precision.value,
         reserved1: reserved1.value,
-        attachment_nr: attachment_nr.value,
+        attachment_count: attachment_count.value,
         min_raw_value: limits.min_raw_value,
         max_raw_value: limits.max_raw_value,
         lower_limit: limits.lower_limit,

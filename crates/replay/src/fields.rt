@@ -13,6 +13,7 @@ use crate::words::number;
 use crate::words::sign;
 use crate::words::small;
 use mf4::Mf4Channel;
+use mf4::Mf4Group;
 use mf4::Mf4ValidValueReply;
 use mf4::mf4_check_validity;
 use mf4::mf4_decode_double_bits;
@@ -21,8 +22,7 @@ use mf4::mf4_decode_value;
 
 // A field's words behind its record; `next` is where the answer begins
 pub(crate) struct FieldWords {
-    pub id_size: u64,
-    pub data_bytes: u32,
+    pub group: Mf4Group,
     pub channel: Mf4Channel,
     pub next: usize,
 }
@@ -49,7 +49,7 @@ pub(crate) fn channel_words(line: &[u8], at: usize) -> ChannelWords {
         bit_count: bit_count.value,
         flags: flags.value,
         pos_invalidation_bit: pos_invalidation_bit.value,
-        data: data.value,
+        data_addr: data.value,
     };
     ChannelWords {
         channel,
@@ -61,10 +61,13 @@ pub(crate) fn field_words(line: &[u8], at: usize) -> FieldWords {
     let id_size = number(line, at);
     let data_bytes = small(line, id_size.next);
     let words = channel_words(line, data_bytes.next);
+    let group = Mf4Group {
+        record_id_size: id_size.value,
+        data_bytes: data_bytes.value,
+    };
     let channel = words.channel;
     FieldWords {
-        id_size: id_size.value,
-        data_bytes: data_bytes.value,
+        group,
         channel,
         next: sign(line, words.next, b'='),
     }
@@ -95,21 +98,13 @@ pub(crate) fn same_valid_value(line: &[u8], at: usize, given: Mf4ValidValueReply
 
 fn same_answer(line: &[u8], kind: usize, record: &[u8], asked: FieldWords) -> usize {
     let at = asked.next;
-    let id_size = asked.id_size;
-    let data_bytes = asked.data_bytes;
+    let group = asked.group;
+    let id_size = group.record_id_size;
     let channel = asked.channel;
     match kind {
         VALUE => same_decoded(line, at, record, id_size, channel),
-        VALIDITY => same_number(
-            line,
-            at,
-            mf4_check_validity(record, id_size, data_bytes, channel) as u64,
-        ),
-        BOTH => same_valid_value(
-            line,
-            at,
-            mf4_decode_valid_value(record, id_size, data_bytes, channel),
-        ),
+        VALIDITY => same_number(line, at, mf4_check_validity(record, group, channel) as u64),
+        BOTH => same_valid_value(line, at, mf4_decode_valid_value(record, group, channel)),
         _ => same_number(line, at, mf4_decode_double_bits(record, id_size, channel)),
     }
 }

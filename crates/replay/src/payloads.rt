@@ -33,6 +33,7 @@ pub(crate) fn replay_record_payload(line: &[u8], at: usize) -> usize {
     let asked = fetch_words(line, at, &mut file, &out);
     let lent = room(line, asked.next, &kept);
     let field = field_words(line, lent.next);
+    let group = field.group;
     let channel = field.channel;
     let file_count = asked.file_count;
     let record_room = asked.room;
@@ -42,8 +43,7 @@ pub(crate) fn replay_record_payload(line: &[u8], at: usize) -> usize {
         asked.start,
         asked.number,
         asked.size,
-        field.id_size,
-        field.data_bytes,
+        group,
         channel,
         &mut out[..record_room],
         &mut kept[..payload_room],

@@ -26,9 +26,9 @@ module _ {R A C : Type 0} (toC : Reply A → C) (meant : R → Reply A) where
   handed-back-given o read er eo ex = handed-back read er (eo ∙ ap o ex)
 
   -- of a call that was lent two buffers
-  pub handed-back-both : {X : Type 0} (o : X → Outcomes A) {x y : X} (read : R) {r : C} {a b : List ℕ} → r ≡ toC (meant read)
-      → record { reply = meant read; recordBuffer = a; payloadBuffer = b } ≡ o x → x ≡ y → returnedBoth r a b ≡ returnedBothBy toC (o y)
-  handed-back-both o read {a = a} {b = b} er eo ex = ap (λ (z : C). returnedBoth z a b) er ∙ ap (returnedBothBy toC) (eo ∙ ap o ex)
+  pub handed-back-both : (read : R) {r : C} {a b : List ℕ} {o : Outcomes A} → r ≡ toC (meant read)
+      → record { reply = meant read; recordBuffer = a; payloadBuffer = b } ≡ o → returnedBoth r a b ≡ returnedBothBy toC o
+  handed-back-both read {a = a} {b = b} er eo = ap (λ (z : C). returnedBoth z a b) er ∙ ap (returnedBothBy toC) eo
 
 -- a refusal by its number and what it tells
 pub by-numbers : {A C : Type 0} (toC : Reply A → C) (q : Refusal) {n t : ℕ} → n ≡ refusalNumber q → t ≡ toldOf q → toC (refusal n t) ≡ toC (refused q)

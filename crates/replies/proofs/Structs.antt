@@ -6,6 +6,7 @@ use Rattle.replies.specs.declared.header.Mf4HeaderReply.{Mf4HeaderReply}
 use Rattle.replies.specs.declared.list.Mf4ListReply.{Mf4ListReply}
 use Rattle.replies.specs.declared.texts.Mf4TextReply.{Mf4TextReply}
 use Rattle.replies.specs.declared.channel.Mf4Channel.{Mf4Channel}
+use Rattle.replies.specs.declared.group.Mf4Group.{Mf4Group}
 use Rattle.replies.specs.declared.channel_block.Mf4ChannelBlock.{Mf4ChannelBlock}
 use Rattle.replies.specs.declared.channel_block.Mf4ChannelReply.{Mf4ChannelReply}
 use Rattle.replies.specs.declared.values.Mf4ValueReply.{Mf4ValueReply}
@@ -21,6 +22,7 @@ use Rattle.replies.proofs.header.Mf4HeaderReply as mf4-header-reply
 use Rattle.replies.proofs.list.Mf4ListReply as mf4-list-reply
 use Rattle.replies.proofs.texts.Mf4TextReply as mf4-text-reply
 use Rattle.replies.proofs.channel.Mf4Channel as mf4-channel
+use Rattle.replies.proofs.group.Mf4Group as mf4-group
 use Rattle.replies.proofs.channel_block.Mf4ChannelBlock as mf4-channel-block
 use Rattle.replies.proofs.channel_block.Mf4ChannelReply as mf4-channel-reply
 use Rattle.replies.proofs.values.Mf4ValueReply as mf4-value-reply
@@ -48,6 +50,9 @@ mf4-text-reply-fields s = refl
 
 pub mf4-channel-fields : (s : Mf4Channel) → mf4-channel.struct .as-values s ≡ (s .«data_type», (s .«channel_type», (s .«bit_offset», (s .«byte_offset», (s .«bit_count», (s .flags, (s .«pos_invalidation_bit», (s .«data_addr», tt))))))))
 mf4-channel-fields s = refl
+
+pub mf4-group-fields : (s : Mf4Group) → mf4-group.struct .as-values s ≡ (s .«record_id_size», (s .«data_bytes», tt))
+mf4-group-fields s = refl
 
 pub mf4-channel-block-fields : (s : Mf4ChannelBlock) → mf4-channel-block.struct .as-values s ≡ (s .header, (s .«next_ch_addr», (s .«component_addr», (s .«name_addr», (s .«source_addr», (s .«conversion_addr», (s .«unit_addr», (s .«comment_addr», (s .«more_links_at», (s .«more_link_count», (s .channel, (s .«sync_type», (s .precision, (s .reserved1, (s .«attachment_count», (s .«min_raw_value», (s .«max_raw_value», (s .«lower_limit», (s .«upper_limit», (s .«lower_ext_limit», (s .«upper_ext_limit», tt)))))))))))))))))))))
 mf4-channel-block-fields s = refl

@@ -5,9 +5,10 @@ use lib.IntN.{ℤ, pos, negsuc}
 use Rattle.definitions.specs.Reply.{Reply, answer, refusal}
 use Rattle.definitions.specs.DataType.{typeOf}
 use Rattle.definitions.specs.Payload.{PayloadValue, Outcomes}
-use Rattle.definitions.specs.Channel.{Channel, Value, ValidValue, unsigned, signed, double, text, bytes, sample, stream, unknownValue}
+use Rattle.definitions.specs.Channel.{Channel, Group, Value, ValidValue, unsigned, signed, double, text, bytes, sample, stream, unknownValue}
 use Rattle.replies.specs.Replies.{flagC}
 use Rattle.replies.specs.declared.channel.Mf4Channel.{Mf4Channel}
+use Rattle.replies.specs.declared.group.Mf4Group.{Mf4Group}
 use Rattle.replies.specs.declared.values.Shown.{Shown}
 use Rattle.replies.specs.declared.values.Mf4ValueReply.{Mf4ValueReply}
 use Rattle.replies.specs.declared.valid_values.Mf4ValidValueReply.{Mf4ValidValueReply}
@@ -27,6 +28,10 @@ channelGiven c = record {
   invalidationBit = c .«pos_invalidation_bit»;
   dataLink = c .«data_addr»;
 }
+
+-- the group that C gives
+abbrev pub groupGiven : Mf4Group → Group
+groupGiven g = record { idSize = g .«record_id_size»; dataBytes = g .«data_bytes» }
 
 -- an integer as a word of 64 bits, in two's complement
 abbrev pub wordOf : ℤ → ℕ

@@ -1,4 +1,4 @@
 -- Fields that share a bit.
 pub mod Overlaps
 pub mod OverlapsToC
-pub mod FixedNumbers
+pub mod SoundNumbers

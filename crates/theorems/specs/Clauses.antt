@@ -15,6 +15,7 @@ use Rattle.blocks.specs.declared.written.Written.{Written}
 use Rattle.text.specs.declared.encoding.Encoding.{Encoding}
 use Rattle.text.specs.declared.answer.TextWrite.{TextWrite}
 use Rattle.fields.specs.declared.channel.Channel.{Channel}
+use Rattle.fields.specs.declared.group.Group.{Group}
 use Rattle.fields.specs.declared.value.ValueRead.{ValueRead}
 use Rattle.fields.specs.declared.value.ValidValueRead.{ValidValueRead}
 use Rattle.encoder.specs.declared.number.NumberGiven.{NumberGiven}
@@ -114,13 +115,13 @@ abbrev pub ReadsValue : Lfts 1 → Slice → ℕ → Channel → ValueRead → T
 ReadsValue κs bytes idSize channel y =
     Allows 1 value-read-kinds.ps value-read-kinds.r value-read.Learnt κs (bytes, (idSize, (channel, tt))) y (tt, (tt, (tt, tt)))
 
-abbrev pub ReadsValidValue : Lfts 1 → Slice → ℕ → ℕ → Channel → ValidValueRead → Type 0
-ReadsValidValue κs bytes idSize dataBytes channel y =
-    Allows 1 valid-value-read-kinds.ps valid-value-read-kinds.r valid-value-read.Learnt κs (bytes, (idSize, (dataBytes, (channel, tt)))) y (tt, (tt, (tt, (tt, tt))))
+abbrev pub ReadsValidValue : Lfts 1 → Slice → Group → Channel → ValidValueRead → Type 0
+ReadsValidValue κs bytes group channel y =
+    Allows 1 valid-value-read-kinds.ps valid-value-read-kinds.r valid-value-read.Learnt κs (bytes, (group, (channel, tt))) y (tt, (tt, (tt, tt)))
 
-abbrev pub ChecksValidity : Lfts 1 → Slice → ℕ → ℕ → Channel → Bool → Type 0
-ChecksValidity κs bytes idSize dataBytes channel y =
-    Allows 1 validity-kinds.ps validity-kinds.r validity.Learnt κs (bytes, (idSize, (dataBytes, (channel, tt)))) y (tt, (tt, (tt, (tt, tt))))
+abbrev pub ChecksValidity : Lfts 1 → Slice → Group → Channel → Bool → Type 0
+ChecksValidity κs bytes group channel y =
+    Allows 1 validity-kinds.ps validity-kinds.r validity.Learnt κs (bytes, (group, (channel, tt))) y (tt, (tt, (tt, tt)))
 
 abbrev pub ReadsDouble : Lfts 1 → Slice → ℕ → Channel → ℕ → Type 0
 ReadsDouble κs bytes idSize channel y =
@@ -147,16 +148,16 @@ ReadsRecord κs file start number size out y after =
     Allows 2 record-read-kinds.ps record-read-kinds.r record-read.Learnt κs
     (file, (start, (number, (size, (out, tt))))) y (tt, (tt, (tt, (tt, (after, tt)))))
 
-abbrev pub ReadsRecordValue : Lfts 2 → Slice → FileAddress → ℕ → ℕ → ℕ → ℕ → Channel → Slice → ValidValueRead → List ℕ → Type 0
-ReadsRecordValue κs file start number size idSize dataBytes channel out y after =
+abbrev pub ReadsRecordValue : Lfts 2 → Slice → FileAddress → ℕ → ℕ → Group → Channel → Slice → ValidValueRead → List ℕ → Type 0
+ReadsRecordValue κs file start number size group channel out y after =
     Allows 2 record-value-kinds.ps record-value-kinds.r record-value.Learnt κs
-    (file, (start, (number, (size, (idSize, (dataBytes, (channel, (out, tt)))))))) y
-    (tt, (tt, (tt, (tt, (tt, (tt, (tt, (after, tt))))))))
+    (file, (start, (number, (size, (group, (channel, (out, tt))))))) y
+    (tt, (tt, (tt, (tt, (tt, (tt, (after, tt)))))))
 
 -- ---- a payload
 
-abbrev pub ReadsPayload : Lfts 3 → Slice → FileAddress → ℕ → ℕ → ℕ → ℕ → Channel → Slice → Slice → PayloadRead → List ℕ → List ℕ → Type 0
-ReadsPayload κs file start number size idSize dataBytes channel out room y after later =
+abbrev pub ReadsPayload : Lfts 3 → Slice → FileAddress → ℕ → ℕ → Group → Channel → Slice → Slice → PayloadRead → List ℕ → List ℕ → Type 0
+ReadsPayload κs file start number size group channel out room y after later =
     Allows 3 record-payload-kinds.ps record-payload-kinds.r record-payload.Learnt κs
-    (file, (start, (number, (size, (idSize, (dataBytes, (channel, (out, (room, tt))))))))) y
-    (tt, (tt, (tt, (tt, (tt, (tt, (tt, (after, (later, tt)))))))))
+    (file, (start, (number, (size, (group, (channel, (out, (room, tt)))))))) y
+    (tt, (tt, (tt, (tt, (tt, (tt, (after, (later, tt))))))))

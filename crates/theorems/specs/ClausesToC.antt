@@ -14,6 +14,7 @@ use Rattle.replies.specs.declared.channel_block.Mf4ChannelReply.{Mf4ChannelRepl
 use Rattle.replies.specs.declared.written.Mf4WrittenReply.{Mf4WrittenReply}
 use Rattle.replies.specs.declared.texts.Mf4TextReply.{Mf4TextReply}
 use Rattle.replies.specs.declared.channel.Mf4Channel.{Mf4Channel}
+use Rattle.replies.specs.declared.group.Mf4Group.{Mf4Group}
 use Rattle.replies.specs.declared.values.Mf4ValueReply.{Mf4ValueReply}
 use Rattle.replies.specs.declared.valid_values.Mf4ValidValueReply.{Mf4ValidValueReply}
 use Rattle.replies.specs.declared.fetches.Mf4LengthReply.{Mf4LengthReply}
@@ -105,13 +106,13 @@ abbrev pub ReadsValueC : Lfts 1 → Slice → ℕ → Mf4Channel → Mf4ValueRep
 ReadsValueC κs bytes idSize channel y =
     Allows 1 decode-value-kinds.ps decode-value-kinds.r decode-value.Learnt κs (bytes, (idSize, (channel, tt))) y (tt, (tt, (tt, tt)))
 
-abbrev pub ReadsValidValueC : Lfts 1 → Slice → ℕ → ℕ → Mf4Channel → Mf4ValidValueReply → Type 0
-ReadsValidValueC κs bytes idSize dataBytes channel y =
-    Allows 1 decode-valid-value-kinds.ps decode-valid-value-kinds.r decode-valid-value.Learnt κs (bytes, (idSize, (dataBytes, (channel, tt)))) y (tt, (tt, (tt, (tt, tt))))
+abbrev pub ReadsValidValueC : Lfts 1 → Slice → Mf4Group → Mf4Channel → Mf4ValidValueReply → Type 0
+ReadsValidValueC κs bytes group channel y =
+    Allows 1 decode-valid-value-kinds.ps decode-valid-value-kinds.r decode-valid-value.Learnt κs (bytes, (group, (channel, tt))) y (tt, (tt, (tt, tt)))
 
-abbrev pub ChecksValidityC : Lfts 1 → Slice → ℕ → ℕ → Mf4Channel → ℕ → Type 0
-ChecksValidityC κs bytes idSize dataBytes channel y =
-    Allows 1 check-validity-kinds.ps check-validity-kinds.r check-validity.Learnt κs (bytes, (idSize, (dataBytes, (channel, tt)))) y (tt, (tt, (tt, (tt, tt))))
+abbrev pub ChecksValidityC : Lfts 1 → Slice → Mf4Group → Mf4Channel → ℕ → Type 0
+ChecksValidityC κs bytes group channel y =
+    Allows 1 check-validity-kinds.ps check-validity-kinds.r check-validity.Learnt κs (bytes, (group, (channel, tt))) y (tt, (tt, (tt, tt)))
 
 abbrev pub ReadsDoubleC : Lfts 1 → Slice → ℕ → Mf4Channel → ℕ → Type 0
 ReadsDoubleC κs bytes idSize channel y =
@@ -131,16 +132,16 @@ ReadsRecordC κs file start number size out y after =
     Allows 2 read-record-kinds.ps read-record-kinds.r read-record.Learnt κs
     (file, (start, (number, (size, (out, tt))))) y (tt, (tt, (tt, (tt, (after, tt)))))
 
-abbrev pub ReadsRecordValueC : Lfts 2 → Slice → ℕ → ℕ → ℕ → ℕ → ℕ → Mf4Channel → Slice → Mf4ValidValueReply → List ℕ → Type 0
-ReadsRecordValueC κs file start number size idSize dataBytes channel out y after =
+abbrev pub ReadsRecordValueC : Lfts 2 → Slice → ℕ → ℕ → ℕ → Mf4Group → Mf4Channel → Slice → Mf4ValidValueReply → List ℕ → Type 0
+ReadsRecordValueC κs file start number size group channel out y after =
     Allows 2 record-value-kinds.ps record-value-kinds.r record-value.Learnt κs
-    (file, (start, (number, (size, (idSize, (dataBytes, (channel, (out, tt)))))))) y
-    (tt, (tt, (tt, (tt, (tt, (tt, (tt, (after, tt))))))))
+    (file, (start, (number, (size, (group, (channel, (out, tt))))))) y
+    (tt, (tt, (tt, (tt, (tt, (tt, (after, tt)))))))
 
 -- ---- a payload
 
-abbrev pub ReadsPayloadC : Lfts 3 → Slice → ℕ → ℕ → ℕ → ℕ → ℕ → Mf4Channel → Slice → Slice → Mf4PayloadReply → List ℕ → List ℕ → Type 0
-ReadsPayloadC κs file start number size idSize dataBytes channel out room y after later =
+abbrev pub ReadsPayloadC : Lfts 3 → Slice → ℕ → ℕ → ℕ → Mf4Group → Mf4Channel → Slice → Slice → Mf4PayloadReply → List ℕ → List ℕ → Type 0
+ReadsPayloadC κs file start number size group channel out room y after later =
     Allows 3 record-payload-kinds.ps record-payload-kinds.r record-payload.Learnt κs
-    (file, (start, (number, (size, (idSize, (dataBytes, (channel, (out, (room, tt))))))))) y
-    (tt, (tt, (tt, (tt, (tt, (tt, (tt, (after, (later, tt)))))))))
+    (file, (start, (number, (size, (group, (channel, (out, (room, tt)))))))) y
+    (tt, (tt, (tt, (tt, (tt, (tt, (after, (later, tt))))))))

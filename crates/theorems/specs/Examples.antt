@@ -206,7 +206,7 @@ abbrev pub given : Row → Said
 given (value s c r) = aValue (valueOf s 0 c)
 given (behindId idSize s c r) = aValue (valueOf s idSize c)
 given (counter n r) = aNumber (toUnsigned 64 (ofBits binary64 (recordDouble (le 8 n) 0 (channel (unsignedInteger little) 0 64))))
-given (validity s c r) = aTest (validOf s 0 2 c)
+given (validity s c r) = aTest (validOf s (record { idSize = 0; dataBytes = 2 }) c)
 given (list s r) = aList (listOf s)
 given (block s r) = aBlock (channelBlockOf s)
 given (description b r) = aChannel (described b)
@@ -214,7 +214,7 @@ given (type n r) = aType (typeOf n)
 given (code t r) = aNumber (codeOf t)
 given (fetch f k r) = aRecord (fetched f 8 k 2 (255 ∷ 255 ∷ []))
 given (write s c v o) = aRecord (valueWritten s 0 c v)
-given (follow f c n r a b) = aPayload (payloadFetched f 8 0 9 0 8 c untouched (copies n 255))
+given (follow f c n r a b) = aPayload (payloadFetched f 8 0 9 (record { idSize = 0; dataBytes = 8 }) c untouched (copies n 255))
 
 abbrev pub stated : Row → Said
 stated (value s c r) = aValue r

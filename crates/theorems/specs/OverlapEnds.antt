@@ -6,13 +6,13 @@ use mathlib.Core.Bool.{Bool, true, false}
 use mathlib.Core.List.{List}
 use lib.ListN.{length, getD}
 use Rattle.definitions.specs.Reply.{Reply, answer, refusal}
-use Rattle.definitions.specs.Channel.{Channel}
-use Rattle.definitions.specs.Overlap.{shareABit, isFixedNumber, Overlap, pair, none, channelLimit}
+use Rattle.definitions.specs.Channel.{Channel, isSoundNumber}
+use Rattle.definitions.specs.Overlap.{shareABit, Overlap, pair, none, channelLimit}
 
 -- `other` stands past the end of a list, and is never asked
 module _ (other : Channel) (cs : List Channel) where
   abbrev pub fixedAt : ℕ → Bool
-  fixedAt i = isFixedNumber (getD cs i other)
+  fixedAt i = isSoundNumber (getD cs i other)
 
   abbrev pub shareAt : ℕ → ℕ → Bool
   shareAt i j = shareABit (getD cs i other) (getD cs j other)

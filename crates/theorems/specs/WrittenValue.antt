@@ -7,8 +7,8 @@ use Prim.Native.Nat.{ℕ, _+_, _*_, _^_, _<_}
 use lib.ListN.{length}
 use Rattle.definitions.specs.Reply.{Outcome, answer, refusal}
 use Rattle.definitions.specs.DataType.{DataType, unsignedInteger, signedInteger, float, complex, string, byteArray, mimeSample, mimeStream, canOpenDate, canOpenTime, unknown, kindOf}
-use Rattle.definitions.specs.Channel.{Channel, variableLength, isNumber, valueOf, doubleIn, recordDouble, validOf}
-use Rattle.definitions.specs.Overlap.{bitPlace, shareABit}
+use Rattle.definitions.specs.Channel.{Channel, Group, variableLength, isNumber, valueOf, doubleIn, recordDouble, validOf, bitPlace}
+use Rattle.definitions.specs.Overlap.{shareABit}
 use Rattle.definitions.specs.WrittenValue.{Given, givenUnsigned, givenSigned, givenDouble, givenOther, fieldGiven, fieldWritten}
 use Rattle.definitions.proofs.Shared.{Within}
 use Rattle.words.proofs.StoredFields.{bitThere}
@@ -95,5 +95,5 @@ pub record SameOutside (s t : List ℕ) (idSize : ℕ) (c : Channel) : Type 0 wh
   pub others : (d : Channel) → variableLength d ≡ false → isNumber (kindOf (d .dataType)) ≡ true → shareABit c d ≡ false
       → (valueOf t idSize d ≡ valueOf s idSize d) × (recordDouble t idSize d ≡ recordDouble s idSize d)
   -- and the validity of a channel, this one or another, whose invalidation bit is none of the field's
-  pub validity : (dataBytes : ℕ) (d : Channel) → ((k : ℕ) → Within c k → bitPlace c k ≡ dataBytes * 8 + d .invalidationBit → ⊥)
-      → validOf t idSize dataBytes d ≡ validOf s idSize dataBytes d
+  pub validity : (g : Group) (d : Channel) → g .idSize ≡ idSize → ((k : ℕ) → Within c k → bitPlace c k ≡ g .dataBytes * 8 + d .invalidationBit → ⊥)
+      → validOf t g d ≡ validOf s g d

@@ -15,7 +15,7 @@ use Rattle.definitions.specs.Header.{Header, headerIn, headerOf, headerBytes, h
 use Rattle.definitions.specs.DataType.{Kind, integer, floating, whole, undecoded, kindOf}
 use Rattle.definitions.specs.DataList.{Lengths, equal, variable, linkLimit, listOf, listBytes, listSize, flagsFor, restFor, unwritable, listWritten}
 use Rattle.definitions.specs.ChannelBlock.{ChannelBlock, channelBlockOf, channelBytes, channelWritten}
-use Rattle.definitions.specs.Channel.{Channel, Value, ValidValue, startOf, spanOf, valueBy, valueOf, validValueOf}
+use Rattle.definitions.specs.Channel.{Channel, Group, Value, ValidValue, startOf, spanOf, valueBy, valueOf, validValueOf}
 use Rattle.definitions.specs.Chain.{Block, idDT, fileLimit, recordLimit, joined, total, chainOf, totalOf, dataLength, badSize, recordOf, fetched, valueFetched}
 use Rattle.definitions.specs.Accepted.{Accepted}
 use Rattle.definitions.proofs.Replies.{not-answered}
@@ -187,10 +187,10 @@ module _ (s : List ℕ) (idSize : ℕ) (c : Channel) where
       same (λ r. (r .legal, r .inside)) (λ p. record { legal = p .0; inside = p .1 })
       (by-kind s (startOf idSize c) (spanOf s c) c (kindOf (c .dataType)))
 
-  pub valid-value-exactly : (dataBytes : ℕ) → Exactly (FieldStands s idSize c) (validValueOf s idSize dataBytes c)
-  unfolding validValueOf
-  valid-value-exactly dataBytes =
-      same (λ p. (p, tt)) (λ p. p .0) (going-on (valueOf s idSize c) _ value-exactly (λ v. always _))
+pub valid-value-exactly : (s : List ℕ) (g : Group) (c : Channel) → Exactly (FieldStands s (g .idSize) c) (validValueOf s g c)
+unfolding validValueOf
+valid-value-exactly s g c =
+    same (λ p. (p, tt)) (λ p. p .0) (going-on (valueOf s (g .idSize) c) _ (value-exactly s (g .idSize) c) (λ v. always _))
 
 -- ---- the joined data
 
@@ -266,22 +266,22 @@ module _ (f : List ℕ) (start k size : ℕ) (out : List ℕ) where
   fetched-record h =
       rw (size-passes size (length out) (h .some, h .small, h .room), le-ltb _ _ (h .short), accepts idDT f start (h .blocks) (h .accepted), le-ltb _ _ (h .inside))
 
-  module _ (idSize dataBytes : ℕ) (c : Channel) where
+  module _ (g : Group) (c : Channel) where
     -- and its field is read from those bytes alone
     pub value-of-record : (h : Fetchable f start k size out)
-        → valueFetched f start k size idSize dataBytes c out .reply ≡ validValueOf (span (joined f (h .blocks)) (k * size) size) idSize dataBytes c
+        → valueFetched f start k size g c out .reply ≡ validValueOf (span (joined f (h .blocks)) (k * size) size) g c
     unfolding valueFetched
     value-of-record h =
         let l : length (span (joined f (h .blocks)) (k * size) size) ≡ size = length-span (joined f (h .blocks)) (k * size) size (h .inside) in
         rw (fetched-record h, front-of _ (drop size out) size l)
 
     -- a value is answered of a record that was fetched
-    record-before : (v : ValidValue) → valueFetched f start k size idSize dataBytes c out .reply ≡ answer v → Fetchable f start k size out
+    record-before : (v : ValidValue) → valueFetched f start k size g c out .reply ≡ answer v → Fetchable f start k size out
     unfolding valueFetched
     record-before v e = let r = followed (fetched f start k size out .reply) _ v e in fetched-exactly .only (r .0) (r .1)
 
-    pub value-fetched-exactly : Exactly (ValueFetchable f start k size idSize c out) (valueFetched f start k size idSize dataBytes c out .reply)
+    pub value-fetched-exactly : Exactly (ValueFetchable f start k size (g .idSize) c out) (valueFetched f start k size g c out .reply)
     value-fetched-exactly = record {
-      answers = λ h. let v = valid-value-exactly _ idSize c dataBytes .answers (h .field) in (v .0, value-of-record (h .fetchable) ∙ v .1);
-      only = λ a e. let h = record-before a e in record { fetchable = h; field = valid-value-exactly _ idSize c dataBytes .only a (sym (value-of-record h) ∙ e) };
+      answers = λ h. let v = valid-value-exactly _ g c .answers (h .field) in (v .0, value-of-record (h .fetchable) ∙ v .1);
+      only = λ a e. let h = record-before a e in record { fetchable = h; field = valid-value-exactly _ g c .only a (sym (value-of-record h) ∙ e) };
     }

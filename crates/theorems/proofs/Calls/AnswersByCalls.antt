@@ -28,8 +28,9 @@ use Rattle.text.specs.declared.encoding.Encoding.{Encoding}
 use Rattle.text.specs.declared.answer.TextWrite.{TextWrite}
 use Rattle.text.proofs.FirstChar.{Bytes}
 use Rattle.text.proofs.Room.{room, text-room}
-use Rattle.fields.specs.Meaning.{channelMeant, valueReply, validValueReply}
+use Rattle.fields.specs.Meaning.{channelMeant, groupMeant, valueReply, validValueReply}
 use Rattle.fields.specs.declared.channel.Channel.{Channel}
+use Rattle.fields.specs.declared.group.Group.{Group}
 use Rattle.fields.specs.declared.value.ValueRead.{ValueRead}
 use Rattle.fields.specs.declared.value.ValidValueRead.{ValidValueRead}
 use Rattle.chain.specs.Meaning.{chainReply}
@@ -91,9 +92,9 @@ pub value-read-exactly : (κs : Lfts 1) (bytes : Slice) (idSize : ℕ) (channel 
     → ReadsValue κs bytes idSize channel y → Exactly (FieldStands (bytes .now) idSize (channelMeant channel)) (valueReply y)
 value-read-exactly κs bytes idSize channel y p = exactly p (value-exactly (bytes .now) idSize (channelMeant channel))
 
-pub valid-value-read-exactly : (κs : Lfts 1) (bytes : Slice) (idSize dataBytes : ℕ) (channel : Channel) (y : ValidValueRead)
-    → ReadsValidValue κs bytes idSize dataBytes channel y → Exactly (FieldStands (bytes .now) idSize (channelMeant channel)) (validValueReply y)
-valid-value-read-exactly κs bytes idSize dataBytes channel y p = exactly p (valid-value-exactly (bytes .now) idSize (channelMeant channel) dataBytes)
+pub valid-value-read-exactly : (κs : Lfts 1) (bytes : Slice) (group : Group) (channel : Channel) (y : ValidValueRead)
+    → ReadsValidValue κs bytes group channel y → Exactly (FieldStands (bytes .now) (groupMeant group .idSize) (channelMeant channel)) (validValueReply y)
+valid-value-read-exactly κs bytes group channel y p = exactly p (valid-value-exactly (bytes .now) (groupMeant group) (channelMeant channel))
 
 -- ---- a chain
 
@@ -111,8 +112,8 @@ pub record-read-exactly : (κs : Lfts 2) (file : Slice) (start : FileAddress) (n
     → ReadsRecord κs file start number size out y after → Exactly (Fetchable (file .now) (start .0) number size (out .now)) (recordReply y)
 record-read-exactly κs file start number size out y after p = exactly (of-outcome p) (fetched-exactly (file .now) (start .0) number size (out .now))
 
-pub record-value-exactly : (κs : Lfts 2) (file : Slice) (start : FileAddress) (number size idSize dataBytes : ℕ) (channel : Channel) (out : Slice) (y : ValidValueRead) (after : List ℕ)
-    → ReadsRecordValue κs file start number size idSize dataBytes channel out y after
-    → Exactly (ValueFetchable (file .now) (start .0) number size idSize (channelMeant channel) (out .now)) (validValueReply y)
-record-value-exactly κs file start number size idSize dataBytes channel out y after p =
-    exactly (of-outcome p) (value-fetched-exactly (file .now) (start .0) number size (out .now) idSize dataBytes (channelMeant channel))
+pub record-value-exactly : (κs : Lfts 2) (file : Slice) (start : FileAddress) (number size : ℕ) (group : Group) (channel : Channel) (out : Slice) (y : ValidValueRead) (after : List ℕ)
+    → ReadsRecordValue κs file start number size group channel out y after
+    → Exactly (ValueFetchable (file .now) (start .0) number size (groupMeant group .idSize) (channelMeant channel) (out .now)) (validValueReply y)
+record-value-exactly κs file start number size group channel out y after p =
+    exactly (of-outcome p) (value-fetched-exactly (file .now) (start .0) number size (out .now) (groupMeant group) (channelMeant channel))

@@ -16,7 +16,7 @@ use Rattle.definitions.proofs.Replies.{not-answered}
 use Rattle.text.proofs.FirstChar.{Bytes}
 use Rattle.text.proofs.Room.{room, text-room}
 use Rattle.replies.specs.Replies.{headerGiven}
-use Rattle.replies.specs.Values.{channelGiven}
+use Rattle.replies.specs.Values.{channelGiven, groupGiven}
 use Rattle.replies.specs.Channels.{blockGiven}
 use Rattle.replies.specs.declared.header.Mf4Header.{Mf4Header}
 use Rattle.replies.specs.declared.header.Mf4HeaderReply.{Mf4HeaderReply}
@@ -26,6 +26,7 @@ use Rattle.replies.specs.declared.channel_block.Mf4ChannelReply.{Mf4ChannelRepl
 use Rattle.replies.specs.declared.written.Mf4WrittenReply.{Mf4WrittenReply}
 use Rattle.replies.specs.declared.texts.Mf4TextReply.{Mf4TextReply}
 use Rattle.replies.specs.declared.channel.Mf4Channel.{Mf4Channel}
+use Rattle.replies.specs.declared.group.Mf4Group.{Mf4Group}
 use Rattle.replies.specs.declared.values.Mf4ValueReply.{Mf4ValueReply}
 use Rattle.replies.specs.declared.valid_values.Mf4ValidValueReply.{Mf4ValidValueReply}
 use Rattle.replies.specs.declared.fetches.Mf4LengthReply.{Mf4LengthReply}
@@ -95,10 +96,10 @@ pub value-read-zero : (κs : Lfts 1) (bytes : Slice) (idSize : ℕ) (channel : M
 value-read-zero κs bytes idSize channel y p =
     zero-exactly (y .reply) (y .told) _ _ (mf4-decode-value-told κs bytes idSize channel y p) (value-exactly (bytes .now) idSize (channelGiven channel))
 
-pub valid-value-read-zero : (κs : Lfts 1) (bytes : Slice) (idSize dataBytes : ℕ) (channel : Mf4Channel) (y : Mf4ValidValueReply)
-    → ReadsValidValueC κs bytes idSize dataBytes channel y → ExactlyZero (FieldStands (bytes .now) idSize (channelGiven channel)) (y .reply)
-valid-value-read-zero κs bytes idSize dataBytes channel y p =
-    zero-exactly (y .reply) (y .told) _ _ (mf4-decode-valid-value-told κs bytes idSize dataBytes channel y p) (valid-value-exactly (bytes .now) idSize (channelGiven channel) dataBytes)
+pub valid-value-read-zero : (κs : Lfts 1) (bytes : Slice) (group : Mf4Group) (channel : Mf4Channel) (y : Mf4ValidValueReply)
+    → ReadsValidValueC κs bytes group channel y → ExactlyZero (FieldStands (bytes .now) (groupGiven group .idSize) (channelGiven channel)) (y .reply)
+valid-value-read-zero κs bytes group channel y p =
+    zero-exactly (y .reply) (y .told) _ _ (mf4-decode-valid-value-told κs bytes group channel y p) (valid-value-exactly (bytes .now) (groupGiven group) (channelGiven channel))
 
 -- ---- the joined data, a record of it, and a value in that
 
@@ -111,9 +112,9 @@ pub record-read-zero : (κs : Lfts 2) (file : Slice) (start number size : ℕ) (
 record-read-zero κs file start number size out y after p =
     zero-exactly (y .reply) (y .told) _ _ (mf4-read-record-told κs file start number size out y after p) (fetched-exactly (file .now) start number size (out .now))
 
-pub record-value-zero : (κs : Lfts 2) (file : Slice) (start number size idSize dataBytes : ℕ) (channel : Mf4Channel) (out : Slice) (y : Mf4ValidValueReply) (after : List ℕ)
-    → ReadsRecordValueC κs file start number size idSize dataBytes channel out y after
-    → ExactlyZero (ValueFetchable (file .now) start number size idSize (channelGiven channel) (out .now)) (y .reply)
-record-value-zero κs file start number size idSize dataBytes channel out y after p =
-    zero-exactly (y .reply) (y .told) _ _ (mf4-record-value-told κs file start number size idSize dataBytes channel out y after p)
-    (value-fetched-exactly (file .now) start number size (out .now) idSize dataBytes (channelGiven channel))
+pub record-value-zero : (κs : Lfts 2) (file : Slice) (start number size : ℕ) (group : Mf4Group) (channel : Mf4Channel) (out : Slice) (y : Mf4ValidValueReply) (after : List ℕ)
+    → ReadsRecordValueC κs file start number size group channel out y after
+    → ExactlyZero (ValueFetchable (file .now) start number size (groupGiven group .idSize) (channelGiven channel) (out .now)) (y .reply)
+record-value-zero κs file start number size group channel out y after p =
+    zero-exactly (y .reply) (y .told) _ _ (mf4-record-value-told κs file start number size group channel out y after p)
+    (value-fetched-exactly (file .now) start number size (out .now) (groupGiven group) (channelGiven channel))

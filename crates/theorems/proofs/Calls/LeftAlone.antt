@@ -16,7 +16,7 @@ use Rattle.definitions.specs.Unicode.{Encoding, TextWritten, textOf, writtenTex
 use Rattle.definitions.specs.Header.{Header, headerBytes, headerWritten}
 use Rattle.definitions.specs.DataList.{Lengths, listBytes, listSize, flagsFor, restFor, unwritable, listWritten}
 use Rattle.definitions.specs.ChannelBlock.{ChannelBlock, channelBytes, channelWritten}
-use Rattle.definitions.specs.Channel.{Channel}
+use Rattle.definitions.specs.Channel.{Channel, Group}
 use Rattle.definitions.specs.Chain.{Block, idDT, fileLimit, joined, chainOf, badSize, recordOf, fetched, valueFetched}
 use Rattle.definitions.proofs.Replies.{not-answered}
 use Rattle.words.proofs.Spans.{length-span}
@@ -118,27 +118,27 @@ module _ (out : List ℕ) where
       (λ g. on-blocks size (chainOf idDT f start) _ (λ bs. record-leaves (joined f bs) k size (size-fits size (length out) h .2))))
 
 -- a value leaves what the fetch did, whatever the field's reply
-module _ (out f : List ℕ) (start k size idSize dataBytes : ℕ) (c : Channel) where
-  as-fetched : valueFetched f start k size idSize dataBytes c out .buffer ≡ fetched f start k size out .buffer
+module _ (out f : List ℕ) (start k size : ℕ) (g : Group) (c : Channel) where
+  as-fetched : valueFetched f start k size g c out .buffer ≡ fetched f start k size out .buffer
   unfolding valueFetched
   as-fetched = refl
 
   -- so where its refusal is not about the field, all of the buffer, and else what is behind the record
-  pub value-spares : (n t : ℕ) → valueFetched f start k size idSize dataBytes c out .reply ≡ refusal n t → n < 18
-      → valueFetched f start k size idSize dataBytes c out .buffer ≡ out
+  pub value-spares : (n t : ℕ) → valueFetched f start k size g c out .reply ≡ refusal n t → n < 18
+      → valueFetched f start k size g c out .buffer ≡ out
   value-spares n t e other =
-      as-fetched ∙ fetch-leaves out f start k size .refused n t (other-of-fetch f start k size out idSize dataBytes c n t e other)
+      as-fetched ∙ fetch-leaves out f start k size .refused n t (other-of-fetch f start k size out g c n t e other)
 
-  pub value-behind : SameBehind size out (valueFetched f start k size idSize dataBytes c out .buffer)
+  pub value-behind : SameBehind size out (valueFetched f start k size g c out .buffer)
   value-behind = go (fetched f start k size out .reply) refl
     where
-      go : (r : Reply (Unit {0})) → fetched f start k size out .reply ≡ r → SameBehind size out (valueFetched f start k size idSize dataBytes c out .buffer)
+      go : (r : Reply (Unit {0})) → fetched f start k size out .reply ≡ r → SameBehind size out (valueFetched f start k size g c out .buffer)
       go (answer u) e = subst (SameBehind size out) (sym as-fetched) (fetch-leaves out f start k size .answers u e)
       go (refusal n t) e = untouched size out _ (as-fetched ∙ fetch-leaves out f start k size .refused n t e)
 
   -- a reply about the field leaves the record in the buffer's front
-  pub value-holds : OfField (valueFetched f start k size idSize dataBytes c out .reply)
-      → (h : Fetchable f start k size out) × (valueFetched f start k size idSize dataBytes c out .buffer ≡ span (joined f (h .blocks)) (k * size) size ++ drop size out)
+  pub value-holds : OfField (valueFetched f start k size g c out .reply)
+      → (h : Fetchable f start k size out) × (valueFetched f start k size g c out .buffer ≡ span (joined f (h .blocks)) (k * size) size ++ drop size out)
   value-holds e =
-      let h : Fetchable f start k size out = fetched-exactly f start k size out .only tt (field-of-fetched f start k size out idSize dataBytes c e) in
+      let h : Fetchable f start k size out = fetched-exactly f start k size out .only tt (field-of-fetched f start k size out g c e) in
       (h, as-fetched ∙ ap (λ (o : Outcome (Unit {0})). o .buffer) (fetched-record f start k size out h))

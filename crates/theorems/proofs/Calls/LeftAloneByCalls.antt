@@ -23,8 +23,9 @@ use Rattle.text.specs.Meaning.{encodingOf, textReply}
 use Rattle.text.specs.declared.encoding.Encoding.{Encoding}
 use Rattle.records.specs.Meaning.{recordReply}
 use Rattle.chain.specs.declared.place.FileAddress.{FileAddress}
-use Rattle.fields.specs.Meaning.{channelMeant, validValueReply}
+use Rattle.fields.specs.Meaning.{channelMeant, groupMeant, validValueReply}
 use Rattle.fields.specs.declared.channel.Channel.{Channel}
+use Rattle.fields.specs.declared.group.Group.{Group}
 use Rattle.fields.specs.declared.value.ValidValueRead.{ValidValueRead}
 
 -- a refused call leaves every byte, and one that answers all behind the n bytes that it reports
@@ -85,20 +86,20 @@ module _ (κs : Lfts 2) (file : Slice) (start : FileAddress) (number size : ℕ)
 
 -- ---- a value of a record: a refusal with less than 18 leaves every byte, and else the record is in the buffer's front
 
-module _ (κs : Lfts 2) (file : Slice) (start : FileAddress) (number size idSize dataBytes : ℕ) (channel : Channel) (out : Slice) where
-  pub record-value-spares : Sparing (ReadsRecordValue κs file start number size idSize dataBytes channel out)
+module _ (κs : Lfts 2) (file : Slice) (start : FileAddress) (number size : ℕ) (group : Group) (channel : Channel) (out : Slice) where
+  pub record-value-spares : Sparing (ReadsRecordValue κs file start number size group channel out)
       (λ y. (n : ℕ) × (t : ℕ) × (validValueReply y ≡ refusal n t) × (n < 18)) (λ y. size) (out .now)
   record-value-spares y after p =
       let same = ap (λ x. x .buffer) p in
       let replied = sym (ap (λ x. x .reply) p) in
       record {
-        refused = λ q. same ∙ value-spares (out .now) (file .now) (start .0) number size idSize dataBytes (channelMeant channel) (q .0) (q .1) (replied ∙ q .2) (q .3);
-        behind = subst (SameBehind size (out .now)) (sym same) (value-behind (out .now) (file .now) (start .0) number size idSize dataBytes (channelMeant channel));
+        refused = λ q. same ∙ value-spares (out .now) (file .now) (start .0) number size (groupMeant group) (channelMeant channel) (q .0) (q .1) (replied ∙ q .2) (q .3);
+        behind = subst (SameBehind size (out .now)) (sym same) (value-behind (out .now) (file .now) (start .0) number size (groupMeant group) (channelMeant channel));
       }
 
-  pub record-value-holds : (y : ValidValueRead) (after : List ℕ) → ReadsRecordValue κs file start number size idSize dataBytes channel out y after
+  pub record-value-holds : (y : ValidValueRead) (after : List ℕ) → ReadsRecordValue κs file start number size group channel out y after
       → OfField (validValueReply y)
       → (h : Fetchable (file .now) (start .0) number size (out .now)) × (after ≡ span (joined (file .now) (h .blocks)) (number * size) size ++ drop size (out .now))
   record-value-holds y after p e =
-      let h = value-holds (out .now) (file .now) (start .0) number size idSize dataBytes (channelMeant channel) (subst OfField (ap (λ x. x .reply) p) e) in
+      let h = value-holds (out .now) (file .now) (start .0) number size (groupMeant group) (channelMeant channel) (subst OfField (ap (λ x. x .reply) p) e) in
       (h .0, ap (λ x. x .buffer) p ∙ h .1)

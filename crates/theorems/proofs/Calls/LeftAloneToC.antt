@@ -16,12 +16,13 @@ use Rattle.definitions.specs.Channel.{ValidValue}
 use Rattle.definitions.specs.Chain.{joined, valueFetched}
 use Rattle.replies.specs.Replies.{Returned, returned, returnedBy, headerGiven, writtenC, textC, doneC}
 use Rattle.replies.specs.Channels.{blockGiven}
-use Rattle.replies.specs.Values.{channelGiven, validValueC}
+use Rattle.replies.specs.Values.{channelGiven, groupGiven, validValueC}
 use Rattle.replies.specs.declared.header.Mf4Header.{Mf4Header}
 use Rattle.replies.specs.declared.channel_block.Mf4ChannelBlock.{Mf4ChannelBlock}
 use Rattle.replies.specs.declared.written.Mf4WrittenReply.{Mf4WrittenReply}
 use Rattle.replies.specs.declared.texts.Mf4TextReply.{Mf4TextReply}
 use Rattle.replies.specs.declared.channel.Mf4Channel.{Mf4Channel}
+use Rattle.replies.specs.declared.group.Mf4Group.{Mf4Group}
 use Rattle.replies.specs.declared.valid_values.Mf4ValidValueReply.{Mf4ValidValueReply}
 use Rattle.replies.specs.declared.done.Mf4DoneReply.{Mf4DoneReply}
 use Rattle.mf4.specs.Clauses.{Slice}
@@ -86,16 +87,16 @@ record-read-spares κs file start number size out =
 
 -- ---- a value of a record: a reply from 2 to 17 leaves every byte, and else the record is in the buffer's front
 
-module _ (κs : Lfts 2) (file : Slice) (start number size idSize dataBytes : ℕ) (channel : Mf4Channel) (out : Slice) where
+module _ (κs : Lfts 2) (file : Slice) (start number size : ℕ) (group : Mf4Group) (channel : Mf4Channel) (out : Slice) where
   abbrev given : Outcome ValidValue
-  given = valueFetched (file .now) start number size idSize dataBytes (channelGiven channel) (out .now)
+  given = valueFetched (file .now) start number size (groupGiven group) (channelGiven channel) (out .now)
 
   abbrev Says : Mf4ValidValueReply → List ℕ → Type 0
-  Says = ReadsRecordValueC κs file start number size idSize dataBytes channel out
+  Says = ReadsRecordValueC κs file start number size group channel out
 
   spared : (r : Reply ValidValue) → given .reply ≡ r → (0 < validValueC r .reply) × (validValueC r .reply < 18) → given .buffer ≡ out .now
   spared (answer v) e other = let no : ⊥ = omega (arith, other .0) in absurd no
-  spared (refusal n t) e other = value-spares (out .now) (file .now) start number size idSize dataBytes (channelGiven channel) n t e (other .1)
+  spared (refusal n t) e other = value-spares (out .now) (file .now) start number size (groupGiven group) (channelGiven channel) n t e (other .1)
 
   of-field : (r : Reply ValidValue) → Numbered Some r → (validValueC r .reply ≡ 0) ⊎ (18 ≤ validValueC r .reply) → OfField r
   of-field (answer v) some e = tt
@@ -107,13 +108,13 @@ module _ (κs : Lfts 2) (file : Slice) (start number size idSize dataBytes : ℕ
       subst (λ (x : Returned Mf4ValidValueReply). Spares ((0 < x .result .reply) × (x .result .reply < 18)) size (out .now) (x .buffer)) (sym p)
       (record {
         refused = λ other. spared (given .reply) refl other;
-        behind = value-behind (out .now) (file .now) start number size idSize dataBytes (channelGiven channel);
+        behind = value-behind (out .now) (file .now) start number size (groupGiven group) (channelGiven channel);
       })
 
   pub record-value-holds : (y : Mf4ValidValueReply) (after : List ℕ) → Says y after → (y .reply ≡ 0) ⊎ (18 ≤ y .reply)
       → (h : Fetchable (file .now) start number size (out .now)) × (after ≡ span (joined (file .now) (h .blocks)) (number * size) size ++ drop size (out .now))
   record-value-holds y after p e =
       let told = subst (λ (x : Returned Mf4ValidValueReply). (x .result .reply ≡ 0) ⊎ (18 ≤ x .result .reply)) p e in
-      let some = value-fetched-numbered (file .now) start number size (out .now) idSize dataBytes (channelGiven channel) in
-      let h = value-holds (out .now) (file .now) start number size idSize dataBytes (channelGiven channel) (of-field (given .reply) some told) in
+      let some = value-fetched-numbered (file .now) start number size (out .now) (groupGiven group) (channelGiven channel) in
+      let h = value-holds (out .now) (file .now) start number size (groupGiven group) (channelGiven channel) (of-field (given .reply) some told) in
       (h .0, ap (λ (x : Returned Mf4ValidValueReply). x .buffer) p ∙ h .1)

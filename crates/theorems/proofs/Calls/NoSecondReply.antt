@@ -249,10 +249,10 @@ pub record-read-settled : Settled 2 record-read-kinds.ps record-read-kinds.r rec
 record-read-settled = settled (λ κs a y z b c p q. one-outcome recordReply record-one (λ out. (tt, (tt, (tt, (tt, (out, tt)))))) (p ∙ sym q))
 
 pub record-value-settled : Settled 2 record-value-kinds.ps record-value-kinds.r record-value.Asked record-value.ensures record-value.Learnt
-record-value-settled = settled (λ κs a y z b c p q. one-outcome validValueReply valid-value-one (λ out. (tt, (tt, (tt, (tt, (tt, (tt, (tt, (out, tt))))))))) (p ∙ sym q))
+record-value-settled = settled (λ κs a y z b c p q. one-outcome validValueReply valid-value-one (λ out. (tt, (tt, (tt, (tt, (tt, (tt, (out, tt)))))))) (p ∙ sym q))
 
 pub record-payload-settled : Settled 3 record-payload-kinds.ps record-payload-kinds.r record-payload.Asked record-payload.ensures record-payload.Learnt
-record-payload-settled = settled (λ κs a y z b c p q. in-places (λ out room. (tt, (tt, (tt, (tt, (tt, (tt, (tt, (out, (room, tt)))))))))) (payload-fetched-one y z _ _ _ _ (p ∙ sym q)))
+record-payload-settled = settled (λ κs a y z b c p q. in-places (λ out room. (tt, (tt, (tt, (tt, (tt, (tt, (out, (room, tt))))))))) (payload-fetched-one y z _ _ _ _ (p ∙ sym q)))
 
 pub search-begin-settled : Settled 0 search-begin-kinds.ps search-begin-kinds.r search-begin.Asked search-begin.ensures search-begin.Learnt
 search-begin-settled = settled (λ κs a y z b c p q. (p ∙ sym q, refl))

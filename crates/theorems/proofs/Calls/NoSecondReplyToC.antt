@@ -13,6 +13,8 @@ use Rattle.mf4.proofs.mf4_write_header.Kinds as mf4-write-header-kinds
 use Rattle.mf4.proofs.mf4_write_header.Reads as mf4-write-header
 use Rattle.mf4.proofs.mf4_type_code.Kinds as mf4-type-code-kinds
 use Rattle.mf4.proofs.mf4_type_code.Reads as mf4-type-code
+use Rattle.mf4.proofs.mf4_version.Kinds as mf4-version-kinds
+use Rattle.mf4.proofs.mf4_version.Reads as mf4-version
 use Rattle.mf4.proofs.mf4_default_bits.Kinds as mf4-default-bits-kinds
 use Rattle.mf4.proofs.mf4_default_bits.Reads as mf4-default-bits
 use Rattle.mf4.proofs.mf4_read_list.Kinds as mf4-read-list-kinds
@@ -122,7 +124,10 @@ pub mf4-read-record-settled : Settled 2 mf4-read-record-kinds.ps mf4-read-record
 mf4-read-record-settled = settled (λ κs a y z b c p q. one-returned (λ out. (tt, (tt, (tt, (tt, (out, tt)))))) (p ∙ sym q))
 
 pub mf4-record-value-settled : Settled 2 mf4-record-value-kinds.ps mf4-record-value-kinds.r mf4-record-value.Asked mf4-record-value.ensures mf4-record-value.Learnt
-mf4-record-value-settled = settled (λ κs a y z b c p q. one-returned (λ out. (tt, (tt, (tt, (tt, (tt, (tt, (tt, (out, tt))))))))) (p ∙ sym q))
+mf4-record-value-settled = settled (λ κs a y z b c p q. one-returned (λ out. (tt, (tt, (tt, (tt, (tt, (tt, (out, tt)))))))) (p ∙ sym q))
 
 pub mf4-record-payload-settled : Settled 3 mf4-record-payload-kinds.ps mf4-record-payload-kinds.r mf4-record-payload.Asked mf4-record-payload.ensures mf4-record-payload.Learnt
-mf4-record-payload-settled = settled (λ κs a y z b c p q. in-places (λ out room. (tt, (tt, (tt, (tt, (tt, (tt, (tt, (out, (room, tt)))))))))) (one-returned-both (p ∙ sym q)))
+mf4-record-payload-settled = settled (λ κs a y z b c p q. in-places (λ out room. (tt, (tt, (tt, (tt, (tt, (tt, (out, (room, tt))))))))) (one-returned-both (p ∙ sym q)))
+
+pub mf4-version-settled : Settled 0 mf4-version-kinds.ps mf4-version-kinds.r mf4-version.Asked mf4-version.ensures mf4-version.Learnt
+mf4-version-settled = settled (λ κs a y z b c p q. (p ∙ sym q, refl))

@@ -16,7 +16,7 @@ use Rattle.definitions.specs.Header.{Header, headerOf, headerBytes, headerWritt
 use Rattle.definitions.specs.DataType.{Kind, kindOf}
 use Rattle.definitions.specs.DataList.{DataList, Lengths, idDL, listOf, linksOf, restOf, restIn, flagsAt, listBytes, listSize, flagsFor, restFor, unwritable, listWritten}
 use Rattle.definitions.specs.ChannelBlock.{ChannelBlock, idCN, fieldsAt, fieldsOf, channelBlockOf, channelBytes, channelWritten}
-use Rattle.definitions.specs.Channel.{Channel, ValidValue, startOf, spanOf, isInteger, isFloating, isNumber, valueBy, valueOf, validValueOf}
+use Rattle.definitions.specs.Channel.{Channel, Group, ValidValue, startOf, spanOf, isInteger, isFloating, isNumber, valueBy, valueOf, validValueOf}
 use Rattle.definitions.specs.Chain.{Block, idDT, dataLimit, fileLimit, fragmentLimit, hasHeader, blockAt, declared, judged, fragmentOf, fragments, agrees, admitted, listAt, Declaration, declarationOf, keepsTo, chainedAt, lists, listLimit, chainOf, totalOf, dataLength, joined, badSize, recordOf, fetched, valueFetched}
 use Rattle.definitions.specs.Payload.{idSD, positionOf, payloadAt, joinedOf, payloadOf}
 use Rattle.definitions.proofs.Replies.{not-answered, both}
@@ -217,39 +217,39 @@ module _ (s : List ℕ) (idSize : ℕ) (c : Channel) where
   unfolding valueOf
   value-numbered = by-kind (kindOf (c .dataType)) (startOf idSize c) (spanOf s c)
 
-  pub valid-value-numbered : (dataBytes : ℕ) → Numbered OfFields (validValueOf s idSize dataBytes c)
-  unfolding validValueOf
-  valid-value-numbered dataBytes = of-following OfFields (valueOf s idSize c) _ value-numbered (λ v. of-answer OfFields _)
+pub valid-value-numbered : (s : List ℕ) (g : Group) (c : Channel) → Numbered OfFields (validValueOf s g c)
+unfolding validValueOf
+valid-value-numbered s g c = of-following OfFields (valueOf s (g .idSize) c) _ (value-numbered s (g .idSize) c) (λ v. of-answer OfFields _)
 
 -- a value, or why the record has none
 abbrev pub OfField : Reply ValidValue → Type 0
 OfField (answer v) = Unit {0}
 OfField (refusal n t) = 18 ≤ n
 
-module _ (f : List ℕ) (start k size : ℕ) (out : List ℕ) (idSize dataBytes : ℕ) (c : Channel) where
-  pub value-fetched-numbered : Numbered Some (valueFetched f start k size idSize dataBytes c out .reply)
+module _ (f : List ℕ) (start k size : ℕ) (out : List ℕ) (g : Group) (c : Channel) where
+  pub value-fetched-numbered : Numbered Some (valueFetched f start k size g c out .reply)
   unfolding valueFetched
   value-fetched-numbered =
       of-following Some (fetched f start k size out .reply) _ (weaker _ (λ n t p. omega (arith, between 2 17 n p .0)) (fetched-numbered f start k size out))
-      (λ u. weaker _ (λ n t p. omega (arith, between 18 22 n p .0)) (valid-value-numbered (take size (fetched f start k size out .buffer)) idSize c dataBytes))
+      (λ u. weaker _ (λ n t p. omega (arith, between 18 22 n p .0)) (valid-value-numbered (take size (fetched f start k size out .buffer)) g c))
 
   -- a reply about the field says that the record was fetched
-  pub field-of-fetched : OfField (valueFetched f start k size idSize dataBytes c out .reply) → fetched f start k size out .reply ≡ answer tt
+  pub field-of-fetched : OfField (valueFetched f start k size g c out .reply) → fetched f start k size out .reply ≡ answer tt
   unfolding valueFetched
   field-of-fetched h = go (fetched f start k size out .reply) (fetched-numbered f start k size out) h
     where
       go : (r : Reply (Unit {0})) → Numbered OfBlocks r
-          → OfField (andThen r (λ u. validValueOf (take size (fetched f start k size out .buffer)) idSize dataBytes c)) → r ≡ answer tt
+          → OfField (andThen r (λ u. validValueOf (take size (fetched f start k size out .buffer)) g c)) → r ≡ answer tt
       go (answer u) g h = refl
       go (refusal n t) g h = let no : ⊥ = omega (arith, between 2 17 n (g n t refl) .1) in absurd no
 
   -- and any other one that it was not
-  pub other-of-fetch : (n t : ℕ) → valueFetched f start k size idSize dataBytes c out .reply ≡ refusal n t → n < 18 → fetched f start k size out .reply ≡ refusal n t
+  pub other-of-fetch : (n t : ℕ) → valueFetched f start k size g c out .reply ≡ refusal n t → n < 18 → fetched f start k size out .reply ≡ refusal n t
   unfolding valueFetched
   other-of-fetch n t e other = go (fetched f start k size out .reply) e
     where
-      go : (r : Reply (Unit {0})) → andThen r (λ u. validValueOf (take size (fetched f start k size out .buffer)) idSize dataBytes c) ≡ refusal n t → r ≡ refusal n t
-      go (answer u) e = let no : ⊥ = omega (arith, between 18 22 n (valid-value-numbered _ idSize c dataBytes n t e) .0) in absurd no
+      go : (r : Reply (Unit {0})) → andThen r (λ u. validValueOf (take size (fetched f start k size out .buffer)) g c) ≡ refusal n t → r ≡ refusal n t
+      go (answer u) e = let no : ⊥ = omega (arith, between 18 22 n (valid-value-numbered _ g c n t e) .0) in absurd no
       go (refusal m s) e = cc
 
 -- ---- a payload

@@ -16,7 +16,7 @@ use Rattle.definitions.specs.Bytes.{twosComplement, u64At}
 use Rattle.definitions.specs.Unicode.{Encoding, textWritten}
 use Rattle.definitions.specs.Header.{headerOf, headerWritten}
 use Rattle.definitions.specs.DataType.{DataType, unsignedInteger, signedInteger, float, complex, string, byteArray, mimeSample, mimeStream, canOpenDate, canOpenTime, unknown, codeOf, ownsCode, kindOf}
-use Rattle.definitions.specs.Channel.{Channel, Value, ValidValue, signed, decoded, startOf, spanOf, numberIn, isNumber, isInteger, isFloating, valueBy, valueOf, validOf, validValueOf}
+use Rattle.definitions.specs.Channel.{Channel, Group, Value, ValidValue, signed, decoded, startOf, spanOf, numberIn, isNumber, isInteger, isFloating, valueBy, valueOf, validOf, validValueOf}
 use Rattle.definitions.specs.ChannelBlock.{ChannelBlock, fieldsAt, described, channelBlockOf, channelWritten}
 use Rattle.definitions.specs.DataList.{listOf, listWritten, equal, variable}
 use Rattle.definitions.specs.WrittenValue.{valueWritten}
@@ -25,7 +25,7 @@ use Rattle.definitions.proofs.Replies.{both}
 use Rattle.mf4.specs.Clauses.{Slice}
 use Rattle.replies.specs.Replies.{Returned, returned, returnedBy, writtenC, headerGiven, textC, doneC}
 use Rattle.replies.specs.Channels.{blockGiven, channelC}
-use Rattle.replies.specs.Values.{channelGiven, validValueC}
+use Rattle.replies.specs.Values.{channelGiven, groupGiven, validValueC}
 use Rattle.replies.specs.Stored.{numberGiven}
 use Rattle.replies.specs.declared.written.Mf4WrittenReply.{Mf4WrittenReply}
 use Rattle.replies.specs.declared.header.Mf4Header.{Mf4Header}
@@ -35,6 +35,7 @@ use Rattle.replies.specs.declared.channel_block.Mf4ChannelBlock.{Mf4ChannelBloc
 use Rattle.replies.specs.declared.channel_block.Mf4ChannelReply.{Mf4ChannelReply}
 use Rattle.replies.specs.declared.texts.Mf4TextReply.{Mf4TextReply}
 use Rattle.replies.specs.declared.channel.Mf4Channel.{Mf4Channel}
+use Rattle.replies.specs.declared.group.Mf4Group.{Mf4Group}
 use Rattle.replies.specs.declared.values.Mf4ValueReply.{Mf4ValueReply}
 use Rattle.replies.specs.declared.valid_values.Mf4ValidValueReply.{Mf4ValidValueReply}
 use Rattle.replies.specs.declared.fetches.Mf4LengthReply.{Mf4LengthReply}
@@ -104,11 +105,11 @@ value-tellable s idSize c = by-tests s (startOf idSize c) (spanOf s c) c
 abbrev Judged : ValidValue → Type 0
 Judged v = Reversible (v .value)
 
-pub valid-value-tellable : (s : List ℕ) (idSize dataBytes : ℕ) (c : Channel) → Tellable Judged (validValueOf s idSize dataBytes c)
+pub valid-value-tellable : (s : List ℕ) (g : Group) (c : Channel) → Tellable Judged (validValueOf s g c)
 unfolding validValueOf
-valid-value-tellable s idSize dataBytes c = go (valueOf s idSize c) (value-tellable s idSize c)
+valid-value-tellable s g c = go (valueOf s (g .idSize) c) (value-tellable s (g .idSize) c)
   where
-    go : (r : Reply Value) → Tellable Reversible r → Tellable Judged (andThen r (λ v. answer (record { value = v; valid = validOf s idSize dataBytes c })))
+    go : (r : Reply Value) → Tellable Reversible r → Tellable Judged (andThen r (λ v. answer (record { value = v; valid = validOf s g c })))
     go (answer v) h = h
     go (refusal n t) h = h
 
@@ -188,10 +189,10 @@ pub mf4-decode-value-told : (κs : Lfts 1) (bytes : Slice) (idSize : ℕ) (chann
     → ReadsValueC κs bytes idSize channel y → valueReplyAgain y ≡ valueOf (bytes .now) idSize (channelGiven channel)
 mf4-decode-value-told κs bytes idSize channel y p = ap valueReplyAgain p ∙ value-told _ (value-tellable (bytes .now) idSize (channelGiven channel))
 
-pub mf4-decode-valid-value-told : (κs : Lfts 1) (bytes : Slice) (idSize dataBytes : ℕ) (channel : Mf4Channel) (y : Mf4ValidValueReply)
-    → ReadsValidValueC κs bytes idSize dataBytes channel y → validValueAgain y ≡ validValueOf (bytes .now) idSize dataBytes (channelGiven channel)
-mf4-decode-valid-value-told κs bytes idSize dataBytes channel y p =
-    ap validValueAgain p ∙ valid-value-told _ (valid-value-tellable (bytes .now) idSize dataBytes (channelGiven channel))
+pub mf4-decode-valid-value-told : (κs : Lfts 1) (bytes : Slice) (group : Mf4Group) (channel : Mf4Channel) (y : Mf4ValidValueReply)
+    → ReadsValidValueC κs bytes group channel y → validValueAgain y ≡ validValueOf (bytes .now) (groupGiven group) (channelGiven channel)
+mf4-decode-valid-value-told κs bytes group channel y p =
+    ap validValueAgain p ∙ valid-value-told _ (valid-value-tellable (bytes .now) (groupGiven group) (channelGiven channel))
 
 pub mf4-data-length-told : (κs : Lfts 1) (file : Slice) (start : ℕ) (y : Mf4LengthReply) → ReadsLengthC κs file start y → lengthAgain y ≡ dataLength (file .now) start
 mf4-data-length-told κs file start y p = ap lengthAgain p ∙ length-told _ (of-blocks _ (length-numbered (file .now) start))
@@ -206,18 +207,18 @@ pub mf4-read-record-told : (κs : Lfts 2) (file : Slice) (start number size : �
 mf4-read-record-told κs file start number size out y after p =
     by-result doneC doneAgain p (done-told _ (of-blocks _ (fetched-numbered (file .now) start number size (out .now))))
 
-value-fetched-tellable : (f : List ℕ) (start k size idSize dataBytes : ℕ) (c : Channel) (out : List ℕ)
-    → Tellable Judged (valueFetched f start k size idSize dataBytes c out .reply)
+value-fetched-tellable : (f : List ℕ) (start k size : ℕ) (g : Group) (c : Channel) (out : List ℕ)
+    → Tellable Judged (valueFetched f start k size g c out .reply)
 unfolding valueFetched
-value-fetched-tellable f start k size idSize dataBytes c out = go (fetched f start k size out .reply) (fetched-numbered f start k size out)
+value-fetched-tellable f start k size g c out = go (fetched f start k size out .reply) (fetched-numbered f start k size out)
   where
     go : (r : Reply (Unit {0})) → Numbered OfBlocks r
-        → Tellable Judged (andThen r (λ u. validValueOf (take size (fetched f start k size out .buffer)) idSize dataBytes c))
-    go (answer u) h = valid-value-tellable (take size (fetched f start k size out .buffer)) idSize dataBytes c
+        → Tellable Judged (andThen r (λ u. validValueOf (take size (fetched f start k size out .buffer)) g c))
+    go (answer u) h = valid-value-tellable (take size (fetched f start k size out .buffer)) g c
     go (refusal n t) h = omega (arith, between 2 17 n (h n t refl) .0)
 
-pub mf4-record-value-told : (κs : Lfts 2) (file : Slice) (start number size idSize dataBytes : ℕ) (channel : Mf4Channel) (out : Slice) (y : Mf4ValidValueReply) (after : List ℕ)
-    → ReadsRecordValueC κs file start number size idSize dataBytes channel out y after
-    → validValueAgain y ≡ valueFetched (file .now) start number size idSize dataBytes (channelGiven channel) (out .now) .reply
-mf4-record-value-told κs file start number size idSize dataBytes channel out y after p =
-    by-result validValueC validValueAgain p (valid-value-told _ (value-fetched-tellable (file .now) start number size idSize dataBytes (channelGiven channel) (out .now)))
+pub mf4-record-value-told : (κs : Lfts 2) (file : Slice) (start number size : ℕ) (group : Mf4Group) (channel : Mf4Channel) (out : Slice) (y : Mf4ValidValueReply) (after : List ℕ)
+    → ReadsRecordValueC κs file start number size group channel out y after
+    → validValueAgain y ≡ valueFetched (file .now) start number size (groupGiven group) (channelGiven channel) (out .now) .reply
+mf4-record-value-told κs file start number size group channel out y after p =
+    by-result validValueC validValueAgain p (valid-value-told _ (value-fetched-tellable (file .now) start number size (groupGiven group) (channelGiven channel) (out .now)))

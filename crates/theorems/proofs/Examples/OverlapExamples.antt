@@ -6,8 +6,8 @@ use Rattle.definitions.specs.Reply.{Reply, answer, refusal}
 use Rattle.definitions.specs.Bytes.{little, big}
 use Rattle.definitions.specs.Unicode.{latin1}
 use Rattle.definitions.specs.DataType.{DataType, unsignedInteger, signedInteger, float, complex, string}
-use Rattle.definitions.specs.Channel.{Channel}
-use Rattle.definitions.specs.Overlap.{someFrom, shareABit, isFixedNumber, Overlap, pair, none, pairWith, firstPair, allFixed, overlapOf}
+use Rattle.definitions.specs.Channel.{Channel, isSoundNumber}
+use Rattle.definitions.specs.Overlap.{someFrom, shareABit, Overlap, pair, none, pairWith, firstPair, allFixed, overlapOf}
 use Rattle.theorems.specs.Examples.{fixed, payload}
 
 -- at a byte, from a bit on, so many bits
@@ -61,5 +61,5 @@ table =
     ∷ []
 
 pub claim : map (λ (r : Row). overlapOf (r .list)) table ≡ map (λ (r : Row). r .reply) table
-unfolding times someFrom shareABit isFixedNumber pairWith firstPair allFixed overlapOf
+unfolding times someFrom shareABit isSoundNumber pairWith firstPair allFixed overlapOf
 claim = refl

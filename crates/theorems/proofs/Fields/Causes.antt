@@ -6,7 +6,7 @@ use Prim.Native.Nat.{ℕ}
 use lib.ListN.{length}
 use lib.Dec.{ltb, eqb}
 use Rattle.definitions.specs.DataType.{Kind, kindOf}
-use Rattle.definitions.specs.Channel.{Channel, isInteger, isFloating, isNumber, valueBy, valueOf, validValueOf}
+use Rattle.definitions.specs.Channel.{Channel, Group, isInteger, isFloating, isNumber, valueBy, valueOf, validValueOf}
 use Rattle.theorems.proofs.Calls.Answers.{value-exactly, valid-value-exactly}
 use Rattle.theorems.proofs.Calls.TestsInTurn.{Tests, tests-less, tests-equal, tests-true, tests-both, tests-neither, tested, last-tested, made-of}
 use Rattle.theorems.specs.Refused.{RefusedExactly}
@@ -32,9 +32,9 @@ module _ (s : List ℕ) (idSize : ℕ) (c : Channel) where
   pub value-replies : FieldReplies s idSize c (valueOf s idSize c)
   value-replies = record { answers = value-exactly s idSize c; refusals = value-refused }
 
-pub valid-value-replies : (s : List ℕ) (idSize dataBytes : ℕ) (c : Channel) → FieldReplies s idSize c (validValueOf s idSize dataBytes c)
+pub valid-value-replies : (s : List ℕ) (g : Group) (c : Channel) → FieldReplies s (g .idSize) c (validValueOf s g c)
 unfolding validValueOf
-valid-value-replies s idSize dataBytes c = record {
-  answers = valid-value-exactly s idSize c dataBytes;
-  refusals = made-of _ (valueOf s idSize c) (value-replies s idSize c .refusals);
+valid-value-replies s g c = record {
+  answers = valid-value-exactly s g c;
+  refusals = made-of _ (valueOf s (g .idSize) c) (value-replies s (g .idSize) c .refusals);
 }

@@ -8,13 +8,15 @@ use Rattle.definitions.specs.Bytes.{span}
 use Rattle.definitions.specs.Channel as channels
 use Rattle.definitions.specs.Channel.{ValidValue}
 use Rattle.definitions.specs.Chain.{joined}
-use Rattle.fields.specs.Meaning.{channelMeant, valueReply, validValueReply}
+use Rattle.fields.specs.Meaning.{channelMeant, groupMeant, valueReply, validValueReply}
 use Rattle.fields.specs.declared.channel.Channel.{Channel}
+use Rattle.fields.specs.declared.group.Group.{Group}
 use Rattle.fields.specs.declared.value.ValueRead.{ValueRead}
 use Rattle.fields.specs.declared.value.ValidValueRead.{ValidValueRead}
 use Rattle.chain.specs.declared.place.FileAddress.{FileAddress}
-use Rattle.replies.specs.Values.{channelGiven}
+use Rattle.replies.specs.Values.{channelGiven, groupGiven}
 use Rattle.replies.specs.declared.channel.Mf4Channel.{Mf4Channel}
+use Rattle.replies.specs.declared.group.Mf4Group.{Mf4Group}
 use Rattle.replies.specs.declared.values.Mf4ValueReply.{Mf4ValueReply}
 use Rattle.replies.specs.declared.valid_values.Mf4ValidValueReply.{Mf4ValidValueReply}
 use Rattle.replies.proofs.ToldToC.{valueReplyAgain, validValueAgain}
@@ -35,17 +37,17 @@ pub value-read-replies : (κs : Lfts 1) (bytes : Slice) (idSize : ℕ) (channel 
     → ReadsValue κs bytes idSize channel y → FieldReplies (bytes .now) idSize (channelMeant channel) (valueReply y)
 value-read-replies κs bytes idSize channel y p = as-defined p (value-replies (bytes .now) idSize (channelMeant channel))
 
-pub valid-value-read-replies : (κs : Lfts 1) (bytes : Slice) (idSize dataBytes : ℕ) (channel : Channel) (y : ValidValueRead)
-    → ReadsValidValue κs bytes idSize dataBytes channel y → FieldReplies (bytes .now) idSize (channelMeant channel) (validValueReply y)
-valid-value-read-replies κs bytes idSize dataBytes channel y p = as-defined p (valid-value-replies (bytes .now) idSize dataBytes (channelMeant channel))
+pub valid-value-read-replies : (κs : Lfts 1) (bytes : Slice) (group : Group) (channel : Channel) (y : ValidValueRead)
+    → ReadsValidValue κs bytes group channel y → FieldReplies (bytes .now) (groupMeant group .idSize) (channelMeant channel) (validValueReply y)
+valid-value-read-replies κs bytes group channel y p = as-defined p (valid-value-replies (bytes .now) (groupMeant group) (channelMeant channel))
 
 -- of a record that can be fetched, on its own bytes
-pub record-value-replies : (κs : Lfts 2) (file : Slice) (start : FileAddress) (number size idSize dataBytes : ℕ) (channel : Channel) (out : Slice) (y : ValidValueRead) (after : List ℕ)
-    → ReadsRecordValue κs file start number size idSize dataBytes channel out y after → (h : Fetchable (file .now) (start .0) number size (out .now))
-    → FieldReplies (span (joined (file .now) (h .blocks)) (number * size) size) idSize (channelMeant channel) (validValueReply y)
-record-value-replies κs file start number size idSize dataBytes channel out y after p h =
-    as-defined (ap (λ (o : Outcome ValidValue). o .reply) p ∙ value-of-record (file .now) (start .0) number size (out .now) idSize dataBytes (channelMeant channel) h)
-    (valid-value-replies _ idSize dataBytes (channelMeant channel))
+pub record-value-replies : (κs : Lfts 2) (file : Slice) (start : FileAddress) (number size : ℕ) (group : Group) (channel : Channel) (out : Slice) (y : ValidValueRead) (after : List ℕ)
+    → ReadsRecordValue κs file start number size group channel out y after → (h : Fetchable (file .now) (start .0) number size (out .now))
+    → FieldReplies (span (joined (file .now) (h .blocks)) (number * size) size) (groupMeant group .idSize) (channelMeant channel) (validValueReply y)
+record-value-replies κs file start number size group channel out y after p h =
+    as-defined (ap (λ (o : Outcome ValidValue). o .reply) p ∙ value-of-record (file .now) (start .0) number size (out .now) (groupMeant group) (channelMeant channel) h)
+    (valid-value-replies _ (groupMeant group) (channelMeant channel))
 
 -- ---- for C: of the reply that the struct tells
 
@@ -54,16 +56,16 @@ pub mf4-decode-value-replies : (κs : Lfts 1) (bytes : Slice) (idSize : ℕ) (ch
 mf4-decode-value-replies κs bytes idSize channel y p =
     as-defined (mf4-decode-value-told κs bytes idSize channel y p) (value-replies (bytes .now) idSize (channelGiven channel))
 
-pub mf4-decode-valid-value-replies : (κs : Lfts 1) (bytes : Slice) (idSize dataBytes : ℕ) (channel : Mf4Channel) (y : Mf4ValidValueReply)
-    → ReadsValidValueC κs bytes idSize dataBytes channel y → FieldReplies (bytes .now) idSize (channelGiven channel) (validValueAgain y)
-mf4-decode-valid-value-replies κs bytes idSize dataBytes channel y p =
-    as-defined (mf4-decode-valid-value-told κs bytes idSize dataBytes channel y p) (valid-value-replies (bytes .now) idSize dataBytes (channelGiven channel))
+pub mf4-decode-valid-value-replies : (κs : Lfts 1) (bytes : Slice) (group : Mf4Group) (channel : Mf4Channel) (y : Mf4ValidValueReply)
+    → ReadsValidValueC κs bytes group channel y → FieldReplies (bytes .now) (groupGiven group .idSize) (channelGiven channel) (validValueAgain y)
+mf4-decode-valid-value-replies κs bytes group channel y p =
+    as-defined (mf4-decode-valid-value-told κs bytes group channel y p) (valid-value-replies (bytes .now) (groupGiven group) (channelGiven channel))
 
-pub mf4-record-value-replies : (κs : Lfts 2) (file : Slice) (start number size idSize dataBytes : ℕ) (channel : Mf4Channel) (out : Slice) (y : Mf4ValidValueReply) (after : List ℕ)
-    → ReadsRecordValueC κs file start number size idSize dataBytes channel out y after → (h : Fetchable (file .now) start number size (out .now))
-    → FieldReplies (span (joined (file .now) (h .blocks)) (number * size) size) idSize (channelGiven channel) (validValueAgain y)
-mf4-record-value-replies κs file start number size idSize dataBytes channel out y after p h =
+pub mf4-record-value-replies : (κs : Lfts 2) (file : Slice) (start number size : ℕ) (group : Mf4Group) (channel : Mf4Channel) (out : Slice) (y : Mf4ValidValueReply) (after : List ℕ)
+    → ReadsRecordValueC κs file start number size group channel out y after → (h : Fetchable (file .now) start number size (out .now))
+    → FieldReplies (span (joined (file .now) (h .blocks)) (number * size) size) (groupGiven group .idSize) (channelGiven channel) (validValueAgain y)
+mf4-record-value-replies κs file start number size group channel out y after p h =
     as-defined
-    (mf4-record-value-told κs file start number size idSize dataBytes channel out y after p
-    ∙ value-of-record (file .now) start number size (out .now) idSize dataBytes (channelGiven channel) h)
-    (valid-value-replies _ idSize dataBytes (channelGiven channel))
+    (mf4-record-value-told κs file start number size group channel out y after p
+    ∙ value-of-record (file .now) start number size (out .now) (groupGiven group) (channelGiven channel) h)
+    (valid-value-replies _ (groupGiven group) (channelGiven channel))

@@ -9,15 +9,16 @@ use lib.ListN.{length, getD}
 use Rattle.definitions.specs.Reply.{Reply, answer, refusal, andThen}
 use Rattle.definitions.specs.Bytes.{bytesFor}
 use Rattle.definitions.specs.DataType.{kindOf, orderOf}
-use Rattle.definitions.specs.Channel.{Channel, Value, variableLength, spanIn, isNumber, valueOf, validValueOf, doubleIn, recordDouble}
+use Rattle.definitions.specs.Channel.{Channel, Group, Value, variableLength, spanIn, isNumber, valueOf, validValueOf, doubleIn, recordDouble}
 use Rattle.words.proofs.Numbers.{Bytes}
 use Rattle.words.proofs.Locality.{recordBit}
 use Rattle.fields.proofs.Locality.{locality, content-locality, refusal-locality}
 use Rattle.fields.proofs.OneBit.{invalidationBitIn, one-bit}
 use Rattle.decoder.proofs.Doubles.{double-fixed}
 use Rattle.fields.proofs.Back.{value-one, valid-value-one}
-use Rattle.fields.specs.Meaning.{channelMeant, valueReply, validValueReply}
+use Rattle.fields.specs.Meaning.{channelMeant, groupMeant, valueReply, validValueReply}
 use Rattle.fields.specs.declared.channel.Channel.{Channel as Description}
+use Rattle.fields.specs.declared.group.Group.{Group as Grouped}
 use Rattle.fields.specs.declared.value.ValueRead.{ValueRead}
 use Rattle.fields.specs.declared.value.ValidValueRead.{ValidValueRead}
 use Rattle.replies.proofs.ToldToC.{valueReplyAgain, validValueAgain}
@@ -27,8 +28,9 @@ use Rattle.theorems.specs.ClausesToC.{ReadsValueC, ReadsValidValueC, Che
 use Rattle.theorems.proofs.Calls.TestsInTurn.{refused-made, made-refused}
 use Rattle.theorems.proofs.Calls.ToldToC.{mf4-decode-value-told, mf4-decode-valid-value-told}
 use Rattle.replies.specs.Replies.{flagC}
-use Rattle.replies.specs.Values.{channelGiven, valueC, validValueC}
+use Rattle.replies.specs.Values.{channelGiven, groupGiven, valueC, validValueC}
 use Rattle.replies.specs.declared.channel.Mf4Channel.{Mf4Channel}
+use Rattle.replies.specs.declared.group.Mf4Group.{Mf4Group}
 use Rattle.replies.specs.declared.values.Mf4ValueReply.{Mf4ValueReply}
 use Rattle.replies.specs.declared.valid_values.Mf4ValidValueReply.{Mf4ValidValueReply}
 
@@ -54,12 +56,12 @@ module _ (s t : List ℕ) (idSize : ℕ) (c : Channel) (h : Alike s t idSize c) 
   pub same-double : recordDouble s idSize c ≡ recordDouble t idSize c
   same-double = sym (double-fixed s idSize c (h .fixed)) ∙ ap doubleIn same-value ∙ double-fixed t idSize c (h .fixed)
 
-  -- with the invalidation bit alike, the value with its validity
-  pub same-valid-value : (dataBytes : ℕ) → invalidationBitIn s idSize dataBytes c ≡ invalidationBitIn t idSize dataBytes c
-      → validValueOf s idSize dataBytes c ≡ validValueOf t idSize dataBytes c
-  unfolding validValueOf
-  same-valid-value dataBytes e =
-      ap₂ (λ (r : Reply Value) (b : Bool). andThen r (λ v. answer (record { value = v; valid = b }))) same-value (one-bit s t idSize dataBytes c e)
+-- with the invalidation bit alike, the value with its validity
+pub same-valid-value : (s t : List ℕ) (g : Group) (c : Channel) → Alike s t (g .idSize) c → invalidationBitIn s g c ≡ invalidationBitIn t g c
+    → validValueOf s g c ≡ validValueOf t g c
+unfolding validValueOf
+same-valid-value s t g c h e =
+    ap₂ (λ (r : Reply Value) (b : Bool). andThen r (λ v. answer (record { value = v; valid = b }))) (same-value s t (g .idSize) c h) (one-bit s t g c e)
 
 module _ (κs : Lfts 1) (s t : Slice) (idSize : ℕ) (channel : Description) (h : Alike (s .now) (t .now) idSize (channelMeant channel)) where
   pub value-read-alike : (y z : ValueRead) → ReadsValue κs s idSize channel y → ReadsValue κs t idSize channel z → y ≡ z
@@ -68,34 +70,38 @@ module _ (κs : Lfts 1) (s t : Slice) (idSize : ℕ) (channel : Description) (h 
   pub double-read-alike : (y z : ℕ) → ReadsDouble κs s idSize channel y → ReadsDouble κs t idSize channel z → y ≡ z
   double-read-alike y z p q = p ∙ same-double (s .now) (t .now) idSize (channelMeant channel) h ∙ sym q
 
-  pub valid-value-read-alike : (dataBytes : ℕ) → invalidationBitIn (s .now) idSize dataBytes (channelMeant channel) ≡ invalidationBitIn (t .now) idSize dataBytes (channelMeant channel)
-      → (y z : ValidValueRead) → ReadsValidValue κs s idSize dataBytes channel y → ReadsValidValue κs t idSize dataBytes channel z → y ≡ z
-  valid-value-read-alike dataBytes e y z p q = valid-value-one y z (p ∙ same-valid-value (s .now) (t .now) idSize (channelMeant channel) h dataBytes e ∙ sym q)
+pub valid-value-read-alike : (κs : Lfts 1) (s t : Slice) (group : Grouped) (channel : Description)
+    → Alike (s .now) (t .now) (groupMeant group .idSize) (channelMeant channel)
+    → invalidationBitIn (s .now) (groupMeant group) (channelMeant channel) ≡ invalidationBitIn (t .now) (groupMeant group) (channelMeant channel)
+    → (y z : ValidValueRead) → ReadsValidValue κs s group channel y → ReadsValidValue κs t group channel z → y ≡ z
+valid-value-read-alike κs s t group channel h e y z p q =
+    valid-value-one y z (p ∙ same-valid-value (s .now) (t .now) (groupMeant group) (channelMeant channel) h e ∙ sym q)
 
 -- ---- a refusal
 
-module _ (s t : List ℕ) (idSize : ℕ) (c : Channel) (long : length s ≡ length t) (n m : ℕ) where
-  pub same-refusal : valueOf s idSize c ≡ refusal n m → valueOf t idSize c ≡ refusal n m
-  same-refusal e = refusal-locality s t idSize c n m long e
+module _ (s t : List ℕ) (c : Channel) (long : length s ≡ length t) (n m : ℕ) where
+  pub same-refusal : (idSize : ℕ) → valueOf s idSize c ≡ refusal n m → valueOf t idSize c ≡ refusal n m
+  same-refusal idSize e = refusal-locality s t idSize c n m long e
 
-  pub same-valid-refusal : (dataBytes : ℕ) → validValueOf s idSize dataBytes c ≡ refusal n m → validValueOf t idSize dataBytes c ≡ refusal n m
+  pub same-valid-refusal : (g : Group) → validValueOf s g c ≡ refusal n m → validValueOf t g c ≡ refusal n m
   unfolding validValueOf
-  same-valid-refusal dataBytes e = refused-made _ (valueOf t idSize c) n m (same-refusal (made-refused _ (valueOf s idSize c) n m e))
+  same-valid-refusal g e =
+      refused-made _ (valueOf t (g .idSize) c) n m (same-refusal (g .idSize) (made-refused _ (valueOf s (g .idSize) c) n m e))
 
-module _ (κs : Lfts 1) (s t : Slice) (idSize : ℕ) (channel : Description) (long : length (s .now) ≡ length (t .now)) (n m : ℕ) where
-  pub value-read-refused : (y z : ValueRead) → ReadsValue κs s idSize channel y → ReadsValue κs t idSize channel z
+module _ (κs : Lfts 1) (s t : Slice) (channel : Description) (long : length (s .now) ≡ length (t .now)) (n m : ℕ) where
+  pub value-read-refused : (idSize : ℕ) (y z : ValueRead) → ReadsValue κs s idSize channel y → ReadsValue κs t idSize channel z
       → valueReply y ≡ refusal n m → valueReply z ≡ refusal n m
-  value-read-refused y z p q e = q ∙ same-refusal (s .now) (t .now) idSize (channelMeant channel) long n m (sym p ∙ e)
+  value-read-refused idSize y z p q e = q ∙ same-refusal (s .now) (t .now) (channelMeant channel) long n m idSize (sym p ∙ e)
 
-  pub valid-value-read-refused : (dataBytes : ℕ) (y z : ValidValueRead) → ReadsValidValue κs s idSize dataBytes channel y
-      → ReadsValidValue κs t idSize dataBytes channel z → validValueReply y ≡ refusal n m → validValueReply z ≡ refusal n m
-  valid-value-read-refused dataBytes y z p q e = q ∙ same-valid-refusal (s .now) (t .now) idSize (channelMeant channel) long n m dataBytes (sym p ∙ e)
+  pub valid-value-read-refused : (group : Grouped) (y z : ValidValueRead) → ReadsValidValue κs s group channel y
+      → ReadsValidValue κs t group channel z → validValueReply y ≡ refusal n m → validValueReply z ≡ refusal n m
+  valid-value-read-refused group y z p q e = q ∙ same-valid-refusal (s .now) (t .now) (channelMeant channel) long n m (groupMeant group) (sym p ∙ e)
 
 -- validity alone reads that one bit
-pub validity-alike : (κs : Lfts 1) (s t : Slice) (idSize dataBytes : ℕ) (channel : Description)
-    → invalidationBitIn (s .now) idSize dataBytes (channelMeant channel) ≡ invalidationBitIn (t .now) idSize dataBytes (channelMeant channel)
-    → (y z : Bool) → ChecksValidity κs s idSize dataBytes channel y → ChecksValidity κs t idSize dataBytes channel z → y ≡ z
-validity-alike κs s t idSize dataBytes channel e y z p q = p ∙ one-bit (s .now) (t .now) idSize dataBytes (channelMeant channel) e ∙ sym q
+pub validity-alike : (κs : Lfts 1) (s t : Slice) (group : Grouped) (channel : Description)
+    → invalidationBitIn (s .now) (groupMeant group) (channelMeant channel) ≡ invalidationBitIn (t .now) (groupMeant group) (channelMeant channel)
+    → (y z : Bool) → ChecksValidity κs s group channel y → ChecksValidity κs t group channel z → y ≡ z
+validity-alike κs s t group channel e y z p q = p ∙ one-bit (s .now) (t .now) (groupMeant group) (channelMeant channel) e ∙ sym q
 
 -- ---- for C
 
@@ -106,27 +112,29 @@ module _ (κs : Lfts 1) (s t : Slice) (idSize : ℕ) (channel : Mf4Channel) (h :
   pub mf4-decode-double-bits-alike : (y z : ℕ) → ReadsDoubleC κs s idSize channel y → ReadsDoubleC κs t idSize channel z → y ≡ z
   mf4-decode-double-bits-alike y z p q = p ∙ same-double (s .now) (t .now) idSize (channelGiven channel) h ∙ sym q
 
-  pub mf4-decode-valid-value-alike : (dataBytes : ℕ) → invalidationBitIn (s .now) idSize dataBytes (channelGiven channel) ≡ invalidationBitIn (t .now) idSize dataBytes (channelGiven channel)
-      → (y z : Mf4ValidValueReply) → ReadsValidValueC κs s idSize dataBytes channel y → ReadsValidValueC κs t idSize dataBytes channel z → y ≡ z
-  mf4-decode-valid-value-alike dataBytes e y z p q =
-      p ∙ ap validValueC (same-valid-value (s .now) (t .now) idSize (channelGiven channel) h dataBytes e) ∙ sym q
+pub mf4-decode-valid-value-alike : (κs : Lfts 1) (s t : Slice) (group : Mf4Group) (channel : Mf4Channel)
+    → Alike (s .now) (t .now) (groupGiven group .idSize) (channelGiven channel)
+    → invalidationBitIn (s .now) (groupGiven group) (channelGiven channel) ≡ invalidationBitIn (t .now) (groupGiven group) (channelGiven channel)
+    → (y z : Mf4ValidValueReply) → ReadsValidValueC κs s group channel y → ReadsValidValueC κs t group channel z → y ≡ z
+mf4-decode-valid-value-alike κs s t group channel h e y z p q =
+    p ∙ ap validValueC (same-valid-value (s .now) (t .now) (groupGiven group) (channelGiven channel) h e) ∙ sym q
 
 -- of the reply that the struct tells
-module _ (κs : Lfts 1) (s t : Slice) (idSize : ℕ) (channel : Mf4Channel) (long : length (s .now) ≡ length (t .now)) (n m : ℕ) where
-  pub mf4-decode-value-refused : (y z : Mf4ValueReply) → ReadsValueC κs s idSize channel y → ReadsValueC κs t idSize channel z
+module _ (κs : Lfts 1) (s t : Slice) (channel : Mf4Channel) (long : length (s .now) ≡ length (t .now)) (n m : ℕ) where
+  pub mf4-decode-value-refused : (idSize : ℕ) (y z : Mf4ValueReply) → ReadsValueC κs s idSize channel y → ReadsValueC κs t idSize channel z
       → valueReplyAgain y ≡ refusal n m → valueReplyAgain z ≡ refusal n m
-  mf4-decode-value-refused y z p q e =
+  mf4-decode-value-refused idSize y z p q e =
       mf4-decode-value-told κs t idSize channel z q
-      ∙ same-refusal (s .now) (t .now) idSize (channelGiven channel) long n m (sym (mf4-decode-value-told κs s idSize channel y p) ∙ e)
+      ∙ same-refusal (s .now) (t .now) (channelGiven channel) long n m idSize (sym (mf4-decode-value-told κs s idSize channel y p) ∙ e)
 
-  pub mf4-decode-valid-value-refused : (dataBytes : ℕ) (y z : Mf4ValidValueReply) → ReadsValidValueC κs s idSize dataBytes channel y
-      → ReadsValidValueC κs t idSize dataBytes channel z → validValueAgain y ≡ refusal n m → validValueAgain z ≡ refusal n m
-  mf4-decode-valid-value-refused dataBytes y z p q e =
-      mf4-decode-valid-value-told κs t idSize dataBytes channel z q
-      ∙ same-valid-refusal (s .now) (t .now) idSize (channelGiven channel) long n m dataBytes (sym (mf4-decode-valid-value-told κs s idSize dataBytes channel y p) ∙ e)
+  pub mf4-decode-valid-value-refused : (group : Mf4Group) (y z : Mf4ValidValueReply) → ReadsValidValueC κs s group channel y
+      → ReadsValidValueC κs t group channel z → validValueAgain y ≡ refusal n m → validValueAgain z ≡ refusal n m
+  mf4-decode-valid-value-refused group y z p q e =
+      mf4-decode-valid-value-told κs t group channel z q
+      ∙ same-valid-refusal (s .now) (t .now) (channelGiven channel) long n m (groupGiven group) (sym (mf4-decode-valid-value-told κs s group channel y p) ∙ e)
 
-pub mf4-check-validity-alike : (κs : Lfts 1) (s t : Slice) (idSize dataBytes : ℕ) (channel : Mf4Channel)
-    → invalidationBitIn (s .now) idSize dataBytes (channelGiven channel) ≡ invalidationBitIn (t .now) idSize dataBytes (channelGiven channel)
-    → (y z : ℕ) → ChecksValidityC κs s idSize dataBytes channel y → ChecksValidityC κs t idSize dataBytes channel z → y ≡ z
-mf4-check-validity-alike κs s t idSize dataBytes channel e y z p q =
-    p ∙ ap flagC (one-bit (s .now) (t .now) idSize dataBytes (channelGiven channel) e) ∙ sym q
+pub mf4-check-validity-alike : (κs : Lfts 1) (s t : Slice) (group : Mf4Group) (channel : Mf4Channel)
+    → invalidationBitIn (s .now) (groupGiven group) (channelGiven channel) ≡ invalidationBitIn (t .now) (groupGiven group) (channelGiven channel)
+    → (y z : ℕ) → ChecksValidityC κs s group channel y → ChecksValidityC κs t group channel z → y ≡ z
+mf4-check-validity-alike κs s t group channel e y z p q =
+    p ∙ ap flagC (one-bit (s .now) (t .now) (groupGiven group) (channelGiven channel) e) ∙ sym q

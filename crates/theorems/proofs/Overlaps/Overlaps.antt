@@ -10,8 +10,8 @@ use lib.Dec.{ltb, eqb}
 use lib.ListN.{length, getD}
 use borrow.Author.Tests.{ltb-true, ltb-false, eqb-true, eqb-false}
 use Rattle.definitions.specs.Reply.{Reply, answer, refusal, if_then_else_}
-use Rattle.definitions.specs.Channel.{Channel}
-use Rattle.definitions.specs.Overlap.{shareABit, isFixedNumber, Overlap, pair, none, pairWith, firstPair, allFixed, channelLimit, overlapOf}
+use Rattle.definitions.specs.Channel.{Channel, isSoundNumber}
+use Rattle.definitions.specs.Overlap.{shareABit, Overlap, pair, none, pairWith, firstPair, allFixed, channelLimit, overlapOf}
 use Rattle.definitions.proofs.Replies.{not-answered}
 use Rattle.theorems.specs.Exactly.{Exactly}
 use Rattle.theorems.specs.OverlapEnds.{fixedAt, shareAt, Searchable, FirstOther, Earlier, FirstPair, NoPair, OverlapEnds, too-many, no-fixed-number, a-pair, no-pair}
@@ -201,7 +201,7 @@ module _ (other : Channel) where
   entries : (p : ℕ) (cs : List Channel) (r : Reply Overlap) → AllFixed cs r (allFixed p cs r) ⊎ OneOther p cs (allFixed p cs r)
   unfolding allFixed
   entries p [] r = inl (λ i l. let no : ⊥ = omega arith in nothing no, refl)
-  entries p (c ∷ cs) r = go (isFixedNumber c) refl (entries (p + 1) cs r)
+  entries p (c ∷ cs) r = go (isSoundNumber c) refl (entries (p + 1) cs r)
     where
       some : 0 < suc (length cs)
       some = omega arith
@@ -218,11 +218,11 @@ module _ (other : Channel) where
       here : p ≡ p + 0
       here = omega arith
 
-      each : isFixedNumber c ≡ true → (n : ℕ) → ((i : ℕ) → i < n → fixedAt other cs i ≡ true) → (i : ℕ) → i < suc n → fixedAt other (c ∷ cs) i ≡ true
+      each : isSoundNumber c ≡ true → (n : ℕ) → ((i : ℕ) → i < n → fixedAt other cs i ≡ true) → (i : ℕ) → i < suc n → fixedAt other (c ∷ cs) i ≡ true
       each e n f zero l = e
       each e n f (suc i) l = f i (down i n l)
 
-      go : (t : Bool) → isFixedNumber c ≡ t → AllFixed cs r (allFixed (p + 1) cs r) ⊎ OneOther (p + 1) cs (allFixed (p + 1) cs r)
+      go : (t : Bool) → isSoundNumber c ≡ t → AllFixed cs r (allFixed (p + 1) cs r) ⊎ OneOther (p + 1) cs (allFixed (p + 1) cs r)
           → AllFixed (c ∷ cs) r (if t then allFixed (p + 1) cs r else refusal 27 p) ⊎ OneOther p (c ∷ cs) (if t then allFixed (p + 1) cs r else refusal 27 p)
       go true e rest =
           ⊎-elim (λ (f, q). inl (each e (length cs) f, q))

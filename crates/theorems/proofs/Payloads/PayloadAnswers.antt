@@ -10,7 +10,7 @@ use borrow.Author.Tests.{le-ltb, ltb-false}
 use Rattle.definitions.specs.Reply.{answer, refusal, if_then_else_}
 use Rattle.definitions.specs.Bytes.{span, u32At, u64At}
 use Rattle.definitions.specs.DataType.{kindOf}
-use Rattle.definitions.specs.Channel.{Channel, Value, isNumber, spanIn, decoded, valueOf, validOf}
+use Rattle.definitions.specs.Channel.{Channel, Group, Value, isNumber, spanIn, decoded, valueOf, validOf}
 use Rattle.definitions.specs.Chain.{Block, joined, chainOf}
 use Rattle.definitions.specs.Payload.{idSD, positionOf, payloadAt, joinedOf, payloadOf, PayloadValue, Outcomes, payloadValueOf, payloadFetched}
 use Rattle.definitions.proofs.Replies.{not-answered}
@@ -73,23 +73,23 @@ module _ (f s : List ℕ) (idSize : ℕ) (c : Channel) where
 
 -- ---- the call
 
-module _ (f : List ℕ) (start k size idSize dataBytes : ℕ) (c : Channel) (out room : List ℕ) where
+module _ (f : List ℕ) (start k size : ℕ) (g : Group) (c : Channel) (out room : List ℕ) where
   -- from an answer
-  module _ (a : PayloadValue) (r : Answered f start k size idSize dataBytes c out room a) where
+  module _ (a : PayloadValue) (r : Answered f start k size g c out room a) where
     abbrev at : ℕ
-    at = u64At (recordBytes f start k size out (r .fetchable)) (idSize + c .byteOffset)
+    at = u64At (recordBytes f start k size out (r .fetchable)) (g .idSize + c .byteOffset)
 
-    lies : Found f (recordBytes f start k size out (r .fetchable)) idSize c (r .payload)
-    lies = found-told f (recordBytes f start k size out (r .fetchable)) idSize c (r .payload) (r .told)
+    lies : Found f (recordBytes f start k size out (r .fetchable)) (g .idSize) c (r .payload)
+    lies = found-told f (recordBytes f start k size out (r .fetchable)) (g .idSize) c (r .payload) (r .told)
 
     as-long : length (r .payload) ≡ u32At (joined f (lies .blocks)) at
     as-long = ap length (lies .is) ∙ length-span (joined f (lies .blocks)) (at + 4) _ (lies .inside)
 
     enough : isNumber (kindOf (c .dataType)) ≡ true → (b : Bool) → ltb (length (r .payload)) 8 ≡ b → 8 ≤ u32At (joined f (lies .blocks)) at
-    enough number true l = not-answered (a .value) 21 8 (sym (payload-replied (r .payload) idSize c (r .positioned) ∙ rw (number, l)) ∙ r .value-is)
+    enough number true l = not-answered (a .value) 21 8 (sym (payload-replied (r .payload) (g .idSize) c (r .positioned) ∙ rw (number, l)) ∙ r .value-is)
     enough number false l = omega (arith, as-long, ltb-false (length (r .payload)) 8 l)
 
-    of-answer : PayloadFetchable f start k size idSize c out room
+    of-answer : PayloadFetchable f start k size (g .idSize) c out room
     of-answer = record {
       positioned = r .positioned;
       fetchable = r .fetchable;
@@ -106,11 +106,11 @@ module _ (f : List ℕ) (start k size idSize dataBytes : ℕ) (c : Channel) (out
     }
 
   -- and back
-  module _ (q : PayloadFetchable f start k size idSize c out room) where
+  module _ (q : PayloadFetchable f start k size (g .idSize) c out room) where
     abbrev payload : List ℕ
     payload = span (joined f (q .blocks)) (q .position + 4) (q .n)
 
-    found : Found f (recordBytes f start k size out (q .fetchable)) idSize c payload
+    found : Found f (recordBytes f start k size out (q .fetchable)) (g .idSize) c payload
     found = record {
       within = omega (arith, q .within, length-span (joined f (q .fetchable .blocks)) (k * size) size (q .fetchable .inside));
       blocks = q .blocks;
@@ -129,22 +129,22 @@ module _ (f : List ℕ) (start k size idSize dataBytes : ℕ) (c : Channel) (out
     abbrev value : Value
     value = decoded (c .dataType) payload 0 (spanIn true (kindOf (c .dataType)) (length payload) c) c
 
-    value-is : valueOf payload idSize c ≡ answer value
+    value-is : valueOf payload (g .idSize) c ≡ answer value
     value-is =
-        payload-replied payload idSize c (q .positioned)
+        payload-replied payload (g .idSize) c (q .positioned)
         ∙ ap (λ (b : Bool). if b then refusal 21 8 else answer value) (not-short (isNumber (kindOf (c .dataType))) refl)
 
     -- what is answered
     abbrev judged : PayloadValue
-    judged = record { value = value; valid = validOf (recordBytes f start k size out (q .fetchable)) idSize dataBytes c; size = length payload }
+    judged = record { value = value; valid = validOf (recordBytes f start k size out (q .fetchable)) g c; size = length payload }
 
-    replied : payloadFetched f start k size idSize dataBytes c out room .reply ≡ answer judged
+    replied : payloadFetched f start k size g c out room .reply ≡ answer judged
     unfolding payloadValueOf
     replied =
-        let told = told-found f (recordBytes f start k size out (q .fetchable)) idSize c payload found in
+        let told = told-found f (recordBytes f start k size out (q .fetchable)) (g .idSize) c payload found in
         let fits : length payload ≤ length room = omega (arith, long, q .fits) in
-        ap (λ (o : Outcomes PayloadValue). o .reply) (by-record f start k size idSize dataBytes c out room (q .positioned) (q .fetchable))
+        ap (λ (o : Outcomes PayloadValue). o .reply) (by-record f start k size g c out room (q .positioned) (q .fetchable))
         ∙ rw (told, le-ltb _ _ fits, value-is)
 
-  pub payload-exactly : Exactly (PayloadFetchable f start k size idSize c out room) (payloadFetched f start k size idSize dataBytes c out room .reply)
-  payload-exactly = record { answers = λ q. (judged q, replied q); only = λ a e. of-answer a (payload-answered f start k size idSize dataBytes c out room a e) }
+  pub payload-exactly : Exactly (PayloadFetchable f start k size (g .idSize) c out room) (payloadFetched f start k size g c out room .reply)
+  payload-exactly = record { answers = λ q. (judged q, replied q); only = λ a e. of-answer a (payload-answered f start k size g c out room a e) }

@@ -9,7 +9,7 @@ use lib.Dec.{ltb, eqb}
 use borrow.Author.Tests.{eq-eqb, ne-eqb, le-ltb, eqb-true, eqb-false, ltb-true, ltb-false, not-true}
 use Rattle.definitions.specs.Reply.{Reply, Outcome, answer, refusal, if_then_else_, andThen, told}
 use Rattle.definitions.specs.DataType.{Kind, integer, floating, whole, undecoded, kindOf}
-use Rattle.definitions.specs.Channel.{Channel, Value, variableLength, spanIn, decoded, isNumber, valueBy, valueOf}
+use Rattle.definitions.specs.Channel.{Channel, Group, Value, variableLength, spanIn, decoded, isNumber, valueBy, valueOf}
 use Rattle.definitions.specs.Chain.{joined, fetched}
 use Rattle.definitions.specs.Payload.{idSD, holdsPosition, joinedOf, stored, PayloadValue, Outcomes, payloadValueOf, payloadBehind, payloadFetched}
 use Rattle.definitions.proofs.Replies.{not-answered, both}
@@ -85,14 +85,14 @@ module _ (s : List ℕ) (idSize : ℕ) (c : Channel) (p : Positioned c) where
 outcome-is : {A : Type 0} (o : Outcome A) {r : Reply A} {b : List ℕ} → o .reply ≡ r → o .buffer ≡ b → o ≡ record { reply = r; buffer = b }
 outcome-is o er eb = rw (sym er, sym eb)
 
-module _ (f : List ℕ) (start k size idSize dataBytes : ℕ) (c : Channel) (out room : List ℕ) where
+module _ (f : List ℕ) (start k size : ℕ) (g : Group) (c : Channel) (out room : List ℕ) where
   abbrev Ends : Type 0
-  Ends = PayloadEnds f start k size idSize dataBytes c out room (payloadFetched f start k size idSize dataBytes c out room)
+  Ends = PayloadEnds f start k size g c out room (payloadFetched f start k size g c out room)
 
   abbrev behind : Outcome (Unit {0}) → Outcomes PayloadValue
-  behind o = payloadBehind (joinedOf idSD f (c .dataLink)) size idSize dataBytes c o room
+  behind o = payloadBehind (joinedOf idSD f (c .dataLink)) size g c o room
 
-  by-fetch : holdsPosition c ≡ true → payloadFetched f start k size idSize dataBytes c out room ≡ behind (fetched f start k size out)
+  by-fetch : holdsPosition c ≡ true → payloadFetched f start k size g c out room ≡ behind (fetched f start k size out)
   unfolding payloadFetched
   by-fetch h = rw h
 
@@ -100,30 +100,30 @@ module _ (f : List ℕ) (start k size idSize dataBytes : ℕ) (c : Channel) (out
   module _ (p : Positioned c) (h : Fetchable f start k size out) where
     abbrev found : Reply (List ℕ) → Outcomes PayloadValue
     found payload = record {
-      reply = andThen (stored payload room .reply) (payloadValueOf (recordBytes f start k size out h) idSize dataBytes c);
+      reply = andThen (stored payload room .reply) (payloadValueOf (recordBytes f start k size out h) g c);
       recordBuffer = recordLeft f start k size out h;
       payloadBuffer = stored payload room .buffer;
     }
 
-    pub by-record : payloadFetched f start k size idSize dataBytes c out room ≡ found (payloadTold f start k size out h idSize c)
+    pub by-record : payloadFetched f start k size g c out room ≡ found (payloadTold f start k size out h (g .idSize) c)
     by-record =
         let l : length (recordBytes f start k size out h) ≡ size = length-span (joined f (h .blocks)) (k * size) size (h .inside) in
         by-fetch (held c p) ∙ ap behind (fetched-record f start k size out h) ∙ rw (front-of (recordBytes f start k size out h) (drop size out) size l)
 
-    by-value : (payload : List ℕ) → payloadTold f start k size out h idSize c ≡ answer payload → ltb (length room) (length payload) ≡ false
-        → (r : Reply Value) → valueOf payload idSize c ≡ r → Ends
+    by-value : (payload : List ℕ) → payloadTold f start k size out h (g .idSize) c ≡ answer payload → ltb (length room) (length payload) ≡ false
+        → (r : Reply Value) → valueOf payload (g .idSize) c ≡ r → Ends
     unfolding payloadValueOf
     by-value payload e fits (refusal n t) ev =
-        let short = only-too-short payload idSize c p n t ev in
-        let so : valueOf payload idSize c ≡ refusal 21 8 = ev ∙ rw (short .2, short .3) in
+        let short = only-too-short payload (g .idSize) c p n t ev in
+        let so : valueOf payload (g .idSize) c ≡ refusal 21 8 = ev ∙ rw (short .2, short .3) in
         no-value h payload p e (ltb-false _ _ fits) (short .0) (short .1) (by-record ∙ ap found e ∙ rw (fits, so))
     by-value payload e fits (answer v) ev = a-value h payload v p e (ltb-false _ _ fits) ev (by-record ∙ ap found e ∙ rw (fits, ev))
 
-    by-room : (payload : List ℕ) → payloadTold f start k size out h idSize c ≡ answer payload → (b : Bool) → ltb (length room) (length payload) ≡ b → Ends
+    by-room : (payload : List ℕ) → payloadTold f start k size out h (g .idSize) c ≡ answer payload → (b : Bool) → ltb (length room) (length payload) ≡ b → Ends
     by-room payload e true l = no-room h payload p e (ltb-true _ _ l) (by-record ∙ ap found e ∙ rw l)
-    by-room payload e false l = by-value payload e l (valueOf payload idSize c) refl
+    by-room payload e false l = by-value payload e l (valueOf payload (g .idSize) c) refl
 
-    by-payload : (r : Reply (List ℕ)) → payloadTold f start k size out h idSize c ≡ r → Ends
+    by-payload : (r : Reply (List ℕ)) → payloadTold f start k size out h (g .idSize) c ≡ r → Ends
     by-payload (refusal n t) e = no-payload h n t p e (by-record ∙ ap found e)
     by-payload (answer payload) e = by-room payload e (ltb (length room) (length payload)) refl
 
@@ -133,7 +133,7 @@ module _ (f : List ℕ) (start k size idSize dataBytes : ℕ) (c : Channel) (out
       (by-fetch holds ∙ ap behind (outcome-is (fetched f start k size out) e (fetch-leaves out f start k size .refused n t e)))
   by-reply holds (answer u) e =
       let h : Fetchable f start k size out = fetched-exactly f start k size out .only u e in
-      by-payload (positioned c holds) h (payloadTold f start k size out h idSize c) refl
+      by-payload (positioned c holds) h (payloadTold f start k size out h (g .idSize) c) refl
 
   by-position : (b : Bool) → holdsPosition c ≡ b → Ends
   unfolding payloadFetched
@@ -152,15 +152,15 @@ module _ (f : List ℕ) (start k size idSize dataBytes : ℕ) (c : Channel) (out
       → o ≡ record { reply = refusal n t; recordBuffer = left; payloadBuffer = later } → Numbered OfPayloads (o .reply)
   as-refused n t p row = as-row (of-refusal OfPayloads n t p) row
 
-  by-row : (o : Outcomes PayloadValue) → PayloadEnds f start k size idSize dataBytes c out room o → Numbered OfPayloads (o .reply)
+  by-row : (o : Outcomes PayloadValue) → PayloadEnds f start k size g c out room o → Numbered OfPayloads (o .reply)
   by-row o (no-position p row) = as-refused _ _ refl row
   by-row o (no-record n t p e row) = as-refused n t (of-blocks-too n t (fetched-numbered f start k size out n t e)) row
-  by-row o (no-payload h n t p e row) = as-refused n t (payload-numbered f _ idSize c n t e) row
+  by-row o (no-payload h n t p e row) = as-refused n t (payload-numbered f _ (g .idSize) c n t e) row
   by-row o (no-room h payload p e l row) = as-refused _ _ refl row
   by-row o (no-value h payload p e l number short row) = as-refused _ _ refl row
   by-row o (a-value h payload v p e l ev row) = as-row (of-answer OfPayloads _) row
 
-  pub fetched-payload-numbered : Numbered OfPayloads (payloadFetched f start k size idSize dataBytes c out room .reply)
+  pub fetched-payload-numbered : Numbered OfPayloads (payloadFetched f start k size g c out room .reply)
   fetched-payload-numbered = by-row _ payload-ends
 
   -- an answer comes of the last row
@@ -168,16 +168,16 @@ module _ (f : List ℕ) (start k size idSize dataBytes : ℕ) (c : Channel) (out
     pub fetchable : Fetchable f start k size out
     pub payload : List ℕ
     pub positioned : Positioned c
-    pub told : payloadTold f start k size out fetchable idSize c ≡ answer payload
+    pub told : payloadTold f start k size out fetchable (g .idSize) c ≡ answer payload
     pub fits : length payload ≤ length room
-    pub value-is : valueOf payload idSize c ≡ answer (a .value)
+    pub value-is : valueOf payload (g .idSize) c ≡ answer (a .value)
 
   module _ (a : PayloadValue) where
     refused-row : {o : Outcomes PayloadValue} {n t : ℕ} {left later : List ℕ} → o .reply ≡ answer a
         → o ≡ record { reply = refusal n t; recordBuffer = left; payloadBuffer = later } → Answered a
     refused-row {n = n} {t = t} e row = not-answered a n t (sym (ap (λ (x : Outcomes PayloadValue). x .reply) row) ∙ e)
 
-    answered-row : (o : Outcomes PayloadValue) → PayloadEnds f start k size idSize dataBytes c out room o → o .reply ≡ answer a → Answered a
+    answered-row : (o : Outcomes PayloadValue) → PayloadEnds f start k size g c out room o → o .reply ≡ answer a → Answered a
     answered-row o (no-position p row) e = refused-row e row
     answered-row o (no-record n t p r row) e = refused-row e row
     answered-row o (no-payload h n t p r row) e = refused-row e row
@@ -187,5 +187,5 @@ module _ (f : List ℕ) (start k size idSize dataBytes : ℕ) (c : Channel) (out
         let same : v ≡ a .value = ap (λ (x : PayloadValue). x .value) (answered (sym (ap (λ (x : Outcomes PayloadValue). x .reply) row) ∙ e)) in
         record { fetchable = h; payload = payload; positioned = p; told = r; fits = fits; value-is = ev ∙ ap answer same }
 
-    pub payload-answered : payloadFetched f start k size idSize dataBytes c out room .reply ≡ answer a → Answered a
+    pub payload-answered : payloadFetched f start k size g c out room .reply ≡ answer a → Answered a
     payload-answered = answered-row _ payload-ends

@@ -6,11 +6,12 @@ use Prim.Native.Nat.{ℕ, zero, suc, _<_}
 use native.Mathlib.Omega.{arith}
 use contract.Lifetimes.{Lfts}
 use Rattle.definitions.specs.Reply.{Reply, answer, refusal}
-use Rattle.definitions.specs.Channel.{Channel}
+use Rattle.definitions.specs.Channel.{Channel, Group}
 use Rattle.definitions.specs.Payload.{PayloadValue, Outcomes, payloadFetched}
 use Rattle.mf4.specs.Clauses.{Slice}
-use Rattle.replies.specs.Values.{channelGiven, ReturnedBoth}
+use Rattle.replies.specs.Values.{channelGiven, groupGiven, ReturnedBoth}
 use Rattle.replies.specs.declared.channel.Mf4Channel.{Mf4Channel}
+use Rattle.replies.specs.declared.group.Mf4Group.{Mf4Group}
 use Rattle.replies.specs.declared.payload.Mf4PayloadReply.{Mf4PayloadReply}
 use Rattle.replies.proofs.ToldToC.{Tellable, Reversible, payloadAgain, payload-told}
 use Rattle.theorems.specs.ClausesToC.{ReadsPayloadC}
@@ -31,40 +32,40 @@ none-is-zero : (n t : ℕ) → OfPayloads n t → 0 < n
 none-is-zero zero t h = absurd (true≢false (sym h))
 none-is-zero (suc n) t h = omega arith
 
-module _ (f : List ℕ) (start k size idSize dataBytes : ℕ) (c : Channel) (out room : List ℕ) where
+module _ (f : List ℕ) (start k size : ℕ) (g : Group) (c : Channel) (out room : List ℕ) where
   by-reply : (r : Reply PayloadValue) → Numbered OfPayloads r → ((v : PayloadValue) → r ≡ answer v → Told v) → Tellable Told r
   by-reply (answer v) h g = g v refl
   by-reply (refusal n t) h g = none-is-zero n t (h n t refl)
 
-  told-value : (v : PayloadValue) → payloadFetched f start k size idSize dataBytes c out room .reply ≡ answer v → Told v
+  told-value : (v : PayloadValue) → payloadFetched f start k size g c out room .reply ≡ answer v → Told v
   told-value v e =
-      let r = payload-answered f start k size idSize dataBytes c out room v e in
-      subst (Tellable Reversible) (r .value-is) (value-tellable (r .payload) idSize c)
+      let r = payload-answered f start k size g c out room v e in
+      subst (Tellable Reversible) (r .value-is) (value-tellable (r .payload) (g .idSize) c)
 
-  payload-tellable : Tellable Told (payloadFetched f start k size idSize dataBytes c out room .reply)
-  payload-tellable = by-reply _ (fetched-payload-numbered f start k size idSize dataBytes c out room) told-value
+  payload-tellable : Tellable Told (payloadFetched f start k size g c out room .reply)
+  payload-tellable = by-reply _ (fetched-payload-numbered f start k size g c out room) told-value
 
 -- ---- the call
 
-module _ (κs : Lfts 3) (file : Slice) (start number size idSize dataBytes : ℕ) (channel : Mf4Channel) (out room : Slice)
-    (y : Mf4PayloadReply) (after later : List ℕ) (p : ReadsPayloadC κs file start number size idSize dataBytes channel out room y after later) where
+module _ (κs : Lfts 3) (file : Slice) (start number size : ℕ) (group : Mf4Group) (channel : Mf4Channel) (out room : Slice)
+    (y : Mf4PayloadReply) (after later : List ℕ) (p : ReadsPayloadC κs file start number size group channel out room y after later) where
   abbrev given : Outcomes PayloadValue
-  given = payloadFetched (file .now) start number size idSize dataBytes (channelGiven channel) (out .now) (room .now)
+  given = payloadFetched (file .now) start number size (groupGiven group) (channelGiven channel) (out .now) (room .now)
 
   pub mf4-record-payload-told : payloadAgain y ≡ given .reply
   mf4-record-payload-told =
       ap (λ (x : ReturnedBoth Mf4PayloadReply). payloadAgain (x .result)) p
-      ∙ payload-told _ (payload-tellable (file .now) start number size idSize dataBytes (channelGiven channel) (out .now) (room .now))
+      ∙ payload-told _ (payload-tellable (file .now) start number size (groupGiven group) (channelGiven channel) (out .now) (room .now))
 
-  pub mf4-record-payload-ends : PayloadEnds (file .now) start number size idSize dataBytes (channelGiven channel) (out .now) (room .now)
+  pub mf4-record-payload-ends : PayloadEnds (file .now) start number size (groupGiven group) (channelGiven channel) (out .now) (room .now)
       (record { reply = payloadAgain y; recordBuffer = after; payloadBuffer = later })
   mf4-record-payload-ends =
       let left : after ≡ given .recordBuffer = ap (λ (x : ReturnedBoth Mf4PayloadReply). x .recordBuffer) p in
       let kept : later ≡ given .payloadBuffer = ap (λ (x : ReturnedBoth Mf4PayloadReply). x .payloadBuffer) p in
       rw (mf4-record-payload-told, left, kept)
-      (payload-ends (file .now) start number size idSize dataBytes (channelGiven channel) (out .now) (room .now))
+      (payload-ends (file .now) start number size (groupGiven group) (channelGiven channel) (out .now) (room .now))
 
-  pub record-payload-zero : ExactlyZero (PayloadFetchable (file .now) start number size idSize (channelGiven channel) (out .now) (room .now)) (y .reply)
+  pub record-payload-zero : ExactlyZero (PayloadFetchable (file .now) start number size (groupGiven group .idSize) (channelGiven channel) (out .now) (room .now)) (y .reply)
   record-payload-zero =
       zero-exactly (y .reply) (y .told) _ _ mf4-record-payload-told
-      (payload-exactly (file .now) start number size idSize dataBytes (channelGiven channel) (out .now) (room .now))
+      (payload-exactly (file .now) start number size (groupGiven group) (channelGiven channel) (out .now) (room .now))

@@ -11,18 +11,20 @@ use lib.ListN.{take}
 use lib.Dec.{eqb}
 use borrow.Author.Tests.{ne-eqb}
 use Rattle.definitions.specs.Reply.{Reply, Outcome, answer, refusal, if_then_else_, andThen}
-use Rattle.definitions.specs.Channel.{Channel, variableLength, valueOf, validOf}
+use Rattle.definitions.specs.Channel.{Channel, Group, variableLength, valueOf, validOf}
 use Rattle.definitions.specs.Payload.{idSD, holdsPosition, positionOf, joinedOf, payloadOf, stored, PayloadValue, Outcomes, payloadValueOf, payloadBehind, payloadFetched}
 use Rattle.decoder.proofs.LaidAnew.{laid-anew}
-use Rattle.fields.specs.Meaning.{channelMeant}
+use Rattle.fields.specs.Meaning.{channelMeant, groupMeant}
 use Rattle.fields.specs.declared.channel.Channel as code
+use Rattle.fields.specs.declared.group.Group as code-group
 use Rattle.chain.specs.declared.place.FileAddress.{FileAddress}
 use Rattle.payloads.specs.Meaning.{payloadFetchedBy}
 use Rattle.payloads.specs.declared.value.PayloadRead.{PayloadRead}
 use Rattle.payloads.proofs.Back.{payload-fetched-one}
 use Rattle.mf4.specs.Clauses.{Slice}
-use Rattle.replies.specs.Values.{channelGiven, payloadC, returnedBoth, returnedBothBy}
+use Rattle.replies.specs.Values.{channelGiven, groupGiven, payloadC, returnedBoth, returnedBothBy}
 use Rattle.replies.specs.declared.channel.Mf4Channel.{Mf4Channel}
+use Rattle.replies.specs.declared.group.Mf4Group.{Mf4Group}
 use Rattle.replies.specs.declared.payload.Mf4PayloadReply.{Mf4PayloadReply}
 use Rattle.theorems.specs.Clauses.{ReadsPayload}
 use Rattle.theorems.specs.ClausesToC.{ReadsPayloadC}
@@ -32,10 +34,10 @@ use Rattle.theorems.proofs.Records.TwoFiles.{Joins, JoinsBy, recordIn, 
 
 -- ---- on the joined bytes alone
 
-abbrev pub payloadIn : List ℕ → List ℕ → ℕ → ℕ → ℕ → ℕ → Channel → List ℕ → List ℕ → Outcomes PayloadValue
-payloadIn j s k size idSize dataBytes c out room =
+abbrev pub payloadIn : List ℕ → List ℕ → ℕ → ℕ → Group → Channel → List ℕ → List ℕ → Outcomes PayloadValue
+payloadIn j s k size g c out room =
     if not (holdsPosition c) then record { reply = refusal 35 0; recordBuffer = out; payloadBuffer = room }
-    else payloadBehind (answer s) size idSize dataBytes c (recordIn j k size out) room
+    else payloadBehind (answer s) size g c (recordIn j k size out) room
 
 -- a description with another link to its payloads
 abbrev pub relinked : Channel → ℕ → Channel
@@ -51,10 +53,10 @@ relinked c link = record {
 }
 
 pub payload-of-joined : (f : List ℕ) (start : ℕ) (c : Channel) (j s : List ℕ) → Joins f start j → JoinsBy idSD f (c .dataLink) s
-    → (k size idSize dataBytes : ℕ) (out room : List ℕ)
-    → payloadFetched f start k size idSize dataBytes c out room ≡ payloadIn j s k size idSize dataBytes c out room
+    → (k size : ℕ) (g : Group) (out room : List ℕ)
+    → payloadFetched f start k size g c out room ≡ payloadIn j s k size g c out room
 unfolding payloadFetched joinedOf
-payload-of-joined f start c j s h i k size idSize dataBytes out room =
+payload-of-joined f start c j s h i k size g out room =
     rw (accepts idSD f (c .dataLink) (i .blocks) (i .accepted), i .same, record-of-joined f start j h k size out)
 
 -- ---- where the payloads are linked plays no part, so long as they are
@@ -78,24 +80,24 @@ module _ (c : Channel) (link : ℕ) (from : 0 < c .dataLink) (to : 0 < link) whe
       sym (laid-anew s idSize (relinked c link) (c .dataType) refl {payload = variableLength c} (sym variable-alike) refl refl refl)
       ∙ laid-anew s idSize c (c .dataType) refl refl refl refl refl
 
-  judged-relinked : (s : List ℕ) (idSize dataBytes : ℕ) (payload : List ℕ)
-      → payloadValueOf s idSize dataBytes (relinked c link) payload ≡ payloadValueOf s idSize dataBytes c payload
+  judged-relinked : (s : List ℕ) (g : Group) (payload : List ℕ)
+      → payloadValueOf s g (relinked c link) payload ≡ payloadValueOf s g c payload
   unfolding payloadValueOf validOf
-  judged-relinked s idSize dataBytes payload = rw (value-relinked payload idSize)
+  judged-relinked s g payload = rw (value-relinked payload (g .idSize))
 
-  behind-relinked : (j : Reply (List ℕ)) (size idSize dataBytes : ℕ) (o : Outcome (Unit {0})) (room : List ℕ)
-      → payloadBehind j size idSize dataBytes (relinked c link) o room ≡ payloadBehind j size idSize dataBytes c o room
+  behind-relinked : (j : Reply (List ℕ)) (size : ℕ) (g : Group) (o : Outcome (Unit {0})) (room : List ℕ)
+      → payloadBehind j size g (relinked c link) o room ≡ payloadBehind j size g c o room
   unfolding payloadOf positionOf
-  behind-relinked j size idSize dataBytes o room =
-      let p = stored (andThen (o .reply) (λ u. payloadOf j (take size (o .buffer)) idSize c)) room in
+  behind-relinked j size g o room =
+      let p = stored (andThen (o .reply) (λ u. payloadOf j (take size (o .buffer)) (g .idSize) c)) room in
       ap (λ (r : Reply PayloadValue). record { reply = r; recordBuffer = o .buffer; payloadBuffer = p .buffer })
-      (andThen-alike (p .reply) (judged-relinked (take size (o .buffer)) idSize dataBytes))
+      (andThen-alike (p .reply) (judged-relinked (take size (o .buffer)) g))
 
-  pub link-alike : (j s : List ℕ) (k size idSize dataBytes : ℕ) (out room : List ℕ)
-      → payloadIn j s k size idSize dataBytes (relinked c link) out room ≡ payloadIn j s k size idSize dataBytes c out room
-  link-alike j s k size idSize dataBytes out room =
+  pub link-alike : (j s : List ℕ) (k size : ℕ) (g : Group) (out room : List ℕ)
+      → payloadIn j s k size g (relinked c link) out room ≡ payloadIn j s k size g c out room
+  link-alike j s k size g out room =
       ap₂ (λ (b : Bool) (o : Outcomes PayloadValue). if not b then record { reply = refusal 35 0; recordBuffer = out; payloadBuffer = room } else o)
-      held-alike (behind-relinked (answer s) size idSize dataBytes (recordIn j k size out) room)
+      held-alike (behind-relinked (answer s) size g (recordIn j k size out) room)
 
 -- ---- the calls
 
@@ -105,11 +107,11 @@ module _ (c : Channel) (link : ℕ) (from : 0 < c .dataLink) (to : 0 < link) whe
 module _ {Start Description Result Meaning : Type 0} (address : Start → ℕ) (described : Description → Channel)
     (Says : Slice → Start → Description → Slice → Slice → Result → List ℕ → List ℕ → Type 0)
     (meaning : Result → List ℕ → List ℕ → Meaning) (shown : Outcomes PayloadValue → Meaning)
-    (number size idSize dataBytes : ℕ) where
+    (number size : ℕ) (group : Group) where
   abbrev AsDefined : Type 0
   AsDefined = (file : Slice) (start : Start) (c : Description) (out room : Slice) (y : Result) (after later : List ℕ)
       → Says file start c out room y after later
-      → meaning y after later ≡ shown (payloadFetched (file .now) (address start) number size idSize dataBytes (described c) (out .now) (room .now))
+      → meaning y after later ≡ shown (payloadFetched (file .now) (address start) number size group (described c) (out .now) (room .now))
 
   abbrev One : Type 0
   One = (y z : Result) (a b v w : List ℕ) → meaning y a v ≡ meaning z b w → (y ≡ z) × (a ≡ b) × (v ≡ w)
@@ -121,7 +123,7 @@ module _ {Start Description Result Meaning : Type 0} (address : Start → ℕ) (
   abbrev pub OfJoined : Type 0
   OfJoined = (j s : List ℕ) (file : Slice) (start : Start) (c : Description) (out room : Slice) (y : Result) (after later : List ℕ)
       → Both j s file start c → Says file start c out room y after later
-      → meaning y after later ≡ shown (payloadIn j s number size idSize dataBytes (described c) (out .now) (room .now))
+      → meaning y after later ≡ shown (payloadIn j s number size group (described c) (out .now) (room .now))
 
   -- the descriptions differ in the link at most
   abbrev pub Alike : Type 0
@@ -134,45 +136,46 @@ module _ {Start Description Result Meaning : Type 0} (address : Start → ℕ) (
   of-joined : AsDefined → OfJoined
   of-joined as-defined j s file start c out room y after later h p =
       as-defined file start c out room y after later p
-      ∙ ap shown (payload-of-joined (file .now) (address start) (described c) j s (h .0) (h .1) number size idSize dataBytes (out .now) (room .now))
+      ∙ ap shown (payload-of-joined (file .now) (address start) (described c) j s (h .0) (h .1) number size group (out .now) (room .now))
 
   alike : AsDefined → One → Alike
   alike as-defined one j s f g a b c d out other room another y z after left later kept h i same eo er p q =
       let to : Channel = described d in
-      let linked = link-alike (described c) (to .dataLink) (h .1 .accepted .some) (i .1 .accepted .some) j s number size idSize dataBytes (other .now) (another .now) in
+      let linked = link-alike (described c) (to .dataLink) (h .1 .accepted .some) (i .1 .accepted .some) j s number size group (other .now) (another .now) in
       one y z after left later kept
       (of-joined as-defined j s f a c out room y after later h p
-      ∙ ap₂ (λ (x v : List ℕ). shown (payloadIn j s number size idSize dataBytes (described c) x v)) eo er
-      ∙ ap shown (sym (ap (λ (x : Channel). payloadIn j s number size idSize dataBytes x (other .now) (another .now)) same ∙ linked))
+      ∙ ap₂ (λ (x v : List ℕ). shown (payloadIn j s number size group (described c) x v)) eo er
+      ∙ ap shown (sym (ap (λ (x : Channel). payloadIn j s number size group x (other .now) (another .now)) same ∙ linked))
       ∙ sym (of-joined as-defined j s g b d other another z left kept i q))
 
-module _ (κs : Lfts 3) (number size idSize dataBytes : ℕ) where
+module _ (κs : Lfts 3) (number size : ℕ) (group : code-group.Group) where
   -- ---- read_payload
 
   abbrev pub PayloadSays : Slice → FileAddress → code.Channel → Slice → Slice → PayloadRead → List ℕ → List ℕ → Type 0
-  PayloadSays file start channel out room = ReadsPayload κs file start number size idSize dataBytes channel out room
+  PayloadSays file start channel out room = ReadsPayload κs file start number size group channel out room
 
-  pub read-payload-of-joined : OfJoined (λ (a : FileAddress). a .0) channelMeant PayloadSays payloadFetchedBy (λ o. o) number size idSize dataBytes
+  pub read-payload-of-joined : OfJoined (λ (a : FileAddress). a .0) channelMeant PayloadSays payloadFetchedBy (λ o. o) number size (groupMeant group)
   read-payload-of-joined =
-      of-joined (λ (a : FileAddress). a .0) channelMeant PayloadSays payloadFetchedBy (λ o. o) number size idSize dataBytes
+      of-joined (λ (a : FileAddress). a .0) channelMeant PayloadSays payloadFetchedBy (λ o. o) number size (groupMeant group)
       (λ file start c out room y after later p. p)
 
-  pub read-payload-alike : Alike (λ (a : FileAddress). a .0) channelMeant PayloadSays payloadFetchedBy (λ o. o) number size idSize dataBytes
+  pub read-payload-alike : Alike (λ (a : FileAddress). a .0) channelMeant PayloadSays payloadFetchedBy (λ o. o) number size (groupMeant group)
   read-payload-alike =
-      alike (λ (a : FileAddress). a .0) channelMeant PayloadSays payloadFetchedBy (λ o. o) number size idSize dataBytes
+      alike (λ (a : FileAddress). a .0) channelMeant PayloadSays payloadFetchedBy (λ o. o) number size (groupMeant group)
       (λ file start c out room y after later p. p) payload-fetched-one
 
+module _ (κs : Lfts 3) (number size : ℕ) (group : Mf4Group) where
   -- ---- mf4_record_payload
 
   abbrev pub PayloadSaysC : Slice → ℕ → Mf4Channel → Slice → Slice → Mf4PayloadReply → List ℕ → List ℕ → Type 0
-  PayloadSaysC file start channel out room = ReadsPayloadC κs file start number size idSize dataBytes channel out room
+  PayloadSaysC file start channel out room = ReadsPayloadC κs file start number size group channel out room
 
-  pub mf4-record-payload-of-joined : OfJoined (λ a. a) channelGiven PayloadSaysC returnedBoth (returnedBothBy payloadC) number size idSize dataBytes
+  pub mf4-record-payload-of-joined : OfJoined (λ a. a) channelGiven PayloadSaysC returnedBoth (returnedBothBy payloadC) number size (groupGiven group)
   mf4-record-payload-of-joined =
-      of-joined (λ a. a) channelGiven PayloadSaysC returnedBoth (returnedBothBy payloadC) number size idSize dataBytes
+      of-joined (λ a. a) channelGiven PayloadSaysC returnedBoth (returnedBothBy payloadC) number size (groupGiven group)
       (λ file start c out room y after later p. p)
 
-  pub mf4-record-payload-alike : Alike (λ a. a) channelGiven PayloadSaysC returnedBoth (returnedBothBy payloadC) number size idSize dataBytes
+  pub mf4-record-payload-alike : Alike (λ a. a) channelGiven PayloadSaysC returnedBoth (returnedBothBy payloadC) number size (groupGiven group)
   mf4-record-payload-alike =
-      alike (λ a. a) channelGiven PayloadSaysC returnedBoth (returnedBothBy payloadC) number size idSize dataBytes
+      alike (λ a. a) channelGiven PayloadSaysC returnedBoth (returnedBothBy payloadC) number size (groupGiven group)
       (λ file start c out room y after later p. p) (λ y z a b v w e. one-returned-both e)

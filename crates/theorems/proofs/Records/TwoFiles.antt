@@ -5,7 +5,7 @@ use Prim.Native.Nat.{ℕ, _≤_}
 use lib.ListN.{length}
 use borrow.Author.Tests.{le-ltb}
 use Rattle.definitions.specs.Reply.{Outcome, answer, refusal, if_then_else_}
-use Rattle.definitions.specs.Channel.{Channel, ValidValue}
+use Rattle.definitions.specs.Channel.{Channel, Group, ValidValue}
 use Rattle.definitions.specs.Chain.{Block, idDT, fileLimit, joined, total, chainOf, totalOf, dataLength, badSize, recordOf, fetched, fieldOf, valueFetched}
 use Rattle.definitions.specs.Accepted.{Accepted}
 use Rattle.chain.proofs.Chains.{joined-length, chain-stands}
@@ -27,8 +27,8 @@ abbrev pub recordIn : List ℕ → ℕ → ℕ → List ℕ → Outcome (Unit {0
 recordIn j k size out =
     if badSize size (length out) then record { reply = refusal 15 0; buffer = out } else recordOf j k size out
 
-abbrev pub valueIn : List ℕ → ℕ → ℕ → ℕ → ℕ → Channel → List ℕ → Outcome ValidValue
-valueIn j k size idSize dataBytes c out = fieldOf size idSize dataBytes c (recordIn j k size out)
+abbrev pub valueIn : List ℕ → ℕ → ℕ → Group → Channel → List ℕ → Outcome ValidValue
+valueIn j k size group c out = fieldOf size group c (recordIn j k size out)
 
 module _ (f : List ℕ) (start : ℕ) (j : List ℕ) (h : Joins f start j) where
   -- every answer is the one on the joined bytes
@@ -43,17 +43,17 @@ module _ (f : List ℕ) (start : ℕ) (j : List ℕ) (h : Joins f start j) where
       let n : total (h .blocks) ≡ length j = sym (joined-length f (h .blocks) (chain-stands idDT f start (h .blocks) e .inside)) ∙ ap length (h .same) in
       rw (le-ltb _ _ (h .short), e, n)
 
-  pub value-of-joined : (k size idSize dataBytes : ℕ) (c : Channel) (out : List ℕ)
-      → valueFetched f start k size idSize dataBytes c out ≡ valueIn j k size idSize dataBytes c out
+  pub value-of-joined : (k size : ℕ) (group : Group) (c : Channel) (out : List ℕ)
+      → valueFetched f start k size group c out ≡ valueIn j k size group c out
   unfolding valueFetched
-  value-of-joined k size idSize dataBytes c out = ap (fieldOf size idSize dataBytes c) (record-of-joined k size out)
+  value-of-joined k size group c out = ap (fieldOf size group c) (record-of-joined k size out)
 
 -- so two such files are not told apart
 module _ (f g : List ℕ) (a b : ℕ) (j : List ℕ) (h : Joins f a j) (i : Joins g b j) where
   pub same-record : (k size : ℕ) (out : List ℕ) → fetched f a k size out ≡ fetched g b k size out
   same-record k size out = record-of-joined f a j h k size out ∙ sym (record-of-joined g b j i k size out)
 
-  pub same-value : (k size idSize dataBytes : ℕ) (c : Channel) (out : List ℕ)
-      → valueFetched f a k size idSize dataBytes c out ≡ valueFetched g b k size idSize dataBytes c out
-  same-value k size idSize dataBytes c out =
-      value-of-joined f a j h k size idSize dataBytes c out ∙ sym (value-of-joined g b j i k size idSize dataBytes c out)
+  pub same-value : (k size : ℕ) (group : Group) (c : Channel) (out : List ℕ)
+      → valueFetched f a k size group c out ≡ valueFetched g b k size group c out
+  same-value k size group c out =
+      value-of-joined f a j h k size group c out ∙ sym (value-of-joined g b j i k size group c out)

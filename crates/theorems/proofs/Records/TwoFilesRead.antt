@@ -14,16 +14,18 @@ use Rattle.chain.specs.declared.place.FileAddress.{FileAddress}
 use Rattle.chain.specs.declared.acceptance.ChainRead.{ChainRead}
 use Rattle.records.specs.declared.record.RecordRead.{RecordRead}
 use Rattle.records.proofs.Back.{record-one}
-use Rattle.fields.specs.Meaning.{channelMeant}
+use Rattle.fields.specs.Meaning.{channelMeant, groupMeant}
 use Rattle.fields.specs.declared.channel.Channel.{Channel}
+use Rattle.fields.specs.declared.group.Group.{Group}
 use Rattle.fields.specs.declared.value.ValidValueRead.{ValidValueRead}
 use Rattle.fields.proofs.Back.{valid-value-one}
 use Rattle.records.specs.Meaning.{valueFetchedBy}
 use Rattle.replies.specs.Replies.{Returned, returned, returnedBy, doneC}
-use Rattle.replies.specs.Values.{channelGiven, validValueC, lengthC}
+use Rattle.replies.specs.Values.{channelGiven, groupGiven, validValueC, lengthC}
 use Rattle.replies.specs.declared.fetches.Mf4LengthReply.{Mf4LengthReply}
 use Rattle.replies.specs.declared.done.Mf4DoneReply.{Mf4DoneReply}
 use Rattle.replies.specs.declared.channel.Mf4Channel.{Mf4Channel}
+use Rattle.replies.specs.declared.group.Mf4Group.{Mf4Group}
 use Rattle.replies.specs.declared.valid_values.Mf4ValidValueReply.{Mf4ValidValueReply}
 use Rattle.mf4.specs.Clauses.{Slice}
 use Rattle.theorems.specs.Clauses.{ReadsLength, ReadsRecord, ReadsRecordValue}
@@ -93,19 +95,19 @@ module _ (κs : Lfts 2) (j : List ℕ) (number size : ℕ) where
       (λ y z after later e. (ap (λ (l : Returned Mf4DoneReply). l .result) e, ap (λ (l : Returned Mf4DoneReply). l .buffer) e))
       mf4-read-record-of-joined
 
-module _ (κs : Lfts 2) (j : List ℕ) (number size idSize dataBytes : ℕ) where
+module _ (κs : Lfts 2) (j : List ℕ) (number size : ℕ) where
   -- ---- read_value
 
-  module _ (channel : Channel) where
+  module _ (group : Group) (channel : Channel) where
     abbrev pub ValueSays : Slice → FileAddress → Slice → ValidValueRead → List ℕ → Type 0
-    ValueSays file start buffer = ReadsRecordValue κs file start number size idSize dataBytes channel buffer
+    ValueSays file start buffer = ReadsRecordValue κs file start number size group channel buffer
 
     abbrev valueGiven : List ℕ → Outcome ValidValue
-    valueGiven = valueIn j number size idSize dataBytes (channelMeant channel)
+    valueGiven = valueIn j number size (groupMeant group) (channelMeant channel)
 
     pub read-value-of-joined : OfJoined (λ (s : FileAddress). s .0) j ValueSays valueFetchedBy valueGiven
     read-value-of-joined file start buffer y after h p =
-        p ∙ value-of-joined (file .now) (start .0) j h number size idSize dataBytes (channelMeant channel) (buffer .now)
+        p ∙ value-of-joined (file .now) (start .0) j h number size (groupMeant group) (channelMeant channel) (buffer .now)
 
     pub read-value-alike : Alike (λ (s : FileAddress). s .0) j ValueSays valueFetchedBy valueGiven
     read-value-alike =
@@ -115,16 +117,16 @@ module _ (κs : Lfts 2) (j : List ℕ) (number size idSize dataBytes : ℕ) wher
 
   -- ---- mf4_record_value
 
-  module _ (channel : Mf4Channel) where
+  module _ (group : Mf4Group) (channel : Mf4Channel) where
     abbrev pub ValueSaysC : Slice → ℕ → Slice → Mf4ValidValueReply → List ℕ → Type 0
-    ValueSaysC file start buffer = ReadsRecordValueC κs file start number size idSize dataBytes channel buffer
+    ValueSaysC file start buffer = ReadsRecordValueC κs file start number size group channel buffer
 
     abbrev valueGivenC : List ℕ → Returned Mf4ValidValueReply
-    valueGivenC out = returnedBy validValueC (valueIn j number size idSize dataBytes (channelGiven channel) out)
+    valueGivenC out = returnedBy validValueC (valueIn j number size (groupGiven group) (channelGiven channel) out)
 
     pub mf4-record-value-of-joined : OfJoined (λ s. s) j ValueSaysC returned valueGivenC
     mf4-record-value-of-joined file start buffer y after h p =
-        p ∙ ap (returnedBy validValueC) (value-of-joined (file .now) start j h number size idSize dataBytes (channelGiven channel) (buffer .now))
+        p ∙ ap (returnedBy validValueC) (value-of-joined (file .now) start j h number size (groupGiven group) (channelGiven channel) (buffer .now))
 
     pub mf4-record-value-alike : Alike (λ s. s) j ValueSaysC returned valueGivenC
     mf4-record-value-alike =

@@ -12,8 +12,8 @@ use Rattle.definitions.specs.Reply.{Outcome, answer, refusal, if_then_else_}
 use Rattle.definitions.specs.Bytes.{Order, numberOf, span, bit, bytesFor}
 use Rattle.definitions.specs.Ieee754.{narrowed, narrows}
 use Rattle.definitions.specs.DataType.{DataType, Kind, integer, floating, whole, undecoded, kindOf, orderOf}
-use Rattle.definitions.specs.Channel.{Channel, Value, variableLength, startOf, spanIn, spanOf, numberIn, decoded, isInteger, isFloating, isNumber, valueOf, doubleIn}
-use Rattle.definitions.specs.Overlap.{bitPlace, shareABit}
+use Rattle.definitions.specs.Channel.{Channel, Group, Value, variableLength, startOf, spanIn, spanOf, numberIn, decoded, isInteger, isFloating, isNumber, valueOf, doubleIn, bitPlace}
+use Rattle.definitions.specs.Overlap.{shareABit}
 use Rattle.definitions.specs.WrittenValue.{Given, givenUnsigned, givenSigned, givenDouble, givenOther, fitting, typeField, fieldGiven, fieldWritten, valueWritten}
 use Rattle.definitions.proofs.Replies.{answered, not-answered}
 use Rattle.definitions.proofs.Shared.{Within, apart}
@@ -202,7 +202,7 @@ module _ (s t : List ℕ) (idSize : ℕ) (c : Channel) (bs : Bytes s) (bt : Byte
       bits = kept;
       others = λ d fixed number far. let value = same-value d fixed number far in
           (value, sym (double-fixed t idSize d fixed) ∙ ap doubleIn value ∙ double-fixed s idSize d fixed);
-      validity = λ dataBytes d far. one-bit t s idSize dataBytes d (same-bit dataBytes d far);
+      validity = λ g d same far. one-bit t s g d (same-bit g d same far);
     }
       where
         same-value : (d : Channel) → variableLength d ≡ false → isNumber (kindOf (d .dataType)) ≡ true → shareABit c d ≡ false → valueOf t idSize d ≡ valueOf s idSize d
@@ -216,15 +216,15 @@ module _ (s t : List ℕ) (idSize : ℕ) (c : Channel) (bs : Bytes s) (bt : Byte
             ∙ kept (placeOf o at n l) (λ k w e. apart c d far k l w (lo, hi) (omega (arith, e)))
             ∙ there o s at n l)
 
-        same-bit : (dataBytes : ℕ) (d : Channel) → ((k : ℕ) → Within c k → bitPlace c k ≡ dataBytes * 8 + d .invalidationBit → ⊥)
-            → bit (getD t (idSize + dataBytes + d .invalidationBit / 8) 0) (d .invalidationBit % 8) ≡ bit (getD s (idSize + dataBytes + d .invalidationBit / 8) 0) (d .invalidationBit % 8)
-        same-bit dataBytes d far =
-            let p : ℕ = (idSize + dataBytes) * 8 + d .invalidationBit in
-            let byte : p / 8 ≡ idSize + dataBytes + d .invalidationBit / 8 = omega arith in
+        same-bit : (g : Group) (d : Channel) → g .idSize ≡ idSize → ((k : ℕ) → Within c k → bitPlace c k ≡ g .dataBytes * 8 + d .invalidationBit → ⊥)
+            → bit (getD t (g .idSize + g .dataBytes + d .invalidationBit / 8) 0) (d .invalidationBit % 8) ≡ bit (getD s (g .idSize + g .dataBytes + d .invalidationBit / 8) 0) (d .invalidationBit % 8)
+        same-bit g d same far =
+            let p : ℕ = (g .idSize + g .dataBytes) * 8 + d .invalidationBit in
+            let byte : p / 8 ≡ g .idSize + g .dataBytes + d .invalidationBit / 8 = omega arith in
             let low : p % 8 ≡ d .invalidationBit % 8 = omega arith in
-            let as-place : (u : List ℕ) → bitThere u p ≡ bit (getD u (idSize + dataBytes + d .invalidationBit / 8) 0) (d .invalidationBit % 8) =
+            let as-place : (u : List ℕ) → bitThere u p ≡ bit (getD u (g .idSize + g .dataBytes + d .invalidationBit / 8) 0) (d .invalidationBit % 8) =
             λ u. ap₂ (λ (i j : ℕ). bit (getD u i 0) j) byte low in
-            sym (as-place t) ∙ kept p (λ k w e. far k w (omega (arith, e))) ∙ as-place s
+            sym (as-place t) ∙ kept p (λ k w e. far k w (omega (arith, e, same))) ∙ as-place s
 
 module _ (s : List ℕ) (idSize : ℕ) (c : Channel) (v : Given) (b : Bytes s) (sized : Sized v) where
   -- whether it is written or refused

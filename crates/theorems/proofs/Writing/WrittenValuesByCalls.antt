@@ -6,14 +6,15 @@ use Prim.Native.Nat.{ℕ, _+_, _*_}
 use contract.Lifetimes.{Lfts}
 use Rattle.definitions.specs.Reply.{Outcome, answer}
 use Rattle.definitions.specs.DataType.{kindOf, orderOf}
-use Rattle.definitions.specs.Channel.{variableLength, startOf, numberIn, isNumber, isFloating, valueOf, doubleIn, recordDouble, validOf}
-use Rattle.definitions.specs.Overlap.{bitPlace, shareABit}
+use Rattle.definitions.specs.Channel.{variableLength, startOf, numberIn, isNumber, isFloating, valueOf, doubleIn, recordDouble, validOf, bitPlace}
+use Rattle.definitions.specs.Overlap.{shareABit}
 use Rattle.definitions.specs.WrittenValue.{valueWritten}
 use Rattle.definitions.proofs.Shared.{Within}
 use Rattle.words.proofs.Numbers.{Bytes}
 use Rattle.doubles.proofs.Narrowed.{ComesBack}
-use Rattle.fields.specs.Meaning.{channelMeant, valueReply}
+use Rattle.fields.specs.Meaning.{channelMeant, groupMeant, valueReply}
 use Rattle.fields.specs.declared.channel.Channel.{Channel}
+use Rattle.fields.specs.declared.group.Group.{Group}
 use Rattle.fields.specs.declared.value.ValueRead.{ValueRead}
 use Rattle.fields.proofs.Back.{value-one}
 use Rattle.encoder.specs.Meaning.{givenMeant, valueGiven, writtenReply, outcome}
@@ -66,10 +67,11 @@ module _ (κs : Lfts 1) (idSize : ℕ) (channel : Channel) (given : NumberGiven)
               r ∙ ap (λ (t : List ℕ). recordDouble t idSize (channelMeant d)) same ∙ value-write-keeps .others (channelMeant d) fixed number far .1 ∙ sym q
 
       -- and a channel, this one or another, its validity, where the field has not its invalidation bit
-      pub write-keeps-validity : (dataBytes : ℕ) (d : Channel) → ((k : ℕ) → Within (channelMeant channel) k → bitPlace (channelMeant channel) k ≡ dataBytes * 8 + channelMeant d .invalidationBit → ⊥)
-          → (ρs σs : Lfts 1) (written : Slice) (z w : Bool) → written .now ≡ after → ChecksValidity ρs bytes idSize dataBytes d z → ChecksValidity σs written idSize dataBytes d w → w ≡ z
-      write-keeps-validity dataBytes d far ρs σs written z w same q r =
-          r ∙ ap (λ (t : List ℕ). validOf t idSize dataBytes (channelMeant d)) same ∙ value-write-keeps .validity dataBytes (channelMeant d) far ∙ sym q
+      pub write-keeps-validity : (group : Group) (d : Channel) → groupMeant group .idSize ≡ idSize
+          → ((k : ℕ) → Within (channelMeant channel) k → bitPlace (channelMeant channel) k ≡ groupMeant group .dataBytes * 8 + channelMeant d .invalidationBit → ⊥)
+          → (ρs σs : Lfts 1) (written : Slice) (z w : Bool) → written .now ≡ after → ChecksValidity ρs bytes group d z → ChecksValidity σs written group d w → w ≡ z
+      write-keeps-validity group d skipped far ρs σs written z w same q r =
+          r ∙ ap (λ (t : List ℕ). validOf t (groupMeant group) (channelMeant d)) same ∙ value-write-keeps .validity (groupMeant group) (channelMeant d) skipped far ∙ sym q
 
       module _ (done : y ≡ Done) where
         decodes : DecodesTo after idSize (channelMeant channel) (givenMeant given)

@@ -11,18 +11,19 @@ use borrow.Author.Tests.{ltb-false, eqb-true}
 use Rattle.definitions.specs.Reply.{Outcome, answer, refusal, if_then_else_}
 use Rattle.definitions.specs.Bytes.{twosComplement}
 use Rattle.definitions.specs.DataType.{DataType, unsignedInteger, signedInteger, float, complex, string, byteArray, mimeSample, mimeStream, canOpenDate, canOpenTime, unknown, kindOf, orderOf}
-use Rattle.definitions.specs.Channel.{variableLength, startOf, numberIn, isNumber, isFloating, valueOf, doubleIn, recordDouble, validOf}
+use Rattle.definitions.specs.Channel.{variableLength, startOf, numberIn, isNumber, isFloating, valueOf, doubleIn, recordDouble, validOf, bitPlace}
 use Rattle.definitions.specs.WrittenValue.{givenUnsigned, givenSigned, givenDouble, givenOther, valueWritten}
-use Rattle.definitions.specs.Overlap.{bitPlace, shareABit}
+use Rattle.definitions.specs.Overlap.{shareABit}
 use Rattle.definitions.proofs.Shared.{Within}
 use Rattle.words.proofs.Numbers.{Bytes}
 use Rattle.doubles.proofs.Narrowed.{ComesBack}
 use Rattle.encoder.specs.Meaning.{valueGiven}
 use Rattle.replies.specs.Replies.{Returned, returned, returnedBy, flagC, doneC}
-use Rattle.replies.specs.Values.{channelGiven, wordOf, numberC, decodedC, answerC, valueC}
+use Rattle.replies.specs.Values.{channelGiven, groupGiven, wordOf, numberC, decodedC, answerC, valueC}
 use Rattle.replies.specs.Stored.{givenBy, numberGiven}
 use Rattle.replies.proofs.ToldToC.{valueAgain}
 use Rattle.replies.specs.declared.channel.Mf4Channel.{Mf4Channel}
+use Rattle.replies.specs.declared.group.Mf4Group.{Mf4Group}
 use Rattle.replies.specs.declared.values.Mf4ValueReply.{Mf4ValueReply}
 use Rattle.replies.specs.declared.stored.Mf4Number.{Mf4Number}
 use Rattle.replies.specs.declared.done.Mf4DoneReply.{Mf4DoneReply}
@@ -150,10 +151,11 @@ module _ (κs : Lfts 1) (idSize : ℕ) (channel : Mf4Channel) (value : Mf4Number
               r ∙ ap (λ (t : List ℕ). recordDouble t idSize (channelGiven d)) same ∙ value-write-keeps .others (channelGiven d) fixed number far .1 ∙ sym q
 
       -- and a channel, this one or another, its validity, where the field has not its invalidation bit
-      pub write-keeps-validity : (dataBytes : ℕ) (d : Mf4Channel) → ((k : ℕ) → Within (channelGiven channel) k → bitPlace (channelGiven channel) k ≡ dataBytes * 8 + channelGiven d .invalidationBit → ⊥)
-          → (ρs σs : Lfts 1) (written : Slice) (z w : ℕ) → written .now ≡ after → ChecksValidityC ρs bytes idSize dataBytes d z → ChecksValidityC σs written idSize dataBytes d w → w ≡ z
-      write-keeps-validity dataBytes d far ρs σs written z w same q r =
-          r ∙ ap (λ (t : List ℕ). flagC (validOf t idSize dataBytes (channelGiven d))) same ∙ ap flagC (value-write-keeps .validity dataBytes (channelGiven d) far) ∙ sym q
+      pub write-keeps-validity : (group : Mf4Group) (d : Mf4Channel) → groupGiven group .idSize ≡ idSize
+          → ((k : ℕ) → Within (channelGiven channel) k → bitPlace (channelGiven channel) k ≡ groupGiven group .dataBytes * 8 + channelGiven d .invalidationBit → ⊥)
+          → (ρs σs : Lfts 1) (written : Slice) (z w : ℕ) → written .now ≡ after → ChecksValidityC ρs bytes group d z → ChecksValidityC σs written group d w → w ≡ z
+      write-keeps-validity group d skipped far ρs σs written z w same q r =
+          r ∙ ap (λ (t : List ℕ). flagC (validOf t (groupGiven group) (channelGiven d))) same ∙ ap flagC (value-write-keeps .validity (groupGiven group) (channelGiven d) skipped far) ∙ sym q
 
       module _ (done : y .reply ≡ 0) where
         decodes : DecodesTo after idSize (channelGiven channel) (numberGiven value)

@@ -11,7 +11,7 @@ use Rattle.decoder.proofs.decode.decode_channel_value_with_validity.Sta
 use Rattle.decoder.proofs.decode.decode_channel_value_with_validity.Tie as tie
 
 returns : tie.Need-returns
-returns c = judged-as _ _ _ _ (c .before .before .before .before .check-value-validity .ensures) (c .judged .ensures) (c .before .any-value .ensures)
+returns c = judged-as _ _ _ (c .before .before .before .before .check-value-validity .ensures) (c .judged .ensures) (c .before .any-value .ensures)
 
 fixed : (c : tie.Else1) → variableLength (channelMeant (c .before .before .before .before .args .channel)) ≡ false
 fixed c = sym (c .before .is-variable-length .ensures) ∙ c .if1 .left
@@ -19,12 +19,12 @@ fixed c = sym (c .before .is-variable-length .ensures) ∙ c .if1 .left
 returns-2 : tie.Need-returns-2
 returns-2 c =
     let one = c .before .before .before .before .before in
-    judged-as _ _ _ _ (one .before .before .check-value-validity .ensures) (c .judged2 .ensures) (c .before .any-value2 .ensures)
+    judged-as _ _ _ (one .before .before .check-value-validity .ensures) (c .judged2 .ensures) (c .before .any-value2 .ensures)
 
 returns-3 : tie.Need-returns-3
 returns-3 c =
     let one = c .before .before .before .before .before .before .before in
-    judged-as _ _ _ _ (one .before .before .check-value-validity .ensures) (c .judged3 .ensures) (c .before .any-value3 .ensures)
+    judged-as _ _ _ (one .before .before .check-value-validity .ensures) (c .judged3 .ensures) (c .before .any-value3 .ensures)
 
 find-word-requires : tie.Need-find-word-requires
 find-word-requires c κs =
@@ -34,7 +34,7 @@ find-word-requires c κs =
 returns-4 : tie.Need-returns-4
 returns-4 c =
     let one = c .before .before .before .before .before .before .before .before .before .before in
-    judged-as _ _ _ _ (one .before .before .check-value-validity .ensures) (c .judged4 .ensures) (c .before .any-value4 .ensures)
+    judged-as _ _ _ (one .before .before .check-value-validity .ensures) (c .judged4 .ensures) (c .before .any-value4 .ensures)
 
 near-value-requires : tie.Need-near-value-requires
 near-value-requires c κs =
@@ -45,7 +45,7 @@ near-value-requires c κs =
     let of = form .before .before in
     let one = of .before in
     let a = one .before .before .before .before .args in
-    word-number (a .«record» .now) (a .record-id-size) (channelMeant (a .channel)) (fixed one) (of .number-form .ensures) (form .form .given .1)
+    word-number (a .«record» .now) (a .group .«record_id_size») (channelMeant (a .channel)) (fixed one) (of .number-form .ensures) (form .form .given .1)
     (two .if2 .left) (find .find-word .ensures) (word .found .given .1)
 
 returns-5 : tie.Need-returns-5
@@ -58,8 +58,8 @@ returns-5 c =
     let one = of .before in
     let check = one .before .before in
     let a = check .before .before .args in
-    valid-value _ _ _ _ (check .check-value-validity .ensures)
-    (near-valued (a .«record» .now) (a .record-id-size) (channelMeant (a .channel)) (fixed one) (of .number-form .ensures) (form .form .given .1)
+    valid-value _ _ _ (check .check-value-validity .ensures)
+    (near-valued (a .«record» .now) (a .group .«record_id_size») (channelMeant (a .channel)) (fixed one) (of .number-form .ensures) (form .form .given .1)
     (two .if2 .left) (find .find-word .ensures) (word .found .given .1) (c .near-value .ensures))
 
 pub decode-channel-value-with-validity-spec : {M : Type 1} → statement M

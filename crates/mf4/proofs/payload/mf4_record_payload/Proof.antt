@@ -1,5 +1,6 @@
+use mathlib.Core.Path.{ap₂, _∙_}
 use denote.Ref.{now}
-use Rattle.definitions.specs.Channel.{Channel}
+use Rattle.definitions.specs.Channel.{Channel, Group}
 use Rattle.definitions.specs.Payload.{payloadFetched}
 use Rattle.payloads.specs.Meaning.{payloadReply}
 use Rattle.replies.specs.Values.{payloadC}
@@ -12,18 +13,20 @@ returns : tie.Need-returns
 returns c =
     let call = c .before .before .before .before .before in
     let given = call .before .before .before in
-    let a = given .before .before .before .before .args in
+    let a = given .before .before .before .before .before .args in
     handed-back-both payloadC payloadReply
-    (λ (ch : Channel). payloadFetched (now (a .file)) (a .start) (a .number) (a .record-size) (a .record-id-size) (a .data-bytes) ch (now (a .«record»)) (now (a .payload)))
     (call .read-payload .result)
     (c .payload-reply .ensures)
-    (call .read-payload .ensures)
-    (given .channel-of .ensures)
+    (call .read-payload .ensures
+    ∙ ap₂ (λ (g : Group) (ch : Channel). payloadFetched (now (a .file)) (a .start) (a .number) (a .record-size) g ch (now (a .«record»)) (now (a .payload)))
+    (given .before .group-of .ensures)
+    (given .channel-of .ensures))
 
 pub mf4-record-payload-spec : {M : Type 1} → statement M
 mf4-record-payload-spec =
     tie.close
     (tie.spec
+    (λ c κs. search needs)
     (λ c κs. search needs)
     (λ c κs. search needs)
     (λ c κs. search needs)

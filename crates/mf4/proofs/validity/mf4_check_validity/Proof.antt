@@ -1,6 +1,6 @@
-use mathlib.Core.Path.{ap, _∙_}
+use mathlib.Core.Path.{ap, ap₂, _∙_}
 use denote.Ref.{now}
-use Rattle.definitions.specs.Channel.{Channel, validOf}
+use Rattle.definitions.specs.Channel.{Channel, Group, validOf}
 use Rattle.replies.specs.Replies.{flagC}
 use borrow.Author.Needs.{needs}
 use Rattle.mf4.proofs.validity.mf4_check_validity.Statement.{statement}
@@ -9,10 +9,10 @@ use Rattle.mf4.proofs.validity.mf4_check_validity.Tie as tie
 returns : tie.Need-returns
 returns c =
     let call = c .before in
-    let a = call .before .before .before .args in
+    let a = call .before .before .before .before .args in
     c .flag .ensures
-    ∙ ap flagC (call .check-value-validity .ensures ∙ ap (λ (ch : Channel). validOf (now (a .record)) (a .record-id-size) (a .data-bytes) ch) (call .before .channel-of .ensures))
+    ∙ ap flagC (call .check-value-validity .ensures ∙ ap₂ (λ (g : Group) (ch : Channel). validOf (now (a .record)) g ch) (call .before .before .group-of .ensures) (call .before .channel-of .ensures))
 
 pub mf4-check-validity-spec : {M : Type 1} → statement M
 mf4-check-validity-spec =
-    tie.close (tie.spec (λ c κs. search needs) (λ c κs. search needs) (λ c κs. search needs) returns)
+    tie.close (tie.spec (λ c κs. search needs) (λ c κs. search needs) (λ c κs. search needs) (λ c κs. search needs) returns)

@@ -5,7 +5,7 @@ use Rattle.fields.specs.Form.{orderMeant, bigForm}
 use Rattle.fields.specs.Meaning.{channelMeant}
 use Rattle.fields.proofs.Forms.{form-order}
 use Rattle.overlaps.specs.Meaning.{unsignedAt}
-use Rattle.overlaps.proofs.Entries.{fixed-is-number}
+use Rattle.overlaps.proofs.Entries.{sound-is-number}
 use borrow.Author.Needs.{needs}
 use Rattle.overlaps.proofs.place.field_place.Statement.{statement}
 use Rattle.overlaps.proofs.place.field_place.Tie as tie
@@ -16,7 +16,7 @@ returns c =
     let m = channelMeant (start .args .channel) in
     ap (λ (o : Order). unsignedAt o (m .byteOffset) (m .bitOffset) (m .bitCount))
     (ap orderMeant (c .is-big-endian .ensures ∙ ap bigForm (c .before .form-of .ensures))
-    ∙ form-order (m .dataType) (fixed-is-number m (start .pre)))
+    ∙ form-order (m .dataType) (sound-is-number m (start .pre)))
 
 pub field-place-spec : {M : Type 1} → statement M
 field-place-spec = tie.close (tie.spec (λ c κs. search needs) (λ c κs. search needs) returns)

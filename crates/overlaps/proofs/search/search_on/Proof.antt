@@ -29,12 +29,12 @@ returns-2 c =
 returns-3 : tie.Need-returns-3
 returns-3 c =
     let asked = c .before .before in
-    step-fixed _ (asked .before .before .args .search) _ _ (asked .before .if1 .left) (asked .is-fixed-number .ensures) (c .before .if3 .taken) (c .entry-at .ensures)
+    step-fixed _ (asked .before .before .args .search) _ _ (asked .before .if1 .left) (asked .is-sound-number .ensures) (c .before .if3 .taken) (c .entry-at .ensures)
 
 returns-4 : tie.Need-returns-4
 returns-4 c =
     let asked = c .before .before in
-    step-refused _ (asked .before .before .args .search) _ _ (asked .before .if1 .left) (asked .is-fixed-number .ensures) (c .before .if3 .left) (c .finished2 .ensures)
+    step-refused _ (asked .before .before .args .search) _ _ (asked .before .if1 .left) (asked .is-sound-number .ensures) (c .before .if3 .left) (c .finished2 .ensures)
 
 pub search-on-spec : {M : Type 1} → statement M
 search-on-spec =

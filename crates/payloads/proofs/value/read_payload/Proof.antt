@@ -15,7 +15,7 @@ use Rattle.payloads.proofs.value.read_payload.Statement.{statement}
 use Rattle.payloads.proofs.value.read_payload.Tie as tie
 
 returns : tie.Need-returns
-returns c = no-position _ _ _ _ _ _ _ _ _ (sym (c .before .holds-position .ensures) ∙ not-true _ (c .if1 .taken))
+returns c = no-position _ _ _ _ _ _ _ _ (sym (c .before .holds-position .ensures) ∙ not-true _ (c .if1 .taken))
 
 -- the channel's field is a position
 holds : (c : tie.Else1) → holdsPosition (channelMeant (c .before .before .before .before .before .args .channel)) ≡ true
@@ -24,7 +24,7 @@ holds c = sym (c .before .holds-position .ensures) ∙ not-false _ (c .if1 .left
 returns-2 : tie.Need-returns-2
 returns-2 c =
     let call = c .before .before .before .before .before in
-    no-record _ _ _ _ _ _ _ _ _ (holds (call .before .before)) (call .read-record .ensures) (c .refusal .ensures)
+    no-record _ _ _ _ _ _ _ _ (holds (call .before .before)) (call .read-record .ensures) (c .refusal .ensures)
 
 -- the record fits into its buffer
 room : (c : tie.After-enum-told) →
@@ -49,7 +49,7 @@ returns-3 c =
     let stored = c .before .before .before .before .before in
     let told = stored .before .before .before in
     let call = told .before .before .before .before in
-    no-payload _ _ _ _ _ _ _ _ _ (holds (call .before .before)) (call .read-record .ensures) (told .enum-told .given .1)
+    no-payload _ _ _ _ _ _ _ _ (holds (call .before .before)) (call .read-record .ensures) (told .enum-told .given .1)
     (stored .store-payload .ensures .outcome) (c .refusal2 .ensures)
 
 slice-reshare-prefix-payload-value : tie.Need-slice-reshare-prefix-payload-value
@@ -76,7 +76,7 @@ returns-4 c =
     let stored = known .before .before .before .before .before in
     let told = stored .before .before .before in
     let call = told .before .before .before .before in
-    payload-then _ _ _ _ _ _ _ _ _ (holds (call .before .before)) (call .read-record .ensures) (told .enum-told .given .1)
+    payload-then _ _ _ _ _ _ _ _ (holds (call .before .before)) (call .read-record .ensures) (told .enum-told .given .1)
     (stored .store-payload .ensures .outcome) (known .before .stored .given .1) (value .payload-value .ensures)
 
 pub read-payload-spec : {M : Type 1} → statement M

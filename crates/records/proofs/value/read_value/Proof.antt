@@ -11,7 +11,7 @@ use Rattle.records.proofs.value.read_value.Tie as tie
 returns : tie.Need-returns
 returns c =
     let call = c .before .before .before .before .before in
-    not-fetched _ _ _ _ _ _ _ _ (call .read-record .ensures) (c .refusal .ensures)
+    not-fetched _ _ _ _ _ _ _ (call .read-record .ensures) (c .refusal .ensures)
 
 -- the record fits into the buffer that was lent
 room : (c : tie.After-enum-told) → c .before .before .before .before .before .before .before .before .args .record-size ≤ length (now (c .before .before .before .before .before .before .before .before .args .buffer))
@@ -27,7 +27,7 @@ returns-2 : tie.Need-returns-2
 returns-2 c =
     let told = c .before .before in
     let call = told .before .before .before .before in
-    fetched-then _ _ _ _ _ _ _ _ (call .read-record .ensures) (told .enum-told .given .1) (c .any-valid-value .ensures)
+    fetched-then _ _ _ _ _ _ _ (call .read-record .ensures) (told .enum-told .given .1) (c .any-valid-value .ensures)
 
 pub read-value-spec : {M : Type 1} → statement M
 read-value-spec =

@@ -1,25 +1,24 @@
 -- The entries of a list that can be searched are just the numbers in the record itself that decode in every record which is long
 -- enough: those that pass 18, 19, 20 and 22.
-use mathlib.Core.Path.{_≡_, refl, sym, ap}
-use mathlib.Core.Bool.{true, false, true≢false, not, _||_}
+use mathlib.Core.Path.{_≡_, refl, sym}
+use mathlib.Core.Bool.{true, false, true≢false, _||_}
 use mathlib.Core.Logic.{_⊎_, ⊎-elim}
 use mathlib.Core.List.{List}
 use Prim.Native.Nat.{ℕ, _+_, _≤_, _<_}
 use native.Mathlib.Omega.{arith}
 use lib.Dec.{eqb}
 use lib.ListN.{length}
-use borrow.Author.Tests.{leb-true, le-leb, le-ltb, ltb-false, eqb-false, ne-eqb}
+use borrow.Author.Tests.{le-ltb, ltb-false, eqb-false, ne-eqb}
 use Rattle.definitions.specs.Reply.{answer}
 use Rattle.definitions.specs.DataType.{Kind, integer, floating, whole, undecoded, kindOf}
-use Rattle.definitions.specs.Channel.{Channel, Value, variableLength, isNumber, bitSpan, valueOf}
-use Rattle.definitions.specs.Overlap.{isFixedNumber}
+use Rattle.definitions.specs.Channel.{Channel, Value, variableLength, isNumber, bitSpan, valueOf, isSoundNumber}
 use Rattle.fields.proofs.Tests.{float-width}
 use Rattle.fields.proofs.Locality.{number-span}
 use Rattle.overlaps.proofs.Entries.{overWord, noWidth, by-tests, each-passed}
 use Rattle.theorems.specs.Exactly.{Legal}
 use Rattle.theorems.proofs.Calls.Answers.{value-exactly}
 
-pub record FixedNumber (c : Channel) : Type 0 where
+pub record SoundNumber (c : Channel) : Type 0 where
   pub number : isNumber (kindOf (c .dataType)) ≡ true
   pub in-record : variableLength c ≡ false
   pub legal : Legal (kindOf (c .dataType)) c
@@ -39,32 +38,32 @@ module _ (c : Channel) where
   width-passes : (c .bitCount ≡ 32) ⊎ (c .bitCount ≡ 64) → (eqb (c .bitCount) 0 ≡ false) × (eqb (c .bitCount) 32 || eqb (c .bitCount) 64 ≡ true)
   width-passes h = ⊎-elim (λ e. rw e (refl, refl)) (λ e. rw e (refl, refl)) h
 
-  passes : (k : Kind) → kindOf (c .dataType) ≡ k → isNumber k ≡ true → variableLength c ≡ false → Legal k c → isFixedNumber c ≡ true
+  passes : (k : Kind) → kindOf (c .dataType) ≡ k → isNumber k ≡ true → variableLength c ≡ false → Legal k c → isSoundNumber c ≡ true
   passes integer e n f (some, few, low) =
       let nonzero : c .bitCount ≡ 0 → ⊥ = λ z. omega arith in
-      by-tests c e n f (ne-eqb _ _ nonzero) (le-leb _ _ low) (le-ltb _ _ few) refl
-  passes floating e n f (width, low) = let w = width-passes width in by-tests c e n f (w .0) (le-leb _ _ low) refl (ap not (w .1))
+      by-tests c e n f (rw (ne-eqb _ _ nonzero, le-ltb _ _ low, le-ltb _ _ few))
+  passes floating e n f (width, low) = let w = width-passes width in by-tests c e n f (rw (w .0, le-ltb _ _ low, w .1))
   passes whole e n f l = absurd (true≢false (sym n))
   passes undecoded e n f l = absurd (true≢false (sym n))
 
-  -- ---- exactly the fixed numbers
+  -- ---- exactly the sound numbers
 
-  pub fixed-number : isFixedNumber c ≡ true → FixedNumber c
-  fixed-number e =
+  pub sound-number : isSoundNumber c ≡ true → SoundNumber c
+  sound-number e =
       let (n, f, z, l, w, x) = each-passed c e in
-      record { number = n; in-record = f; legal = legal-by (kindOf (c .dataType)) n z (leb-true _ _ l) w x }
+      record { number = n; in-record = f; legal = legal-by (kindOf (c .dataType)) n z (ltb-false _ _ l) w x }
 
-  pub number-fixed : FixedNumber c → isFixedNumber c ≡ true
-  number-fixed f = passes (kindOf (c .dataType)) refl (f .number) (f .in-record) (f .legal)
+  pub number-sound : SoundNumber c → isSoundNumber c ≡ true
+  number-sound f = passes (kindOf (c .dataType)) refl (f .number) (f .in-record) (f .legal)
 
   -- ---- which decode
 
   module _ (s : List ℕ) (idSize : ℕ) where
-    pub fixed-decodes : isFixedNumber c ≡ true → idSize + c .byteOffset + bitSpan c ≤ length s → (v : Value) × (valueOf s idSize c ≡ answer v)
-    fixed-decodes e long =
-        let f = fixed-number e in
+    pub sound-decodes : isSoundNumber c ≡ true → idSize + c .byteOffset + bitSpan c ≤ length s → (v : Value) × (valueOf s idSize c ≡ answer v)
+    sound-decodes e long =
+        let f = sound-number e in
         value-exactly s idSize c .answers
         (record { legal = f .legal; inside = rw (f .in-record, number-span (kindOf (c .dataType)) false (length s) c (f .number)) long })
 
-    pub decodes-fixed : isNumber (kindOf (c .dataType)) ≡ true → variableLength c ≡ false → (v : Value) → valueOf s idSize c ≡ answer v → isFixedNumber c ≡ true
-    decodes-fixed number in-record v e = number-fixed (record { number = number; in-record = in-record; legal = value-exactly s idSize c .only v e .legal })
+    pub decodes-sound : isNumber (kindOf (c .dataType)) ≡ true → variableLength c ≡ false → (v : Value) → valueOf s idSize c ≡ answer v → isSoundNumber c ≡ true
+    decodes-sound number in-record v e = number-sound (record { number = number; in-record = in-record; legal = value-exactly s idSize c .only v e .legal })
