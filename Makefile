@@ -14,7 +14,10 @@ export CROSS RUN
 
 CC := $(CROSS)gcc
 C_FLAGS := -std=c99 -Wall -Wextra -Wconversion -pedantic -O1 -Iinclude
+# Where `make install` puts everything, behind DESTDIR. A relative folder counts from here, and mf4.pc names it from the root.
 PREFIX := /usr/local
+FINAL := $(abspath $(PREFIX))
+TO := $(DESTDIR)$(FINAL)
 # How long `make fuzz` tries inputs, and how many `make compare` and `make check` compare.
 SECONDS := 60
 COUNT := 10000000
@@ -66,16 +69,16 @@ build/loader: examples/loader.c examples/listing.c examples/mdf_walk.c examples/
 build/make_log build/loader: $(wildcard examples/*.h) include/mf4.h build/libmf4.a | tools
 	@$(CC) $(C_FLAGS) -o $@ $(filter %.c,$^) build/libmf4.a
 
-# Below $(DESTDIR)$(PREFIX): header, archive, shared object, pkg-config file and licences.
+# Header, archive, shared object, pkg-config file, licences and the list of changes.
 install: build/libmf4.a $(SHARED)
-	@install -d $(DESTDIR)$(PREFIX)/include $(DESTDIR)$(PREFIX)/lib/pkgconfig $(DESTDIR)$(PREFIX)/share/doc/mf4
-	@install -m 644 include/mf4.h $(DESTDIR)$(PREFIX)/include/
-	@install -m 644 build/libmf4.a $(DESTDIR)$(PREFIX)/lib/
-	@install -m 755 $(SHARED) $(DESTDIR)$(PREFIX)/lib/
-	@ln -sf $(notdir $(SHARED)) $(DESTDIR)$(PREFIX)/lib/$(SONAME)
-	@ln -sf $(SONAME) $(DESTDIR)$(PREFIX)/lib/libmf4.so
-	@sed 's|@PREFIX@|$(PREFIX)|; s|@VERSION@|$(VERSION)|' mf4.pc.in >$(DESTDIR)$(PREFIX)/lib/pkgconfig/mf4.pc
-	@install -m 644 LICENSE NOTICE $(DESTDIR)$(PREFIX)/share/doc/mf4/
+	@install -d $(TO)/include $(TO)/lib/pkgconfig $(TO)/share/doc/mf4
+	@install -m 644 include/mf4.h $(TO)/include/
+	@install -m 644 build/libmf4.a $(TO)/lib/
+	@install -m 755 $(SHARED) $(TO)/lib/
+	@ln -sf $(notdir $(SHARED)) $(TO)/lib/$(SONAME)
+	@ln -sf $(SONAME) $(TO)/lib/libmf4.so
+	@sed 's|@PREFIX@|$(FINAL)|; s|@VERSION@|$(VERSION)|' mf4.pc.in >$(TO)/lib/pkgconfig/mf4.pc
+	@install -m 644 LICENSE NOTICE CHANGELOG.md $(TO)/share/doc/mf4/
 
 # Everything that was made, the proofs in target/ too: the next archive is proved from nothing.
 clean:
@@ -90,7 +93,7 @@ demotest: build/make_log build/loader
 ctest: archive | tools
 	@CC=$(CC) tests/c/run build/libmf4.a build/c
 
-# The library installed into a folder of its own, and the README's first use compiled and run against it.
+# The library installed into a folder of its own, and README's first use compiled and run against it.
 installed: build/make_log build/libmf4.a $(SHARED)
 	@tests/installed
 

@@ -1,20 +1,26 @@
 /*
- * mf4.h: reading MDF4 channels, their descriptions, payloads and data lists, and writing what a record holds, proved.
+ * mf4.h: the C interface of a formally verified reader of MDF4 files. It reads block headers, data lists, channel
+ * descriptions, records and the variable-length values that they refer to (payloads); it decodes and writes values, and
+ * detects overlapping channels.
  *
- * Every call ends with an answer or a numbered refusal, for every input. A call that can refuse returns a struct by
- * value: `reply` is 0 (MF4_ANSWER) or the refusal's number, `told` is what the refusal tells beside its number (0 where it
- * tells nothing), and the other fields are the answer's, all zero on a refusal. A refusal writes nothing, with one
- * exception: mf4_record_value and mf4_record_payload leave a record, or a payload, that they have fetched in its buffer when
- * something behind it is then refused.
+ * Three words: `reply` is the status of a call, MF4_ANSWER (0) or the number of a refusal. `told` is the detail of a refusal,
+ * such as the size that would be enough, or 0. A buffer is `lent`: it is the caller's, and the library uses it during the
+ * call only.
  *
- * A pair (pointer, count) is a slice, lent for the time of the call; the pointer may be NULL where the count is 0. An
- * output buffer must overlap neither an input nor another output. Nothing is allocated and nothing is kept between calls, so
- * calls from several threads do not meet.
+ * Every call returns, whatever the input. A call that can refuse returns a struct by value whose name ends in _reply: first
+ * reply and told, then the answer's fields, which are all zero on a refusal. "Refuses with" lists the replies in the order of
+ * the tests; the first test that fails decides. A refused call changes no buffer, except that mf4_record_value and
+ * mf4_record_payload leave a record, or a payload, that they have fetched in its buffer if a later test fails.
  *
- * What is lent must not change during a call. A fetch walks along the whole chain and tests it, and only then copies the
- * record: if someone changes the file's bytes between the two, the record may be a wrong one. (No call ever reads or
- * writes outside the slices.) A log that is still being written is copied first, and the copy is read: a mapping with
- * MAP_PRIVATE is not enough, since its pages may still follow the file.
+ * A buffer is a pointer and a count of elements. NAME with NAME_len is input (mf4_write_value changes its record in place);
+ * NAME with NAME_room is output, and its room is how much fits. The pointer may be NULL if the count is 0. An output must
+ * overlap no other buffer of the call. Beware: `sizeof buffer` is a room, not a length. A record_len is the length of one
+ * record, so pass record_size: with more, a field outside the record is read from stale bytes and not refused.
+ *
+ * The calls are thread-safe and reentrant: they allocate nothing and keep no state. Lent bytes must not change during a call.
+ * A fetch tests the whole chain first and copies the record afterwards: if the file changes in between, the record may be
+ * wrong (though no call ever accesses memory outside the buffers). So copy a log that is still being written, and read the
+ * copy; a MAP_PRIVATE mapping is not enough, as its pages may still follow the file.
  *
  * Link with libmf4.a or libmf4.so, for x86-64 Linux (System V calling convention). C99, C++98 or later.
  */
@@ -26,57 +32,68 @@
 #include <string.h>
 
 #define MF4_VERSION_MAJOR 0
-#define MF4_VERSION_MINOR 3
-#define MF4_VERSION_PATCH 1
-#define MF4_VERSION "0.3.1"
+#define MF4_VERSION_MINOR 4
+#define MF4_VERSION_PATCH 0
+#define MF4_VERSION "0.4.0"
+#define MF4_VERSION_NUMBER (MF4_VERSION_MAJOR * 10000 + MF4_VERSION_MINOR * 100 + MF4_VERSION_PATCH)
 
 #ifdef __cplusplus
 extern "C" {
 #endif
 
+/* The MF4_VERSION_NUMBER of the library that is linked. */
+uint32_t mf4_version(void);
+
+/* 1 if the linked library has this header's version, else 0: structs and calls may then differ. */
+static inline int mf4_version_matches(void)
+{
+    return mf4_version() == MF4_VERSION_NUMBER;
+}
+
 /* ---- limits ----------------------------------------------------------------------------------------------------- */
 
-#define MF4_MAX_FILE_SIZE ((uint64_t)1 << 40) /* bytes of a file whose chain is read; more are refused with 7           */
-#define MF4_MAX_LISTS 256                     /* data lists of a chain; a 257th is refused with 8                       */
-#define MF4_MAX_FRAGMENTS 4096                /* data blocks of a chain (else 9), data links of a written list (else 5) */
-#define MF4_MAX_RECORD_SIZE 16384             /* bytes of a record; more are refused with 15                            */
-#define MF4_MAX_CHANNELS 256                  /* descriptions of a list; more are refused with 26                       */
+#define MF4_MAX_FILE_SIZE ((uint64_t)1 << 40) /* bytes of a file, else MF4_FILE_TOO_LONG (7)                         */
+#define MF4_MAX_LISTS 256                     /* data lists of a chain, else MF4_TOO_MANY_LISTS (8)                  */
+#define MF4_MAX_FRAGMENTS 4096                /* data blocks of a chain, else MF4_TOO_MANY_FRAGMENTS (9); data links
+                                                 of a list that is written, else MF4_UNWRITABLE_LIST (5)             */
+#define MF4_MAX_RECORD_SIZE 16384             /* bytes of a record, else MF4_BAD_RECORD_SIZE (15)                    */
+#define MF4_MAX_CHANNELS 256                  /* channels given to mf4_first_overlap, else MF4_TOO_MANY_CHANNELS (26) */
 
 /* ---- replies ---------------------------------------------------------------------------------------------------- */
 
 enum mf4_reply {
-    MF4_ANSWER = 0,              /* the answer's fields hold                                                      */
-    /* 1 is given no more and is not used again: 18 to 22 say why a field cannot be decoded. */
-    MF4_TOO_FEW_BYTES = 2,       /* a block that ends too early; told: the size that it needs, at most 2^64-1     */
-    MF4_OTHER_ID = 3,            /* a block, but not the kind that was asked for                                  */
-    MF4_NO_LINKS = 4,            /* a data list whose link count is 0                                             */
-    MF4_UNWRITABLE_LIST = 5,     /* a list that is not written: too many links, or not one offset for each        */
-    MF4_NO_ROOM = 6,             /* a lent buffer that is too short; told: the size that is needed                */
-    MF4_FILE_TOO_LONG = 7,       /* a file of more than 2^40 bytes                                                */
-    MF4_TOO_MANY_LISTS = 8,      /* a chain of more than 256 lists                                                */
-    MF4_TOO_MANY_FRAGMENTS = 9,  /* a chain of more than 4,096 data blocks                                        */
-    MF4_LIST_DISAGREES = 10,     /* a list that contradicts itself: its count, or the length of its block         */
-    MF4_NO_BLOCK_THERE = 11,     /* a start or a data link of 0, or an address without room for a header          */
-    MF4_BAD_DATA_BLOCK = 12,     /* what a list links is no whole block of its chain's kind (##DT, ##SD)          */
-    MF4_UNTRUE_DECLARATION = 13, /* a block is not as its list declares, or a list not as the first one does      */
-    MF4_DATA_TOO_LONG = 14,      /* more joined data than 2^63-1 bytes                                            */
-    MF4_BAD_RECORD_SIZE = 15,    /* a record size of 0, over 16,384, or over the record buffer's                  */
-    MF4_NO_SUCH_RECORD = 16,     /* a record that the joined data does not hold whole                             */
-    MF4_TOO_FEW_LINKS = 17,      /* a channel block whose link count is below 8                                   */
-    MF4_NO_BITS = 18,            /* a number whose bit count is 0                                                 */
-    MF4_BAD_BIT_OFFSET = 19,     /* a number whose bit offset is over 7                                           */
-    MF4_INTEGER_TOO_WIDE = 20,   /* an integer whose bit count is over 64                                         */
-    MF4_FIELD_OUTSIDE = 21,      /* a field that ends outside the slice; told: the size needed, at most 2^64-1    */
-    MF4_BAD_FLOAT_WIDTH = 22,    /* a float whose bit count is neither 32 nor 64                                  */
-    MF4_PAYLOAD_OUTSIDE = 23,    /* a payload, or its length, that ends behind the joined data of its chain       */
-    MF4_DOES_NOT_FIT = 24,       /* a number that the field's bits do not hold                                    */
-    MF4_OTHER_KIND = 25,         /* a number of another kind than the channel's, or a channel of no fixed number  */
-    MF4_TOO_MANY_CHANNELS = 26,  /* a list of more than 256 descriptions                                          */
-    MF4_NO_FIXED_NUMBER = 27,    /* a description that is no fixed number; told: its place in the list, from 0    */
-    MF4_NO_POSITION = 35,        /* a channel whose field in the record is no position of a payload               */
+    MF4_ANSWER = 0,              /* success: the answer's fields are set                                           */
+    /* 1 is not used any more: 18 to 22 say why a field cannot be decoded. */
+    MF4_TOO_FEW_BYTES = 2,       /* the block is cut short; told: the bytes it needs, saturating at UINT64_MAX     */
+    MF4_OTHER_ID = 3,            /* a block of another kind than the call reads                                    */
+    MF4_NO_LINKS = 4,            /* a data list with a link count of 0                                             */
+    MF4_UNWRITABLE_LIST = 5,     /* more than 4096 links to write, or not one offset for each link                 */
+    MF4_NO_ROOM = 6,             /* an output buffer is too small; told: the room that is needed                   */
+    MF4_FILE_TOO_LONG = 7,       /* a file of more than 2^40 bytes                                                 */
+    MF4_TOO_MANY_LISTS = 8,      /* a chain of more than 256 lists                                                 */
+    MF4_TOO_MANY_FRAGMENTS = 9,  /* a chain of more than 4096 data blocks                                          */
+    MF4_LIST_DISAGREES = 10,     /* a list whose count or block length does not match its links                    */
+    MF4_NO_BLOCK_THERE = 11,     /* an address of 0, or with fewer than 24 bytes of the file from there on         */
+    MF4_BAD_DATA_BLOCK = 12,     /* a list links something else than a whole ##DT (or, of payloads, ##SD) block    */
+    MF4_UNTRUE_DECLARATION = 13, /* a data block is not as its list declares, or a list not as the first one does  */
+    MF4_DATA_TOO_LONG = 14,      /* more joined data than 2^63-1 bytes                                             */
+    MF4_BAD_RECORD_SIZE = 15,    /* a record size of 0, over 16384 or over the room of the record's buffer         */
+    MF4_NO_SUCH_RECORD = 16,     /* a record number behind the last whole record                                   */
+    MF4_TOO_FEW_LINKS = 17,      /* a channel block with fewer than 8 links                                        */
+    MF4_NO_BITS = 18,            /* a number with a bit count of 0                                                 */
+    MF4_BAD_BIT_OFFSET = 19,     /* a number with a bit offset over 7                                              */
+    MF4_INTEGER_TOO_WIDE = 20,   /* an integer with a bit count over 64                                            */
+    MF4_FIELD_OUTSIDE = 21,      /* the field ends behind the record; told: the bytes that the record would need   */
+    MF4_BAD_FLOAT_WIDTH = 22,    /* a float with a bit count other than 32 and 64                                  */
+    MF4_PAYLOAD_OUTSIDE = 23,    /* a payload, or its length, ends behind the joined data of its chain             */
+    MF4_DOES_NOT_FIT = 24,       /* a number to write that the field cannot hold                                   */
+    MF4_OTHER_KIND = 25,         /* a number to write of another kind than the channel, or a channel of no number  */
+    MF4_TOO_MANY_CHANNELS = 26,  /* more than 256 channels                                                         */
+    MF4_NO_FIXED_NUMBER = 27,    /* a channel that is not a number in the record; told: its index in the list      */
+    MF4_NO_POSITION = 35,        /* a channel whose field in the record is not the position of a payload           */
 
-    /* Numbers from 256 on are those of this header's own helpers, never the library's. */
-    MF4_NO_TEXT_TYPE = 256       /* mf4_text_by_type: a data type that is no text                                 */
+    /* From 256 on: the replies of this header's inline functions, never the library's. */
+    MF4_NO_TEXT_TYPE = 256       /* mf4_text_by_type: the data type is not a text                                  */
 };
 
 /* A reply in words, for people. */
@@ -120,129 +137,155 @@ static inline const char *mf4_reply_text(uint32_t reply)
 
 #define MF4_HEADER_SIZE 24
 
-/* The ids that a loader meets on the way to its records: the four raw bytes as a number, the first the lowest. */
+/* The ids of the blocks that a loader meets: the four bytes as a little-endian number. */
 enum mf4_block_id {
-    MF4_ID_HD = 0x44482323, /* ##HD, the file's header block */
-    MF4_ID_DG = 0x47442323, /* ##DG, a data group            */
-    MF4_ID_CG = 0x47432323, /* ##CG, a channel group         */
-    MF4_ID_CN = 0x4E432323, /* ##CN, a channel               */
-    MF4_ID_TX = 0x58542323, /* ##TX, a text                  */
-    MF4_ID_MD = 0x444D2323, /* ##MD, a text that is XML      */
-    MF4_ID_DL = 0x4C442323, /* ##DL, a data list             */
-    MF4_ID_DT = 0x54442323, /* ##DT, records                 */
-    MF4_ID_SD = 0x44532323  /* ##SD, payloads                */
+    MF4_ID_HD = 0x44482323, /* ##HD, the file's header block                                       */
+    MF4_ID_DG = 0x47442323, /* ##DG, a data group                                                  */
+    MF4_ID_CG = 0x47432323, /* ##CG, a channel group                                               */
+    MF4_ID_CN = 0x4E432323, /* ##CN, a channel                                                     */
+    MF4_ID_CC = 0x43432323, /* ##CC, a conversion from the raw value to the physical one           */
+    MF4_ID_CA = 0x41432323, /* ##CA, an array of channels                                          */
+    MF4_ID_TX = 0x58542323, /* ##TX, a text                                                        */
+    MF4_ID_MD = 0x444D2323, /* ##MD, a text that is XML                                            */
+    MF4_ID_DL = 0x4C442323, /* ##DL, a data list                                                   */
+    MF4_ID_DT = 0x54442323, /* ##DT, records                                                       */
+    MF4_ID_SD = 0x44532323, /* ##SD, payloads (variable-length values)                             */
+    MF4_ID_DZ = 0x5A442323, /* ##DZ, compressed data: not read here, so inflate the log first      */
+    MF4_ID_HL = 0x4C482323  /* ##HL, the list of compressed blocks: likewise                       */
 };
 
-/* The 24 bytes in front of every block. block_len counts them too. */
-typedef struct mf4_block_header {
+/* The first 24 bytes of every block. block_len is the length of the block with these 24. */
+typedef struct mf4_header {
     uint32_t id;
     uint32_t reserved0;
     uint64_t block_len;
-    uint64_t links_nr;
-} mf4_block_header;
-
-typedef struct mf4_header {
-    uint32_t reply;
-    uint64_t told;
-    mf4_block_header header;
+    uint64_t link_count;
 } mf4_header;
 
-/* How many bytes a call wrote from the start of its output buffer. Nothing behind them changes. */
-typedef struct mf4_written {
+typedef struct mf4_header_reply {
+    uint32_t reply;
+    uint64_t told;
+    mf4_header header;
+} mf4_header_reply;
+
+/* count: the bytes written at the front of the output buffer; those behind are unchanged. */
+typedef struct mf4_written_reply {
     uint32_t reply;
     uint64_t told;
     uint64_t count;
-} mf4_written;
+} mf4_written_reply;
 
-/* Refuses with 2. */
-mf4_header mf4_read_header(const uint8_t *bytes, size_t bytes_len);
+/* The reply of a call that has no other answer than that it was done. */
+typedef struct mf4_done_reply {
+    uint32_t reply;
+    uint64_t told;
+} mf4_done_reply;
 
-/* Writes 24 bytes. Refuses with 6. */
-mf4_written mf4_write_header(mf4_block_header header, uint8_t *out, size_t out_len);
+/* Refuses with MF4_TOO_FEW_BYTES (2). block_len is compared with nothing. */
+mf4_header_reply mf4_read_header(const uint8_t *bytes, size_t bytes_len);
+
+/* Writes 24 bytes. Refuses with MF4_NO_ROOM (6). */
+mf4_written_reply mf4_write_header(mf4_header header, uint8_t *out, size_t out_room);
 
 /* ---- data types ------------------------------------------------------------------------------------------------- */
 
+/* A code above 16 is an unknown type: it is kept as it is, and its values are of MF4_KIND_UNKNOWN. */
 enum mf4_data_type {
-    MF4_UNSIGNED_LE = 0, MF4_UNSIGNED_BE = 1, MF4_SIGNED_LE = 2, MF4_SIGNED_BE = 3, MF4_FLOAT_LE = 4, MF4_FLOAT_BE = 5,
-    MF4_LATIN1 = 6, MF4_UTF8 = 7, MF4_UTF16_LE = 8, MF4_UTF16_BE = 9,
-    MF4_BYTE_ARRAY = 10, MF4_MIME_SAMPLE = 11, MF4_MIME_STREAM = 12, MF4_CANOPEN_DATE = 13, MF4_CANOPEN_TIME = 14,
-    MF4_COMPLEX_LE = 15, MF4_COMPLEX_BE = 16 /* every code above it is an unknown type, and is kept as it is */
+    MF4_TYPE_UNSIGNED_LE = 0, MF4_TYPE_UNSIGNED_BE = 1, MF4_TYPE_SIGNED_LE = 2, MF4_TYPE_SIGNED_BE = 3,
+    MF4_TYPE_FLOAT_LE = 4, MF4_TYPE_FLOAT_BE = 5,
+    MF4_TYPE_LATIN1 = 6, MF4_TYPE_UTF8 = 7, MF4_TYPE_UTF16_LE = 8, MF4_TYPE_UTF16_BE = 9,
+    MF4_TYPE_BYTE_ARRAY = 10, MF4_TYPE_MIME_SAMPLE = 11, MF4_TYPE_MIME_STREAM = 12,
+    MF4_TYPE_CANOPEN_DATE = 13, MF4_TYPE_CANOPEN_TIME = 14,
+    MF4_TYPE_COMPLEX_LE = 15, MF4_TYPE_COMPLEX_BE = 16
 };
 
-/* The code of the type that a code stands for, which is that code, for all 256. */
+/* Returns the code unchanged, for all 256: no code is lost by reading and writing. */
 uint8_t mf4_type_code(uint8_t code);
 
-/* The bits of a channel of that type where nobody says how many. */
+/* The default bit count of a data type. */
 uint32_t mf4_default_bits(uint8_t code);
 
 /* ---- data lists ------------------------------------------------------------------------------------------------- */
 
 enum mf4_list_flag {
-    MF4_LIST_EQUAL_LENGTH = 1 /* one length for every fragment, in place of an offset for each */
+    MF4_LIST_EQUAL_LENGTH = 1 /* the list has one length for all its data blocks, not an offset for each */
 };
 
-/* links_at, links: where the data links stand in the bytes given, and how many; 8 bytes each, little-endian.
- * rest_at, rest: the same of the one length (MF4_LIST_EQUAL_LENGTH in flags) or of the offsets. Neither data_block_nr nor
- * block_len is compared with anything here. */
-typedef struct mf4_list {
+/* data_links_at, data_link_count: where the data links begin in the bytes given, and how many there are; rest_at, rest_count:
+ * the same of the one length (with MF4_LIST_EQUAL_LENGTH in flags) or of the offsets. Each takes 8 bytes, little-endian.
+ * data_block_count and header.block_len are compared with nothing here. */
+typedef struct mf4_list_reply {
     uint32_t reply;
     uint64_t told;
-    mf4_block_header header;
-    uint64_t next;
-    uint64_t links_at;
-    uint64_t links;
+    mf4_header header;
+    uint64_t next_addr;
+    uint64_t data_links_at;
+    uint64_t data_link_count;
     uint8_t flags;
     uint32_t reserved1;
-    uint32_t data_block_nr;
+    uint32_t data_block_count;
     uint64_t rest_at;
-    uint64_t rest;
-} mf4_list;
+    uint64_t rest_count;
+} mf4_list_reply;
 
-/* Refuses with 2, 3, 4, 2. */
-mf4_list mf4_read_list(const uint8_t *bytes, size_t bytes_len);
+/* Refuses with MF4_TOO_FEW_BYTES (2) for the header, MF4_OTHER_ID (3), MF4_NO_LINKS (4), MF4_TOO_FEW_BYTES (2) again. */
+mf4_list_reply mf4_read_list(const uint8_t *bytes, size_t bytes_len);
 
-/* A list whose fragments all have one length, but for the last of the chain's last list. Refuses with 5, then 6. */
-mf4_written mf4_write_list_equal(uint64_t next, const uint64_t *links, size_t links_len, uint64_t length, uint8_t *out,
-                                 size_t out_len);
+/* Writes a list of data blocks that all hold `length` bytes of data; only the last block of a chain may hold fewer.
+ * next_addr: the address of the next list, or 0. Refuses with MF4_UNWRITABLE_LIST (5), MF4_NO_ROOM (6). */
+mf4_written_reply mf4_write_list_equal(uint64_t next_addr, const uint64_t *links, size_t links_len, uint64_t length,
+                                       uint8_t *out, size_t out_room);
 
-/* A list with the offset of each fragment's data in the joined data. Refuses with 5, then 6. */
-mf4_written mf4_write_list_variable(uint64_t next, const uint64_t *links, size_t links_len, const uint64_t *offsets,
-                                    size_t offsets_len, uint8_t *out, size_t out_len);
+/* Writes a list with an offset for each data block: the length of all data before it. Refuses alike. */
+mf4_written_reply mf4_write_list_variable(uint64_t next_addr, const uint64_t *links, size_t links_len,
+                                          const uint64_t *offsets, size_t offsets_len, uint8_t *out, size_t out_room);
 
-/* ---- descriptions ----------------------------------------------------------------------------------------------- */
+/* ---- channels --------------------------------------------------------------------------------------------------- */
 
+/* The channel types of MDF 4.1. The calls tell 1 from the others and read all others as fields of the record, so a loader
+ * must look at 3, 5 and 6 itself. */
 enum mf4_channel_type {
-    MF4_CHANNEL_FIXED_LENGTH = 0,
-    MF4_CHANNEL_VARIABLE_LENGTH = 1 /* the values are payloads in other blocks, which `data` links */
+    MF4_CHANNEL_FIXED_LENGTH = 0,    /* a field of the record                                                           */
+    MF4_CHANNEL_VARIABLE_LENGTH = 1, /* payloads outside the record, for mf4_record_payload; if data_addr is 0, a field */
+    MF4_CHANNEL_MASTER = 2,          /* a field: the time, angle or distance that the other values belong to            */
+    MF4_CHANNEL_VIRTUAL_MASTER = 3,  /* no field in the record: the raw value is the record's number, from 0            */
+    MF4_CHANNEL_SYNC = 4,            /* a field: a position in a stream outside the records                             */
+    MF4_CHANNEL_MAX_LENGTH = 5,      /* not supported: another channel has the length of the value, and the bytes behind
+                                        it are stale, so never decode this one as text of its full width                */
+    MF4_CHANNEL_VIRTUAL = 6          /* no field in the record: the raw value is the record's number, from 0            */
 };
 
 enum mf4_channel_flag {
-    MF4_CHANNEL_ALL_INVALID = 1,     /* every value is invalid                   */
-    MF4_CHANNEL_INVALIDATION_BIT = 2 /* a bit of each record tells if it is so   */
+    MF4_CHANNEL_ALL_INVALID = 1,     /* every value is invalid                                    */
+    MF4_CHANNEL_INVALIDATION_BIT = 2 /* a bit of each record says whether its value is invalid    */
 };
 
-/* A channel's description, as mf4_read_channel gives it of a ##CN block. In C99, name the fields that you set,
- * { .bit_offset = 4, .. }: the others are then 0, and none slips into another's place. */
+/* A channel's description. mf4_read_channel gives it from a ##CN block. If you fill it in yourself, name the fields (in C99
+ * { .bit_offset = 4, .. }): the others are then 0. */
 typedef struct mf4_channel {
-    uint8_t data_type;             /* a code of enum mf4_data_type                                                   */
-    uint8_t channel_type;          /* a code of enum mf4_channel_type, or another, which reads as a fixed length     */
-    uint8_t bit_offset;            /* 0 to 7: how far the field lies above the lowest bit of its bytes' number       */
-    uint32_t byte_offset;          /* where the field's bytes begin, counted from the byte behind the record id      */
-    uint32_t bit_count;            /* how wide the field is                                                          */
-    uint32_t flags;                /* of enum mf4_channel_flag                                                       */
-    uint32_t pos_invalidation_bit; /* which bit behind the data bytes, with MF4_CHANNEL_INVALIDATION_BIT             */
-    uint64_t data;                 /* the link to the payloads; 0 where there are none                               */
+    uint8_t data_type;             /* of enum mf4_data_type                                                             */
+    uint8_t channel_type;          /* of enum mf4_channel_type                                                          */
+    uint8_t bit_offset;            /* 0 to 7: the number is shifted right by so many bits after its bytes are read      */
+    uint32_t byte_offset;          /* where the field begins, counted from the first byte behind the record id          */
+    uint32_t bit_count;            /* how wide the field is                                                             */
+    uint32_t flags;                /* of enum mf4_channel_flag                                                          */
+    uint32_t pos_invalidation_bit; /* the number of its bit behind the data bytes, with MF4_CHANNEL_INVALIDATION_BIT    */
+    uint64_t data_addr;            /* of channel type 1: where the chain of its payloads starts                         */
 } mf4_channel;
 
-/* ---- channel blocks --------------------------------------------------------------------------------------------- */
+/* How the records of a channel group are laid out: an id, data bytes, invalidation bits. A record_size is all three. */
+typedef struct mf4_group {
+    uint64_t record_id_size; /* bytes of the record id, from the ##DG block; often 0          */
+    uint32_t data_bytes;     /* bytes of channel data behind the id, from the ##CG block      */
+} mf4_group;
 
-#define MF4_CHANNEL_BLOCK_SIZE 160 /* of a block that is written */
+#define MF4_CHANNEL_BLOCK_SIZE 160 /* bytes that mf4_write_channel writes */
 
-/* A ##CN block: its eight links, of which the sixth is channel.data, and its fields. more_links_at, more_links: where the
- * links behind the eighth stand in the bytes given, or would stand, and how many; 8 bytes each, little-endian. The last six
- * fields are 64-bit patterns of doubles, so that a NaN keeps its bits; mf4_double_of gives the value. */
+/* A ##CN block: its eight links, of which the sixth is channel.data_addr, and its fields. more_links_at, more_link_count:
+ * where the links behind the eighth stand, or would stand, in the bytes given, and how many there are; 8 bytes each,
+ * little-endian. The last six fields are bit patterns of doubles: mf4_bits_as_double gives the value. */
 typedef struct mf4_channel_block {
-    mf4_block_header header;
+    mf4_header header;
     uint64_t next_ch_addr;
     uint64_t component_addr;
     uint64_t name_addr;
@@ -251,12 +294,12 @@ typedef struct mf4_channel_block {
     uint64_t unit_addr;
     uint64_t comment_addr;
     uint64_t more_links_at;
-    uint64_t more_links;
-    mf4_channel channel; /* the description, as the calls below take it */
+    uint64_t more_link_count;
+    mf4_channel channel;
     uint8_t sync_type;
     uint8_t precision;
     uint8_t reserved1;
-    uint16_t attachment_nr;
+    uint16_t attachment_count;
     uint64_t min_raw_value;
     uint64_t max_raw_value;
     uint64_t lower_limit;
@@ -271,97 +314,112 @@ typedef struct mf4_channel_reply {
     mf4_channel_block block;
 } mf4_channel_reply;
 
-/* Neither attachment_nr nor block_len is compared with anything here: the fields stand behind all the links that links_nr
- * counts. Refuses with 2, 3, 17, 2. */
+/* The fields are read behind all the links that header.link_count counts; attachment_count and header.block_len are compared
+ * with nothing. Refuses with MF4_TOO_FEW_BYTES (2) for the header, MF4_OTHER_ID (3), MF4_TOO_FEW_LINKS (17),
+ * MF4_TOO_FEW_BYTES (2) for the rest. */
 mf4_channel_reply mf4_read_channel(const uint8_t *bytes, size_t bytes_len);
 
-/* Writes 160 bytes: the eight links and the fields, with a header of its own (links_nr 8, block_len 160) and with 0 for
- * reserved1 and attachment_nr. The block's header and its links behind the eighth are not looked at, and so are lost. The type's
- * code is written as it is given, known or not. Refuses with 6. */
-mf4_written mf4_write_channel(mf4_channel_block block, uint8_t *out, size_t out_len);
+/* Writes 160 bytes: a new header (link_count 8, block_len 160), the eight links and the fields, with 0 for reserved1 and
+ * attachment_count. The block's own header and its links behind the eighth are ignored; any data type is written as given.
+ * Refuses with MF4_NO_ROOM (6). */
+mf4_written_reply mf4_write_channel(mf4_channel_block block, uint8_t *out, size_t out_room);
 
 /* ---- values ----------------------------------------------------------------------------------------------------- */
 
 enum mf4_kind {
-    MF4_KIND_NOTHING = 0,  /* on a refusal                                                      */
-    MF4_KIND_UNSIGNED = 1, /* number                                                            */
-    MF4_KIND_SIGNED = 2,   /* number: the two's complement; mf4_signed_of gives the value       */
-    MF4_KIND_DOUBLE = 3,   /* number: the double's 64-bit pattern; mf4_double_of gives the value */
-    MF4_KIND_TEXT = 4,     /* at, length: up to the text's stop, in the bytes given             */
-    MF4_KIND_BYTES = 5,    /* at, length                                                        */
-    MF4_KIND_SAMPLE = 6,   /* at, length                                                        */
-    MF4_KIND_STREAM = 7,   /* at, length                                                        */
-    MF4_KIND_UNKNOWN = 8   /* a type without decoding here                                      */
+    MF4_KIND_NOTHING = 0,  /* on a refusal                                                                 */
+    MF4_KIND_UNSIGNED = 1, /* number is the value                                                          */
+    MF4_KIND_SIGNED = 2,   /* mf4_bits_as_signed(number) is the value                                      */
+    MF4_KIND_DOUBLE = 3,   /* mf4_bits_as_double(number) is the value                                      */
+    MF4_KIND_TEXT = 4,     /* at, length: the text in the bytes given, up to its NUL; for mf4_text_by_type */
+    MF4_KIND_BYTES = 5,    /* at, length                                                                   */
+    MF4_KIND_SAMPLE = 6,   /* at, length                                                                   */
+    MF4_KIND_STREAM = 7,   /* at, length                                                                   */
+    MF4_KIND_UNKNOWN = 8   /* a data type that is not decoded here                                         */
 };
 
-/* number, at and length are 0 where the kind has no use for them. */
-typedef struct mf4_value {
+/* number, at and length are 0 if the kind does not use them. */
+typedef struct mf4_value_reply {
     uint32_t reply;
-    uint32_t kind;
     uint64_t told;
+    uint32_t kind;
     uint64_t number;
     uint64_t at;
     uint64_t length;
-} mf4_value;
+} mf4_value_reply;
 
-/* A value, and whether it is valid: is_valid is 0 where the channel's flags or the record's bit say that it is not. */
-typedef struct mf4_valid_value {
+/* The same, and is_valid: 0 if the channel's flags or the record's invalidation bit mark the value as invalid, else 1. */
+typedef struct mf4_valid_value_reply {
     uint32_t reply;
-    uint32_t kind;
     uint64_t told;
-    uint64_t number;
-    uint64_t at;
-    uint64_t length;
+    uint32_t kind;
     uint8_t is_valid;
-} mf4_valid_value;
+    uint64_t number;
+    uint64_t at;
+    uint64_t length;
+} mf4_valid_value_reply;
 
-/* The value of a number of MF4_KIND_SIGNED. */
-static inline int64_t mf4_signed_of(uint64_t number)
+/* The signed integer with this bit pattern. */
+static inline int64_t mf4_bits_as_signed(uint64_t bits)
 {
     int64_t value;
-    memcpy(&value, &number, sizeof value);
+    memcpy(&value, &bits, sizeof value);
     return value;
 }
 
-/* The value of a number of MF4_KIND_DOUBLE, of what mf4_decode_double gives, or of a limit in a channel block. */
-static inline double mf4_double_of(uint64_t number)
+/* The double with this bit pattern. */
+static inline double mf4_bits_as_double(uint64_t bits)
 {
     double value;
-    memcpy(&value, &number, sizeof value);
+    memcpy(&value, &bits, sizeof value);
     return value;
 }
 
-/* record_id_size: the bytes of the record id in front of each record. data_bytes: the bytes of channel data behind it; the
- * invalidation bits begin where they end. */
+/* The value of a channel in a record; or in a payload, if channel_type is 1 and data_addr is not 0: then the payload's bytes
+ * are given in place of the record. Validity plays no part.
+ *
+ * Refuses with MF4_NO_BITS (18), MF4_BAD_BIT_OFFSET (19), MF4_INTEGER_TOO_WIDE (20), MF4_FIELD_OUTSIDE (21) and
+ * MF4_BAD_FLOAT_WIDTH (22); all but 21 are for numbers only. 21 tells the bytes that the record (with its id) or the payload
+ * would need, saturating at UINT64_MAX. Only the description and the length matter: a channel that is refused in one record
+ * is refused in every record of that length. */
+mf4_value_reply mf4_decode_value(const uint8_t *record, size_t record_len, uint64_t record_id_size, mf4_channel channel);
 
-/* The value of a channel in a record, or in a payload where channel_type is 1 and data is not 0. Refuses with 18, 19, 20,
- * 21, 22, tested in this order; all but 21 are for numbers alone. 21 tells how many bytes would be needed from the front of
- * the record, its id counted, or of the payload; at most 2^64-1. The bytes themselves play no part: what is refused in one
- * record is refused alike in every other of its size. */
-mf4_value mf4_decode_value(const uint8_t *record, size_t record_len, uint64_t record_id_size, mf4_channel channel);
+/* Whether the value is valid: 1 or 0. An invalidation bit outside the record counts as valid. */
+uint8_t mf4_check_validity(const uint8_t *record, size_t record_len, mf4_group group, mf4_channel channel);
 
-/* 1 if the value is valid, 0 if not, by the channel's flags; an invalidation bit beyond the record counts as valid. */
-uint8_t mf4_check_validity(const uint8_t *record, size_t record_len, uint64_t record_id_size, uint32_t data_bytes,
-                           mf4_channel channel);
+/* Both in one call. Refuses as mf4_decode_value does, and is_valid is then 0. */
+mf4_valid_value_reply mf4_decode_valid_value(const uint8_t *record, size_t record_len, mf4_group group,
+                                             mf4_channel channel);
 
-/* Both. Refuses as mf4_decode_value, and then says nothing of validity. */
-mf4_valid_value mf4_decode_valid_value(const uint8_t *record, size_t record_len, uint64_t record_id_size,
-                                       uint32_t data_bytes, mf4_channel channel);
+/* Validity plays no part: an invalid value is decoded like any other. The bit pattern of the value as a double; integers are
+ * rounded to nearest, ties to even. It is NaN, 0x7FF8000000000000, if mf4_decode_value refuses, if the value is not a
+ * number, and for payloads. */
+uint64_t mf4_decode_double_bits(const uint8_t *record, size_t record_len, uint64_t record_id_size, mf4_channel channel);
 
-/* The value as a double's 64-bit pattern: integers rounded to the nearest double, ties to even. NaN, 0x7FF8000000000000,
- * for a payload, for what mf4_decode_value refuses, and for no number. */
-uint64_t mf4_decode_double(const uint8_t *record, size_t record_len, uint64_t record_id_size, mf4_channel channel);
+/* Validity plays no part, as above. The same as a double. */
+static inline double mf4_decode_double(const uint8_t *record, size_t record_len, uint64_t record_id_size,
+                                       mf4_channel channel)
+{
+    return mf4_bits_as_double(mf4_decode_double_bits(record, record_len, record_id_size, channel));
+}
 
-/* ---- a value written -------------------------------------------------------------------------------------------- */
+/* The same, but NaN if the value is invalid. */
+static inline double mf4_decode_valid_double(const uint8_t *record, size_t record_len, mf4_group group,
+                                             mf4_channel channel)
+{
+    if (!mf4_check_validity(record, record_len, group, channel))
+        return mf4_bits_as_double((uint64_t)0x7FF8 << 48);
+    return mf4_decode_double(record, record_len, group.record_id_size, channel);
+}
 
-/* A number to be written, as mf4_value tells one: kind is MF4_KIND_UNSIGNED, MF4_KIND_SIGNED or MF4_KIND_DOUBLE, and number
- * what that kind says. Every other kind is no number, and is refused with 25. */
+/* ---- writing a value -------------------------------------------------------------------------------------------- */
+
+/* A number to write: kind is MF4_KIND_UNSIGNED, MF4_KIND_SIGNED or MF4_KIND_DOUBLE, and number as enum mf4_kind says. */
 typedef struct mf4_number {
     uint32_t kind;
     uint64_t number;
 } mf4_number;
 
-/* Numbers of the three kinds. */
 static inline mf4_number mf4_unsigned(uint64_t value)
 {
     mf4_number number = { MF4_KIND_UNSIGNED, 0 };
@@ -383,77 +441,75 @@ static inline mf4_number mf4_double(double value)
     return number;
 }
 
-typedef struct mf4_stored {
-    uint32_t reply;
-    uint64_t told;
-} mf4_stored;
-
-/* Stores a number in a channel's field of a record, so that mf4_decode_value gives it back, and changes no bit outside the
- * field; the record's invalidation bits are the caller's. A refusal changes nothing.
+/* Writes a number into a channel's field of a record, which is changed in place: mf4_decode_value then gives the number back,
+ * and no bit outside the field changes. Invalidation bits are left to the caller.
  *
- * Refuses first as mf4_decode_value does of that record and channel, with 18 to 22; then with 25 where the number is of another
- * kind than the data type (MF4_UNSIGNED_.. takes an unsigned number alone, and so on: an integer is not made a float), or
- * where the type is no number or the channel one of variable length; then with 24 where the field does not hold the number:
- * an unsigned one of 2^bit_count or more, a signed one outside two's complement of bit_count bits, or, in a float of 32 bits,
- * a double that widening would not give back. So a double that would be rounded is refused: round it first, as (float)value;
- * -0, the infinities and what is subnormal as a float are stored. Of the NaNs a float of 32 bits takes 0x7FF8000000000000
- * alone, as 0x7FC00000; one of 64 bits takes every pattern. */
-mf4_stored mf4_write_value(uint64_t record_id_size, mf4_channel channel, mf4_number value, uint8_t *record,
-                           size_t record_len);
+ * Refuses as mf4_decode_value does for this record and channel (18 to 22); then with MF4_OTHER_KIND (25) if the number is of
+ * another kind than the data type (an integer is not converted to a float), the type is not a number, or the channel has
+ * payloads; then with MF4_DOES_NOT_FIT (24): an unsigned number of 2^bit_count or more, a signed one outside two's
+ * complement of bit_count bits, or a double that a 32-bit float cannot represent exactly. So round it first, as (float)value.
+ * -0, the infinities and subnormal floats are exact; the only NaN that a 32-bit float takes is 0x7FF8000000000000, stored as
+ * 0x7FC00000. A 64-bit float takes every bit pattern. */
+mf4_done_reply mf4_write_value(uint64_t record_id_size, mf4_channel channel, mf4_number value, uint8_t *record,
+                               size_t record_len);
 
-/* ---- fields that overlap ---------------------------------------------------------------------------------------- */
+/* ---- overlapping channels --------------------------------------------------------------------------------------- */
 
-/* found: whether two of the fields share a bit of the record; then first and second are their places in the list, from 0. */
-typedef struct mf4_overlap {
+/* found: 1 if two channels overlap, and first and second are then their indexes in the list; else 0. */
+typedef struct mf4_overlap_reply {
     uint32_t reply;
     uint64_t told;
     uint8_t found;
     uint64_t first;
     uint64_t second;
-} mf4_overlap;
+} mf4_overlap_reply;
 
-/* The first two descriptions whose fields share a bit: of all such pairs the one with the smallest first, and then the
- * smallest second. Bit k of a field's value stands in bit (bit_offset + k) % 8 of byte byte_offset + (bit_offset + k) / 8; in
- * big-endian order the bytes are counted back from the field's last. Invalidation bits are no part of a field, and neither is
- * the record id, which stands in front of all.
+/* Finds two channels whose numbers have a bit of the record in common. If there are several pairs, it is the one whose first
+ * index is lowest, and among these the one whose second index is. Only the bits of the number count: not the other bits of
+ * its bytes, nor invalidation bits.
  *
- * Refuses with 26 over MF4_MAX_CHANNELS descriptions, then with 27 where one is no fixed number: no number, a channel of
- * variable length, or what mf4_decode_value refuses in every record with 18, 19, 20 or 22. told is the first such place. */
-mf4_overlap mf4_first_overlap(const mf4_channel *list, size_t list_len);
+ * Refuses with MF4_TOO_MANY_CHANNELS (26), MF4_NO_FIXED_NUMBER (27): a text, a channel with payloads, or what mf4_decode_value
+ * refuses in every record. To leave such channels out, ask about each alone:
+ *
+ *     for (i = 0; i < channel_count; i++)
+ *         if (mf4_first_overlap(&channels[i], 1).reply == MF4_ANSWER)
+ *             numbers[number_count++] = channels[i];
+ */
+mf4_overlap_reply mf4_first_overlap(const mf4_channel *list, size_t list_len);
 
 /* ---- texts ------------------------------------------------------------------------------------------------------ */
 
-/* damaged: the bytes are not well-formed, and a placeholder such as <Invalid UTF8> was written in their place. */
-typedef struct mf4_text {
+/* damaged: 1 if the bytes are malformed, and a placeholder such as <Invalid UTF8> was written instead. */
+typedef struct mf4_text_reply {
     uint32_t reply;
     uint64_t told;
     uint64_t count;
     uint8_t damaged;
-} mf4_text;
+} mf4_text_reply;
 
-/* A text's bytes as UTF-8, up to its stop: the first NUL byte, or for UTF-16 the first zero unit. No NUL is added.
- * Refuse with 6. */
-mf4_text mf4_text_latin1(const uint8_t *bytes, size_t bytes_len, uint8_t *out, size_t out_len);
-mf4_text mf4_text_utf8(const uint8_t *bytes, size_t bytes_len, uint8_t *out, size_t out_len);
-mf4_text mf4_text_utf16_le(const uint8_t *bytes, size_t bytes_len, uint8_t *out, size_t out_len);
-mf4_text mf4_text_utf16_be(const uint8_t *bytes, size_t bytes_len, uint8_t *out, size_t out_len);
+/* Convert a text to UTF-8, up to its first NUL (in UTF-16, the first zero unit), and write no NUL. count: the bytes written.
+ * Refuse with MF4_NO_ROOM (6). */
+mf4_text_reply mf4_text_latin1(const uint8_t *bytes, size_t bytes_len, uint8_t *out, size_t out_room);
+mf4_text_reply mf4_text_utf8(const uint8_t *bytes, size_t bytes_len, uint8_t *out, size_t out_room);
+mf4_text_reply mf4_text_utf16_le(const uint8_t *bytes, size_t bytes_len, uint8_t *out, size_t out_room);
+mf4_text_reply mf4_text_utf16_be(const uint8_t *bytes, size_t bytes_len, uint8_t *out, size_t out_room);
 
-/* The one of the four that a channel's data type asks for. Refuses with 256 where the type is no text, else with 6. */
-static inline mf4_text mf4_text_by_type(uint8_t data_type, const uint8_t *bytes, size_t bytes_len, uint8_t *out,
-                                        size_t out_len)
+/* The one of the four for a channel's data type. Refuses with MF4_NO_TEXT_TYPE (256), MF4_NO_ROOM (6). */
+static inline mf4_text_reply mf4_text_by_type(uint8_t data_type, const uint8_t *bytes, size_t bytes_len, uint8_t *out,
+                                              size_t out_room)
 {
-    const mf4_text no_text = { MF4_NO_TEXT_TYPE, 0, 0, 0 };
+    const mf4_text_reply no_text = { MF4_NO_TEXT_TYPE, 0, 0, 0 };
     switch (data_type) {
-    case MF4_LATIN1: return mf4_text_latin1(bytes, bytes_len, out, out_len);
-    case MF4_UTF8: return mf4_text_utf8(bytes, bytes_len, out, out_len);
-    case MF4_UTF16_LE: return mf4_text_utf16_le(bytes, bytes_len, out, out_len);
-    case MF4_UTF16_BE: return mf4_text_utf16_be(bytes, bytes_len, out, out_len);
+    case MF4_TYPE_LATIN1: return mf4_text_latin1(bytes, bytes_len, out, out_room);
+    case MF4_TYPE_UTF8: return mf4_text_utf8(bytes, bytes_len, out, out_room);
+    case MF4_TYPE_UTF16_LE: return mf4_text_utf16_le(bytes, bytes_len, out, out_room);
+    case MF4_TYPE_UTF16_BE: return mf4_text_utf16_be(bytes, bytes_len, out, out_room);
     default: return no_text;
     }
 }
 
-/* The room that suffices for every text of so many bytes, in each encoding and damaged or not, which is proved: twice the
- * bytes, and at least the 17 of the longest placeholder. Where twice the bytes is no size_t: the largest one. */
+/* Room that is enough for any text of so many bytes, in every encoding, malformed or not: twice the bytes, at least the 17 of
+ * the longest placeholder. Saturates at SIZE_MAX. */
 static inline size_t mf4_text_room(size_t bytes_len)
 {
     const size_t largest = (size_t)-1, placeholder = 17;
@@ -464,75 +520,82 @@ static inline size_t mf4_text_room(size_t bytes_len)
 
 /* ---- records through a chain of data lists ---------------------------------------------------------------------- */
 
-/* A chain starts at the address `start` of the file, with a ##DL block; the data link of a ##DG block leads there. Its
- * joined data is what its ##DT blocks hold behind their headers, end to end.
+/* `start` is the address of a chain's first ##DL block: the data link of a ##DG block. The chain's joined data is what its
+ * ##DT blocks hold behind their headers, end to end.
  *
- * Where that link leads to a single ##DT block instead, these calls refuse with 3, and no chain is needed: mf4_read_header
- * at that address tells the id and block_len, and the data is the block after its first 24 bytes, provided that block_len
- * is at least 24 and the file has that many bytes from there on. Record k stands at k * record size of it.
+ * Either all lists of a chain have MF4_LIST_EQUAL_LENGTH or none does. With it, all declare the same length and the same
+ * count, and every block has that length; only the last list may count fewer, and its last block may be shorter. Without it,
+ * each offset is the length of all data before its block. Anything else is MF4_UNTRUE_DECLARATION (13).
  *
- * Either all lists of a chain carry MF4_LIST_EQUAL_LENGTH or none does. Where they do, all declare the same length and the
- * same count, and every block has that length; the last list, whose next link is 0, may count fewer, and its last block may
- * be shorter. Where they do not, each offset is the length of all data before its block. What breaks this is refused with 13. */
+ * If the data link is the address of a single ##DT block, the calls refuse with MF4_OTHER_ID (3). Then write a list of that
+ * one block behind a copy of the file, which needs 56 bytes of room there, and start at the list, aligned or not. With an
+ * `address` inside the file:
+ *
+ *     mf4_header_reply h = mf4_read_header(file + address, file_len - address);
+ *     if (h.header.id == id && h.header.block_len <= file_len - address) {
+ *         start = file_len;
+ *         file_len += mf4_write_list_equal(0, &address, 1, h.header.block_len - 24, file + file_len, 56).count;
+ *     }
+ *
+ * Here id is MF4_ID_DT; for a single block of payloads it is MF4_ID_SD, and start is then the channel's data_addr.
+ */
 
-typedef struct mf4_length {
+typedef struct mf4_length_reply {
     uint32_t reply;
     uint64_t told;
     uint64_t length;
-} mf4_length;
+} mf4_length_reply;
 
-/* The length of the joined data: length / record size records, and a tail of length % record size bytes, which is no
- * record. Refuses with 7, then what the chain shows, of each list 8, 11, 2, 3, 4, 10, 9, 13 and then of each of its blocks
- * 11, 12, 14, 13. */
-mf4_length mf4_data_length(const uint8_t *file, size_t file_len, uint64_t start);
+/* The length of the joined data: length / record_size records; length % record_size trailing bytes are ignored.
+ *
+ * Refuses with MF4_FILE_TOO_LONG (7); then, list by list, with MF4_TOO_MANY_LISTS (8), MF4_NO_BLOCK_THERE (11),
+ * MF4_TOO_FEW_BYTES (2), MF4_OTHER_ID (3), MF4_NO_LINKS (4), MF4_TOO_FEW_BYTES (2), MF4_LIST_DISAGREES (10),
+ * MF4_TOO_MANY_FRAGMENTS (9), MF4_UNTRUE_DECLARATION (13), and for each of its blocks with MF4_NO_BLOCK_THERE (11),
+ * MF4_BAD_DATA_BLOCK (12), MF4_DATA_TOO_LONG (14), MF4_UNTRUE_DECLARATION (13). */
+mf4_length_reply mf4_data_length(const uint8_t *file, size_t file_len, uint64_t start);
 
-typedef struct mf4_fetched {
-    uint32_t reply;
-    uint64_t told;
-} mf4_fetched;
+/* Copies record `number`, counted from 0, into the first record_size bytes of the buffer. Each call walks the chain, so fetch
+ * a record once and decode every channel from it, with record_size as its length. Refuses with MF4_BAD_RECORD_SIZE (15), then
+ * as mf4_data_length does, then with MF4_NO_SUCH_RECORD (16), which so marks the end. */
+mf4_done_reply mf4_read_record(const uint8_t *file, size_t file_len, uint64_t start, uint64_t number, uint64_t record_size,
+                               uint8_t *buffer, size_t buffer_room);
 
-/* Record `number` of the joined data: bytes number * record_size up to (number + 1) * record_size, into the first
- * record_size bytes of the buffer. Each call walks the chain, so fetch a record once and decode each channel from it.
- * Refuses with 15, then as mf4_data_length, then with 16. */
-mf4_fetched mf4_read_record(const uint8_t *file, size_t file_len, uint64_t start, uint64_t number, uint64_t record_size,
-                            uint8_t *buffer, size_t buffer_len);
-
-/* The record, and then one channel's value and validity in it. Refuses as mf4_read_record, then as mf4_decode_value, where
- * the record stays in the buffer. */
-mf4_valid_value mf4_record_value(const uint8_t *file, size_t file_len, uint64_t start, uint64_t number,
-                                 uint64_t record_size, uint64_t record_id_size, uint32_t data_bytes, mf4_channel channel,
-                                 uint8_t *buffer, size_t buffer_len);
+/* mf4_read_record and mf4_decode_valid_value in one call. Refuses as the first, then as the second; in the latter case the
+ * record is left in the buffer. */
+mf4_valid_value_reply mf4_record_value(const uint8_t *file, size_t file_len, uint64_t start, uint64_t number,
+                                       uint64_t record_size, mf4_group group, mf4_channel channel, uint8_t *buffer,
+                                       size_t buffer_room);
 
 /* ---- payloads through a second chain ---------------------------------------------------------------------------- */
 
-/* A channel of variable length keeps its values outside the record: with channel_type 1 and a `data` that is not 0, the
- * eight bytes at byte_offset are a position, little-endian whatever the data type, in the joined data of the chain of ##SD
- * blocks that starts at `data`. There stand four bytes of length, little-endian, and so many bytes of payload.
+/* A channel of variable length (channel_type 1 and a data_addr other than 0) has its values outside the record: the 8 bytes
+ * at byte_offset are a position, little-endian whatever the data type, in the joined data of the chain of ##SD blocks that
+ * starts at data_addr. There stand 4 bytes of length, little-endian, and then the payload.
  *
- * kind, number, at and length are those of the payload, as mf4_decode_value gives them of its bytes; at is a place in the
- * payload's buffer. is_valid is the record's. payload_length is how many bytes of the payload's buffer were written. */
-typedef struct mf4_payload {
+ * kind, number, at and length are as mf4_decode_value gives them for the payload's bytes, so `at` counts from the front of the
+ * payload's buffer. is_valid is the record's. payload_length: the bytes written to the payload's buffer. */
+typedef struct mf4_payload_reply {
     uint32_t reply;
-    uint32_t kind;
     uint64_t told;
+    uint32_t kind;
+    uint8_t is_valid;
     uint64_t number;
     uint64_t at;
     uint64_t length;
     uint64_t payload_length;
-    uint8_t is_valid;
-} mf4_payload;
+} mf4_payload_reply;
 
-/* Record `number` into the front of `record`, and the payload that it tells into the front of `payload`. How long a payload
- * is, only the call tells: lend what most need; where it refuses with 6, lend `told` bytes and call again.
+/* Copies record `number` to the front of `record`, and the payload that it refers to to the front of `payload`. Only the call
+ * knows how long a payload is: on MF4_NO_ROOM (6) retry with `told` bytes.
  *
- * Refuses with 35 for a channel that is not as above, or with a bit_offset other than 0 or a bit_count other than 64; then as
- * mf4_read_record; with 21 where the record ends before the position does, told as mf4_decode_value tells it; with what the
- * chain of ##SD blocks shows, as of the other (a `data` that leads to a single ##SD block is 3); with 23, 6, and at last with
- * 21, told 8, for a number whose payload has fewer bytes; the first 21 tells more than record_size, the last does not. From
- * the first 21 on the record stays in its buffer, and with the last also the payload. */
-mf4_payload mf4_record_payload(const uint8_t *file, size_t file_len, uint64_t start, uint64_t number, uint64_t record_size,
-                               uint64_t record_id_size, uint32_t data_bytes, mf4_channel channel, uint8_t *record,
-                               size_t record_len, uint8_t *payload, size_t payload_len);
+ * Refuses with MF4_NO_POSITION (35) if the channel is not as above, or its bit_offset is not 0 or its bit_count not 64; as
+ * mf4_read_record does; with MF4_FIELD_OUTSIDE (21), telling more than record_size, if the record ends before the position
+ * does; as mf4_data_length does for the chain of ##SD blocks; with MF4_PAYLOAD_OUTSIDE (23); with MF4_NO_ROOM (6); with
+ * MF4_FIELD_OUTSIDE (21), telling 8, if a number's payload has fewer than 8 bytes. From the first 21 on the record is left in
+ * its buffer, and with the last 21 the payload is, too. */
+mf4_payload_reply mf4_record_payload(const uint8_t *file, size_t file_len, uint64_t start, uint64_t number,
+                                     uint64_t record_size, mf4_group group, mf4_channel channel, uint8_t *record,
+                                     size_t record_room, uint8_t *payload, size_t payload_room);
 
 #ifdef __cplusplus
 }

@@ -17,7 +17,7 @@ pub fn doubles_of_all(records: Pieces, channels: &[c::Channel]) -> u64 {
 }
 
 fn double(record: &[u8], id_size: u64, channel: c::Channel) -> u64 {
-    unsafe { c::mf4_decode_double(record.as_ptr(), record.len(), id_size, channel) }
+    unsafe { c::mf4_decode_double_bits(record.as_ptr(), record.len(), id_size, channel) }
 }
 
 pub fn values(records: Pieces, channel: &c::Channel) -> u64 {
@@ -35,15 +35,14 @@ fn value(record: &[u8], id_size: u64, channel: c::Channel) -> u64 {
 }
 
 pub fn valid_values(records: Pieces, data_bytes: u32, channel: &c::Channel) -> u64 {
-    let (channel, id_size, data_bytes) = black_box((*channel, 0, data_bytes));
+    let (channel, group) = black_box((*channel, c::Group { record_id_size: 0, data_bytes }));
     records.sum(|record| {
-        let (start, len) = (record.as_ptr(), record.len());
-        let answer = unsafe { c::mf4_decode_valid_value(start, len, id_size, data_bytes, channel) };
+        let answer = unsafe { c::mf4_decode_valid_value(record.as_ptr(), record.len(), group, channel) };
         word_of(record, &answer.value()).wrapping_add(u64::from(answer.is_valid))
     })
 }
 
-fn word_of(record: &[u8], answer: &c::Value) -> u64 {
+fn word_of(record: &[u8], answer: &c::ValueReply) -> u64 {
     match answer.kind {
         c::kind::UNSIGNED..=c::kind::DOUBLE => answer.number,
         c::kind::TEXT..=c::kind::STREAM => digest::of_bytes(&record[answer.at as usize..][..answer.length as usize]),
@@ -67,7 +66,7 @@ pub fn overlaps(list: &[c::Channel]) -> u64 {
     u64::from(answer.reply) + u64::from(answer.found)
 }
 
-pub type TextCall = unsafe extern "C" fn(*const u8, usize, *mut u8, usize) -> c::Text;
+pub type TextCall = unsafe extern "C" fn(*const u8, usize, *mut u8, usize) -> c::TextReply;
 
 /// No text takes more bytes than twice its own as UTF-8.
 #[inline(always)]
@@ -83,11 +82,11 @@ pub fn headers_read(headers: Pieces) -> u64 {
     headers.sum(|bytes| {
         let answer = unsafe { c::mf4_read_header(bytes.as_ptr(), bytes.len()) };
         let header = &answer.header;
-        digest::of_bytes(&header.id.to_le_bytes()).wrapping_add(header.block_len ^ header.links_nr)
+        digest::of_bytes(&header.id.to_le_bytes()).wrapping_add(header.block_len ^ header.link_count)
     })
 }
 
-pub fn headers_written(headers: &[c::BlockHeader], count: usize) -> u64 {
+pub fn headers_written(headers: &[c::Header], count: usize) -> u64 {
     let headers = black_box(headers);
     let mut out = vec![0; 24];
     digest::sum(headers.iter().cycle().take(count).map(|header| {
@@ -103,7 +102,7 @@ pub fn channels_read(blocks: Pieces) -> u64 {
         let block = black_box(&answer.block);
         let channel = &block.channel;
         let description = u64::from(channel.byte_offset) + u64::from(channel.bit_count) + u64::from(channel.data_type);
-        digest::sum([block.name_addr, channel.data, description, block.upper_limit].into_iter())
+        digest::sum([block.name_addr, channel.data_addr, description, block.upper_limit].into_iter())
     })
 }
 
@@ -120,9 +119,9 @@ pub fn channels_written(blocks: &[c::ChannelBlock], count: usize) -> u64 {
 pub fn lists_read(lists: Pieces) -> u64 {
     lists.sum(|bytes| {
         let list = unsafe { c::mf4_read_list(bytes.as_ptr(), bytes.len()) };
-        let links = &bytes[list.links_at as usize..][..8 * list.links as usize];
-        let rest = &bytes[list.rest_at as usize..][..8 * list.rest as usize];
-        digest::of_number_bytes(links).wrapping_add(list.next ^ digest::of_number_bytes(rest))
+        let links = &bytes[list.data_links_at as usize..][..8 * list.data_link_count as usize];
+        let rest = &bytes[list.rest_at as usize..][..8 * list.rest_count as usize];
+        digest::of_number_bytes(links).wrapping_add(list.next_addr ^ digest::of_number_bytes(rest))
     })
 }
 

@@ -71,7 +71,7 @@ fn channel_of(given: &c::Channel) -> ChannelBlock {
         bit_count: given.bit_count,
         flags: given.flags,
         pos_invalidation_bit: given.pos_invalidation_bit,
-        data: given.data,
+        data: given.data_addr,
         ..ChannelBlock::default()
     }
 }
@@ -83,19 +83,19 @@ pub fn headers_read(headers: Pieces) -> u64 {
     })
 }
 
-pub fn headers_written(given: &[c::BlockHeader], count: usize) -> u64 {
+pub fn headers_written(given: &[c::Header], count: usize) -> u64 {
     let headers: Vec<BlockHeader> = given.iter().map(header_of).collect();
     let headers = black_box(&headers[..]);
     let written = headers.iter().cycle().take(count).map(|header| header.to_bytes());
     digest::sum(written.map(|bytes| bytes.map_or(0, |bytes| digest::of_bytes(&bytes))))
 }
 
-fn header_of(given: &c::BlockHeader) -> BlockHeader {
+fn header_of(given: &c::Header) -> BlockHeader {
     BlockHeader {
         id: String::from_utf8_lossy(&given.id.to_le_bytes()).to_string(),
         reserved0: given.reserved0,
         block_len: given.block_len,
-        links_nr: given.links_nr,
+        links_nr: given.link_count,
     }
 }
 

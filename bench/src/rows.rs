@@ -35,8 +35,8 @@ pub fn all() -> Vec<Plan> {
 
 /// A field that starts with a byte, of records that say nothing of validity.
 fn channel(data_type: u8, byte_offset: u32, bit_count: u32) -> c::Channel {
-    let (channel_type, bit_offset, flags, pos_invalidation_bit, data) = (0, 0, 0, 0, 0);
-    c::Channel { data_type, channel_type, bit_offset, byte_offset, bit_count, flags, pos_invalidation_bit, data }
+    let (channel_type, bit_offset, flags, pos_invalidation_bit, data_addr) = (0, 0, 0, 0, 0);
+    c::Channel { data_type, channel_type, bit_offset, byte_offset, bit_count, flags, pos_invalidation_bit, data_addr }
 }
 
 /// A row over pieces of one size. What it reads is copied to memory that is warm as well.

@@ -4,43 +4,51 @@
 
 #[repr(C)]
 #[derive(Clone, Copy)]
-pub struct BlockHeader {
+pub struct Header {
     pub id: u32,
     pub reserved0: u32,
     pub block_len: u64,
-    pub links_nr: u64,
+    pub link_count: u64,
 }
 
 #[repr(C)]
 #[derive(Clone, Copy)]
-pub struct Header {
+pub struct HeaderReply {
     pub reply: u32,
     pub told: u64,
-    pub header: BlockHeader,
+    pub header: Header,
 }
 
 #[repr(C)]
 #[derive(Clone, Copy)]
-pub struct Written {
+pub struct WrittenReply {
     pub reply: u32,
     pub told: u64,
     pub count: u64,
 }
 
+/// Of a call that answers nothing else.
 #[repr(C)]
 #[derive(Clone, Copy)]
-pub struct List {
+pub struct DoneReply {
     pub reply: u32,
     pub told: u64,
-    pub header: BlockHeader,
-    pub next: u64,
-    pub links_at: u64,
-    pub links: u64,
+}
+
+#[repr(C)]
+#[derive(Clone, Copy)]
+pub struct ListReply {
+    pub reply: u32,
+    pub told: u64,
+    pub header: Header,
+    pub next_addr: u64,
+    pub data_links_at: u64,
+    pub data_link_count: u64,
     pub flags: u8,
     pub reserved1: u32,
-    pub data_block_nr: u32,
+    pub data_block_count: u32,
     pub rest_at: u64,
-    pub rest: u64,
+    pub rest_count: u64,
 }
 
 #[repr(C)]
@@ -53,13 +61,20 @@ pub struct Channel {
     pub bit_count: u32,
     pub flags: u32,
     pub pos_invalidation_bit: u32,
-    pub data: u64,
+    pub data_addr: u64,
+}
+
+#[repr(C)]
+#[derive(Clone, Copy)]
+pub struct Group {
+    pub record_id_size: u64,
+    pub data_bytes: u32,
 }
 
 #[repr(C)]
 #[derive(Clone, Copy)]
 pub struct ChannelBlock {
-    pub header: BlockHeader,
+    pub header: Header,
     pub next_ch_addr: u64,
     pub component_addr: u64,
     pub name_addr: u64,
@@ -68,12 +83,12 @@ pub struct ChannelBlock {
     pub unit_addr: u64,
     pub comment_addr: u64,
     pub more_links_at: u64,
-    pub more_links: u64,
+    pub more_link_count: u64,
     pub channel: Channel,
     pub sync_type: u8,
     pub precision: u8,
     pub reserved1: u8,
-    pub attachment_nr: u16,
+    pub attachment_count: u16,
     pub min_raw_value: u64,
     pub max_raw_value: u64,
     pub lower_limit: u64,
@@ -105,10 +120,10 @@ pub mod data_type {
 
 #[repr(C)]
 #[derive(Clone, Copy)]
-pub struct Value {
+pub struct ValueReply {
     pub reply: u32,
-    pub kind: u32,
     pub told: u64,
+    pub kind: u32,
     pub number: u64,
     pub at: u64,
     pub length: u64,
@@ -116,20 +131,20 @@ pub struct Value {
 
 #[repr(C)]
 #[derive(Clone, Copy)]
-pub struct ValidValue {
+pub struct ValidValueReply {
     pub reply: u32,
-    pub kind: u32,
     pub told: u64,
+    pub kind: u32,
+    pub is_valid: u8,
     pub number: u64,
     pub at: u64,
     pub length: u64,
-    pub is_valid: u8,
 }
 
-impl ValidValue {
-    pub fn value(&self) -> Value {
-        let ValidValue { reply, kind, told, number, at, length, .. } = *self;
-        Value { reply, kind, told, number, at, length }
+impl ValidValueReply {
+    pub fn value(&self) -> ValueReply {
+        let ValidValueReply { reply, told, kind, number, at, length, .. } = *self;
+        ValueReply { reply, told, kind, number, at, length }
     }
 }
 
@@ -146,7 +161,7 @@ pub mod kind {
     pub const UNKNOWN: u32 = 8;
 }
 
-/// What is to be written, as `Value` has it.
+/// What is to be written, as `ValueReply` has it.
 #[repr(C)]
 #[derive(Clone, Copy)]
 pub struct Number {
@@ -156,14 +171,7 @@ pub struct Number {
 
 #[repr(C)]
 #[derive(Clone, Copy)]
-pub struct Stored {
-    pub reply: u32,
-    pub told: u64,
-}
-
-#[repr(C)]
-#[derive(Clone, Copy)]
-pub struct Overlap {
+pub struct OverlapReply {
     pub reply: u32,
     pub told: u64,
     pub found: u8,
@@ -173,7 +181,7 @@ pub struct Overlap {
 
 #[repr(C)]
 #[derive(Clone, Copy)]
-pub struct Text {
+pub struct TextReply {
     pub reply: u32,
     pub told: u64,
     pub count: u64,
@@ -182,7 +190,7 @@ pub struct Text {
 
 #[repr(C)]
 #[derive(Clone, Copy)]
-pub struct Length {
+pub struct LengthReply {
     pub reply: u32,
     pub told: u64,
     pub length: u64,
@@ -190,78 +198,65 @@ pub struct Length {
 
 #[repr(C)]
 #[derive(Clone, Copy)]
-pub struct Fetched {
+pub struct PayloadReply {
     pub reply: u32,
     pub told: u64,
-}
-
-#[repr(C)]
-#[derive(Clone, Copy)]
-pub struct Payload {
-    pub reply: u32,
     pub kind: u32,
-    pub told: u64,
+    pub is_valid: u8,
     pub number: u64,
     pub at: u64,
     pub length: u64,
     pub payload_length: u64,
-    pub is_valid: u8,
 }
 
 extern "C" {
-    pub fn mf4_read_header(bytes: *const u8, bytes_len: usize) -> Header;
-    pub fn mf4_write_header(header: BlockHeader, out: *mut u8, out_len: usize) -> Written;
+    pub fn mf4_version() -> u32;
+    pub fn mf4_read_header(bytes: *const u8, bytes_len: usize) -> HeaderReply;
+    pub fn mf4_write_header(header: Header, out: *mut u8, out_room: usize) -> WrittenReply;
     pub fn mf4_type_code(code: u8) -> u8;
     pub fn mf4_default_bits(code: u8) -> u32;
-    pub fn mf4_read_list(bytes: *const u8, bytes_len: usize) -> List;
+    pub fn mf4_read_list(bytes: *const u8, bytes_len: usize) -> ListReply;
     pub fn mf4_write_list_equal(
-        next: u64,
+        next_addr: u64,
         links: *const u64,
         links_len: usize,
         length: u64,
         out: *mut u8,
-        out_len: usize,
-    ) -> Written;
+        out_room: usize,
+    ) -> WrittenReply;
     pub fn mf4_write_list_variable(
-        next: u64,
+        next_addr: u64,
         links: *const u64,
         links_len: usize,
         offsets: *const u64,
         offsets_len: usize,
         out: *mut u8,
-        out_len: usize,
-    ) -> Written;
+        out_room: usize,
+    ) -> WrittenReply;
     pub fn mf4_read_channel(bytes: *const u8, bytes_len: usize) -> ChannelReply;
-    pub fn mf4_write_channel(block: ChannelBlock, out: *mut u8, out_len: usize) -> Written;
-    pub fn mf4_decode_value(record: *const u8, record_len: usize, record_id_size: u64, channel: Channel) -> Value;
-    pub fn mf4_check_validity(
-        record: *const u8,
-        record_len: usize,
-        record_id_size: u64,
-        data_bytes: u32,
-        channel: Channel,
-    ) -> u8;
+    pub fn mf4_write_channel(block: ChannelBlock, out: *mut u8, out_room: usize) -> WrittenReply;
+    pub fn mf4_decode_value(record: *const u8, record_len: usize, record_id_size: u64, channel: Channel) -> ValueReply;
+    pub fn mf4_check_validity(record: *const u8, record_len: usize, group: Group, channel: Channel) -> u8;
     pub fn mf4_decode_valid_value(
         record: *const u8,
         record_len: usize,
-        record_id_size: u64,
-        data_bytes: u32,
+        group: Group,
         channel: Channel,
-    ) -> ValidValue;
-    pub fn mf4_decode_double(record: *const u8, record_len: usize, record_id_size: u64, channel: Channel) -> u64;
+    ) -> ValidValueReply;
+    pub fn mf4_decode_double_bits(record: *const u8, record_len: usize, record_id_size: u64, channel: Channel) -> u64;
     pub fn mf4_write_value(
         record_id_size: u64,
         channel: Channel,
         value: Number,
         record: *mut u8,
         record_len: usize,
-    ) -> Stored;
-    pub fn mf4_first_overlap(list: *const Channel, list_len: usize) -> Overlap;
-    pub fn mf4_text_latin1(bytes: *const u8, bytes_len: usize, out: *mut u8, out_len: usize) -> Text;
-    pub fn mf4_text_utf8(bytes: *const u8, bytes_len: usize, out: *mut u8, out_len: usize) -> Text;
-    pub fn mf4_text_utf16_le(bytes: *const u8, bytes_len: usize, out: *mut u8, out_len: usize) -> Text;
-    pub fn mf4_text_utf16_be(bytes: *const u8, bytes_len: usize, out: *mut u8, out_len: usize) -> Text;
-    pub fn mf4_data_length(file: *const u8, file_len: usize, start: u64) -> Length;
+    ) -> DoneReply;
+    pub fn mf4_first_overlap(list: *const Channel, list_len: usize) -> OverlapReply;
+    pub fn mf4_text_latin1(bytes: *const u8, bytes_len: usize, out: *mut u8, out_room: usize) -> TextReply;
+    pub fn mf4_text_utf8(bytes: *const u8, bytes_len: usize, out: *mut u8, out_room: usize) -> TextReply;
+    pub fn mf4_text_utf16_le(bytes: *const u8, bytes_len: usize, out: *mut u8, out_room: usize) -> TextReply;
+    pub fn mf4_text_utf16_be(bytes: *const u8, bytes_len: usize, out: *mut u8, out_room: usize) -> TextReply;
+    pub fn mf4_data_length(file: *const u8, file_len: usize, start: u64) -> LengthReply;
     pub fn mf4_read_record(
         file: *const u8,
         file_len: usize,
@@ -269,32 +264,30 @@ extern "C" {
         number: u64,
         record_size: u64,
         buffer: *mut u8,
-        buffer_len: usize,
-    ) -> Fetched;
+        buffer_room: usize,
+    ) -> DoneReply;
     pub fn mf4_record_value(
         file: *const u8,
         file_len: usize,
         start: u64,
         number: u64,
         record_size: u64,
-        record_id_size: u64,
-        data_bytes: u32,
+        group: Group,
         channel: Channel,
         buffer: *mut u8,
-        buffer_len: usize,
-    ) -> ValidValue;
+        buffer_room: usize,
+    ) -> ValidValueReply;
     pub fn mf4_record_payload(
         file: *const u8,
         file_len: usize,
         start: u64,
         number: u64,
         record_size: u64,
-        record_id_size: u64,
-        data_bytes: u32,
+        group: Group,
         channel: Channel,
         record: *mut u8,
-        record_len: usize,
+        record_room: usize,
         payload: *mut u8,
-        payload_len: usize,
-    ) -> Payload;
+        payload_room: usize,
+    ) -> PayloadReply;
 }

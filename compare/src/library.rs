@@ -30,21 +30,21 @@ pub fn default_bits(code: u8) -> u32 {
 
 const EMPTY_HEADER: Header = Header { id: [0; 4], reserved0: 0, block_len: 0, links_nr: 0 };
 
-fn header_to(header: &Header) -> c::BlockHeader {
-    c::BlockHeader {
+fn header_to(header: &Header) -> c::Header {
+    c::Header {
         id: u32::from_le_bytes(header.id),
         reserved0: header.reserved0,
         block_len: header.block_len,
-        links_nr: header.links_nr,
+        link_count: header.links_nr,
     }
 }
 
-fn header_of(header: &c::BlockHeader) -> Header {
+fn header_of(header: &c::Header) -> Header {
     Header {
         id: header.id.to_le_bytes(),
         reserved0: header.reserved0,
         block_len: header.block_len,
-        links_nr: header.links_nr,
+        links_nr: header.link_count,
     }
 }
 
@@ -54,14 +54,14 @@ pub fn read_list(bytes: &[u8]) -> Owed<Reply<List>> {
     let answer = unsafe { c::mf4_read_list(start(bytes), bytes.len()) };
     let list = List {
         header: header_of(&answer.header),
-        next: answer.next,
-        links_at: answer.links_at,
-        links: answer.links,
+        next: answer.next_addr,
+        links_at: answer.data_links_at,
+        links: answer.data_link_count,
         flags: answer.flags,
         reserved1: answer.reserved1,
-        data_block_nr: answer.data_block_nr,
+        data_block_nr: answer.data_block_count,
         rest_at: answer.rest_at,
-        rest: answer.rest,
+        rest: answer.rest_count,
     };
     reply(answer.reply, answer.told, list == EMPTY_LIST, list)
 }
@@ -135,12 +135,12 @@ fn block_to(block: &ChannelBlock) -> c::ChannelBlock {
         unit_addr,
         comment_addr,
         more_links_at: block.more_links_at,
-        more_links: block.more_links,
+        more_link_count: block.more_links,
         channel: channel_to(&block.channel),
         sync_type: block.sync_type,
         precision: block.precision,
         reserved1: block.reserved1,
-        attachment_nr: block.attachment_nr,
+        attachment_count: block.attachment_nr,
         min_raw_value,
         max_raw_value,
         lower_limit,
@@ -163,12 +163,12 @@ fn block_of(block: &c::ChannelBlock) -> ChannelBlock {
             block.comment_addr,
         ],
         more_links_at: block.more_links_at,
-        more_links: block.more_links,
+        more_links: block.more_link_count,
         channel: channel_of(&block.channel),
         sync_type: block.sync_type,
         precision: block.precision,
         reserved1: block.reserved1,
-        attachment_nr: block.attachment_nr,
+        attachment_nr: block.attachment_count,
         limits: [
             block.min_raw_value,
             block.max_raw_value,
@@ -189,7 +189,7 @@ fn channel_to(channel: &Channel) -> c::Channel {
         bit_count: channel.bit_count,
         flags: channel.flags,
         pos_invalidation_bit: channel.pos_invalidation_bit,
-        data: channel.data,
+        data_addr: channel.data,
     }
 }
 
@@ -202,11 +202,15 @@ fn channel_of(channel: &c::Channel) -> Channel {
         bit_count: channel.bit_count,
         flags: channel.flags,
         pos_invalidation_bit: channel.pos_invalidation_bit,
-        data: channel.data,
+        data: channel.data_addr,
     }
 }
 
 // ---- values
+
+fn group_of(field: &Field) -> c::Group {
+    c::Group { record_id_size: field.id_size, data_bytes: field.data_bytes }
+}
 
 pub fn decode_value(field: &Field) -> Owed<Reply<Value>> {
     let record = &field.record;
@@ -231,7 +235,7 @@ pub fn carried(field: &Field, into: &[u8]) -> Owed<Reply<(Value, Option<Vec<u8>>
     Ok(value.map(|value| (value, is_number.then_some(record))))
 }
 
-fn store(field: &Field, number: c::Number, into: &[u8]) -> Owed<(c::Stored, Vec<u8>)> {
+fn store(field: &Field, number: c::Number, into: &[u8]) -> Owed<(c::DoneReply, Vec<u8>)> {
     let mut record = [into, &[0xA5; FENCE]].concat();
     let lent = if into.is_empty() { std::ptr::null_mut() } else { record.as_mut_ptr() };
     let channel = channel_to(&field.channel);
@@ -245,22 +249,13 @@ fn store(field: &Field, number: c::Number, into: &[u8]) -> Owed<(c::Stored, Vec<
 
 pub fn check_validity(field: &Field) -> Owed<bool> {
     let record = &field.record;
-    flag(unsafe {
-        c::mf4_check_validity(start(record), record.len(), field.id_size, field.data_bytes, channel_to(&field.channel))
-    })
+    flag(unsafe { c::mf4_check_validity(start(record), record.len(), group_of(field), channel_to(&field.channel)) })
 }
 
 pub fn decode_valid_value(field: &Field) -> Owed<Reply<(Value, bool)>> {
     let record = &field.record;
-    let answer = unsafe {
-        c::mf4_decode_valid_value(
-            start(record),
-            record.len(),
-            field.id_size,
-            field.data_bytes,
-            channel_to(&field.channel),
-        )
-    };
+    let answer =
+        unsafe { c::mf4_decode_valid_value(start(record), record.len(), group_of(field), channel_to(&field.channel)) };
     let is_valid = flag(answer.is_valid)?;
     match value_reply(&answer.value())? {
         Ok(value) => Ok(Ok((value, is_valid))),
@@ -271,10 +266,10 @@ pub fn decode_valid_value(field: &Field) -> Owed<Reply<(Value, bool)>> {
 
 pub fn decode_double(field: &Field) -> u64 {
     let record = &field.record;
-    unsafe { c::mf4_decode_double(start(record), record.len(), field.id_size, channel_to(&field.channel)) }
+    unsafe { c::mf4_decode_double_bits(start(record), record.len(), field.id_size, channel_to(&field.channel)) }
 }
 
-fn value_reply(answer: &c::Value) -> Owed<Reply<Value>> {
+fn value_reply(answer: &c::ValueReply) -> Owed<Reply<Value>> {
     if answer.reply != 0 {
         let empty = fields(answer) == [0; 3] && answer.kind == c::kind::NOTHING;
         return reply(answer.reply, answer.told, empty, Value::Unknown);
@@ -283,7 +278,7 @@ fn value_reply(answer: &c::Value) -> Owed<Reply<Value>> {
 }
 
 /// The value of its kind. The fields of the other kinds hold nothing, so that an answer has one form only.
-fn value_of(answer: &c::Value) -> Owed<Value> {
+fn value_of(answer: &c::ValueReply) -> Owed<Value> {
     let place = Place { at: answer.at, length: answer.length };
     let value = match answer.kind {
         c::kind::UNSIGNED => Value::Unsigned(answer.number),
@@ -307,7 +302,7 @@ fn value_of(answer: &c::Value) -> Owed<Value> {
     Ok(value)
 }
 
-fn fields(answer: &c::Value) -> [u64; 3] {
+fn fields(answer: &c::ValueReply) -> [u64; 3] {
     [answer.number, answer.at, answer.length]
 }
 
@@ -324,7 +319,7 @@ pub fn text(encoding: Encoding, bytes: &[u8], room: usize) -> Owed<Reply<Text>> 
     let answer = written(room, |out, len| {
         let answer = unsafe { call(start(bytes), bytes.len(), out, len) };
         damaged = answer.damaged;
-        c::Written { reply: answer.reply, told: answer.told, count: answer.count }
+        c::WrittenReply { reply: answer.reply, told: answer.told, count: answer.count }
     })?;
     let damaged = flag(damaged)?;
     match answer {
@@ -365,7 +360,7 @@ fn flag(byte: u8) -> Owed<bool> {
 /// Bytes behind the lent ones, where a write past the end would show.
 const FENCE: usize = 32;
 
-fn written(room: usize, call: impl FnOnce(*mut u8, usize) -> c::Written) -> Owed<Reply<Vec<u8>>> {
+fn written(room: usize, call: impl FnOnce(*mut u8, usize) -> c::WrittenReply) -> Owed<Reply<Vec<u8>>> {
     let before: Vec<u8> = (0..room + FENCE).map(|i| (i as u8) ^ 0xA5).collect();
     let mut out = before.clone();
     let lent = if room == 0 { std::ptr::null_mut() } else { out.as_mut_ptr() };

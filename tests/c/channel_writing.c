@@ -3,7 +3,7 @@
 
 #include <string.h>
 
-static mf4_written write_block(mf4_channel_block block, lent out)
+static mf4_written_reply write_block(mf4_channel_block block, lent out)
 {
     return mf4_write_channel(block, out.bytes, out.length);
 }
@@ -69,15 +69,15 @@ static void check_not_looked_at(void)
         CHECK(writes_the_same(block));
         block.header.block_len = numbers[i];
         CHECK(writes_the_same(block));
-        block.header.links_nr = numbers[i];
+        block.header.link_count = numbers[i];
         CHECK(writes_the_same(block));
         block.more_links_at = numbers[i];
         CHECK(writes_the_same(block));
-        block.more_links = numbers[i];
+        block.more_link_count = numbers[i];
         CHECK(writes_the_same(block));
         block.reserved1 = (uint8_t)numbers[i];
         CHECK(writes_the_same(block));
-        block.attachment_nr = (uint16_t)numbers[i];
+        block.attachment_count = (uint16_t)numbers[i];
         CHECK(writes_the_same(block));
     }
 }
@@ -169,7 +169,7 @@ static void check_limit_patterns(void)
 }
 
 /* Reads the bytes of a block and writes what was read into the slice. */
-static mf4_written rewritten(const uint8_t *bytes, lent out)
+static mf4_written_reply rewritten(const uint8_t *bytes, lent out)
 {
     lent input = lend_copy(INPUT, bytes, 160);
     mf4_channel_reply read = mf4_read_channel(input.bytes, input.length);

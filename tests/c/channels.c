@@ -21,14 +21,14 @@ mf4_channel_block sample_block(void)
         .unit_addr = UINT64_C(0x7877767574737271),
         .comment_addr = UINT64_C(0x8887868584838281),
         .more_links_at = 88,
-        .more_links = 0,
-        .channel = { .data_type = MF4_FLOAT_BE, .channel_type = 0x91, .bit_offset = 0x94, .byte_offset = 0xA4A3A2A1,
+        .more_link_count = 0,
+        .channel = { .data_type = MF4_TYPE_FLOAT_BE, .channel_type = 0x91, .bit_offset = 0x94, .byte_offset = 0xA4A3A2A1,
                      .bit_count = 0xA9A8A7A6, .flags = 0xB4B3B2B1, .pos_invalidation_bit = 0xB8B7B6B5,
-                     .data = UINT64_C(0x6867666564636261) },
+                     .data_addr = UINT64_C(0x6867666564636261) },
         .sync_type = 0x92,
         .precision = 0xC1,
         .reserved1 = 0xC2,
-        .attachment_nr = 0xC4C3,
+        .attachment_count = 0xC4C3,
         .min_raw_value = UINT64_C(0xD8D7D6D5D4D3D2D1),
         .max_raw_value = UINT64_C(0xE8E7E6E5E4E3E2E1),
         .lower_limit = UINT64_C(0xF8F7F6F5F4F3F2F1),
@@ -45,7 +45,7 @@ mf4_channel_block written_block(void)
     block.header.reserved0 = 0;
     block.header.block_len = 160;
     block.reserved1 = 0;
-    block.attachment_nr = 0;
+    block.attachment_count = 0;
     return block;
 }
 
@@ -83,8 +83,8 @@ static size_t bytes_with_links(size_t links, uint8_t *bytes)
 static mf4_channel_block block_with_links(uint64_t links)
 {
     mf4_channel_block block = sample_block();
-    block.header.links_nr = links;
-    block.more_links = links - 8;
+    block.header.link_count = links;
+    block.more_link_count = links - 8;
     return block;
 }
 
@@ -97,11 +97,11 @@ static mf4_channel_reply read_bytes(const uint8_t *bytes, size_t count)
 }
 
 /* The sample's first bytes with that link count, whatever stands behind it. */
-static mf4_channel_reply read_counted(uint64_t links_nr, size_t count)
+static mf4_channel_reply read_counted(uint64_t link_count, size_t count)
 {
     uint8_t bytes[MOST_BLOCK];
     bytes_with_links(8, bytes);
-    put_little(bytes + 16, links_nr, 8);
+    put_little(bytes + 16, link_count, 8);
     return read_bytes(bytes, count);
 }
 
@@ -190,7 +190,7 @@ static void check_few_links(void)
 }
 
 typedef struct counted {
-    uint64_t links_nr, told;
+    uint64_t link_count, told;
 } counted;
 
 /* 2^61 - 13 links need 24 + 8 * (2^61 - 13) + 72 = 2^64 - 8 bytes, the largest such size; one more needs 2^64, told as
@@ -217,9 +217,9 @@ static void check_many_links(void)
     size_t i;
     for (i = 0; i < COUNT(many_links); i++) {
         name_row("read a channel: many links", i);
-        CHECK(channel_refused(read_counted(many_links[i].links_nr, 24), 2, many_links[i].told));
-        CHECK(channel_refused(read_counted(many_links[i].links_nr, 160), 2, many_links[i].told));
-        CHECK(channel_refused(read_counted(many_links[i].links_nr, 170), 2, many_links[i].told));
+        CHECK(channel_refused(read_counted(many_links[i].link_count, 24), 2, many_links[i].told));
+        CHECK(channel_refused(read_counted(many_links[i].link_count, 160), 2, many_links[i].told));
+        CHECK(channel_refused(read_counted(many_links[i].link_count, 170), 2, many_links[i].told));
     }
     name_case("read a channel: links around the largest size");
     for (links = border - 40; links < border; links++)
@@ -241,7 +241,7 @@ static void check_uncompared(void)
         CHECK(channel_is(read_bytes(bytes, size), block));
     }
     for (i = 0; i < COUNT(counts); i++) {
-        put_little(bytes + 118, block.attachment_nr = counts[i], 2);
+        put_little(bytes + 118, block.attachment_count = counts[i], 2);
         CHECK(channel_is(read_bytes(bytes, size), block));
     }
 }
@@ -264,8 +264,7 @@ typedef struct described {
     const char *fields; /* up to the invalidation bit's position */
     uint64_t data;
     const char *record;
-    uint64_t id_size;
-    uint32_t data_bytes;
+    mf4_group group;
     expected value;
     uint8_t is_valid;
 } described;
@@ -275,42 +274,42 @@ typedef struct described {
     kinds " " byte_offset " 00 00 00 " bit_count " 00 00 00 " flags " 00 00 00 " position " 00 00 00"
 
 static const described descriptions[] = {
-    { DESCRIBED("00 00 00 00", "01", "10", "00", "00"), 0, "FF 34 12", 0, 0, UNSIGNED_IS(4660), 1 },
-    { DESCRIBED("00 01 01 00", "01", "10", "00", "00"), 0, "FF 34 12", 0, 0, UNSIGNED_IS(13330), 1 },
-    { DESCRIBED("00 00 00 04", "00", "08", "00", "00"), 0, "34 12", 0, 0, UNSIGNED_IS(35), 1 },
-    { DESCRIBED("00 00 01 04", "00", "08", "00", "00"), 0, "34 12", 0, 0, UNSIGNED_IS(65), 1 },
+    { DESCRIBED("00 00 00 00", "01", "10", "00", "00"), 0, "FF 34 12", { 0, 0 }, UNSIGNED_IS(4660), 1 },
+    { DESCRIBED("00 01 01 00", "01", "10", "00", "00"), 0, "FF 34 12", { 0, 0 }, UNSIGNED_IS(13330), 1 },
+    { DESCRIBED("00 00 00 04", "00", "08", "00", "00"), 0, "34 12", { 0, 0 }, UNSIGNED_IS(35), 1 },
+    { DESCRIBED("00 00 01 04", "00", "08", "00", "00"), 0, "34 12", { 0, 0 }, UNSIGNED_IS(65), 1 },
     /* byte 5, and bit 5 in its place */
-    { DESCRIBED("00 00 00 00", "05", "08", "00", "00"), 0, "00 FF 00 00 00 2A", 0, 0, UNSIGNED_IS(42), 1 },
-    { DESCRIBED("00 00 00 05", "00", "08", "00", "00"), 0, "00 FF 00 00 00 2A", 0, 0, UNSIGNED_IS(248), 1 },
-    { DESCRIBED("00 00 03 04", "00", "04", "00", "00"), 0, "F0", 0, 0, SIGNED_IS(-1), 1 },
-    { DESCRIBED("00 00 04 00", "02", "20", "00", "00"), 9, "FF FF FF 00 00 80 3F", 1, 0,
+    { DESCRIBED("00 00 00 00", "05", "08", "00", "00"), 0, "00 FF 00 00 00 2A", { 0, 0 }, UNSIGNED_IS(42), 1 },
+    { DESCRIBED("00 00 00 05", "00", "08", "00", "00"), 0, "00 FF 00 00 00 2A", { 0, 0 }, UNSIGNED_IS(248), 1 },
+    { DESCRIBED("00 00 03 04", "00", "04", "00", "00"), 0, "F0", { 0, 0 }, SIGNED_IS(-1), 1 },
+    { DESCRIBED("00 00 04 00", "02", "20", "00", "00"), 9, "FF FF FF 00 00 80 3F", { 1, 0 },
       DOUBLE_IS(UINT64_C(0x3FF0000000000000)), 1 },
     /* each of a field's refusals: no bits, bit offset 8, 65 bits, too few bytes, half a float */
-    { DESCRIBED("00 00 00 00", "00", "00", "00", "00"), 0, "34 12", 0, 0, REFUSED_WITH(18), 0 },
-    { DESCRIBED("00 00 00 08", "00", "08", "00", "00"), 0, "34 12", 0, 0, REFUSED_WITH(19), 0 },
-    { DESCRIBED("00 00 02 00", "00", "41", "00", "00"), 0, "34 12", 0, 0, REFUSED_WITH(20), 0 },
-    { DESCRIBED("00 00 00 00", "03", "10", "00", "00"), 0, "FF FF 34 12", 2, 0, OUTSIDE(7), 0 },
-    { DESCRIBED("01 00 00 00", "63", "18", "00", "00"), 7, "34 12", 3, 0, OUTSIDE(3), 0 },
-    { DESCRIBED("00 00 05 00", "00", "10", "00", "00"), 0, "3F 80 00 00", 0, 0, REFUSED_WITH(22), 0 },
-    { DESCRIBED("00 00 07 00", "01", "18", "00", "00"), 0, "50 58 31 00", 0, 0, TEXT_STANDS(1, 2), 1 },
-    { DESCRIBED("00 00 0A 00", "01", "18", "00", "00"), 0, "50 58 31 00", 0, 0, STANDS(MF4_KIND_BYTES, 1, 3), 1 },
+    { DESCRIBED("00 00 00 00", "00", "00", "00", "00"), 0, "34 12", { 0, 0 }, REFUSED_WITH(18), 0 },
+    { DESCRIBED("00 00 00 08", "00", "08", "00", "00"), 0, "34 12", { 0, 0 }, REFUSED_WITH(19), 0 },
+    { DESCRIBED("00 00 02 00", "00", "41", "00", "00"), 0, "34 12", { 0, 0 }, REFUSED_WITH(20), 0 },
+    { DESCRIBED("00 00 00 00", "03", "10", "00", "00"), 0, "FF FF 34 12", { 2, 0 }, OUTSIDE(7), 0 },
+    { DESCRIBED("01 00 00 00", "63", "18", "00", "00"), 7, "34 12", { 3, 0 }, OUTSIDE(3), 0 },
+    { DESCRIBED("00 00 05 00", "00", "10", "00", "00"), 0, "3F 80 00 00", { 0, 0 }, REFUSED_WITH(22), 0 },
+    { DESCRIBED("00 00 07 00", "01", "18", "00", "00"), 0, "50 58 31 00", { 0, 0 }, TEXT_STANDS(1, 2), 1 },
+    { DESCRIBED("00 00 0A 00", "01", "18", "00", "00"), 0, "50 58 31 00", { 0, 0 }, STANDS(MF4_KIND_BYTES, 1, 3), 1 },
     /* a payload; no data link; another channel type */
-    { DESCRIBED("01 00 07 00", "63", "08", "00", "00"), 7, "50 58 31 00", 3, 0, TEXT_STANDS(0, 3), 1 },
-    { DESCRIBED("01 00 07 00", "01", "08", "00", "00"), 0, "50 58 31 00", 0, 0, TEXT_STANDS(1, 1), 1 },
-    { DESCRIBED("02 00 07 00", "01", "08", "00", "00"), 7, "50 58 31 00", 0, 0, TEXT_STANDS(1, 1), 1 },
+    { DESCRIBED("01 00 07 00", "63", "08", "00", "00"), 7, "50 58 31 00", { 3, 0 }, TEXT_STANDS(0, 3), 1 },
+    { DESCRIBED("01 00 07 00", "01", "08", "00", "00"), 0, "50 58 31 00", { 0, 0 }, TEXT_STANDS(1, 1), 1 },
+    { DESCRIBED("02 00 07 00", "01", "08", "00", "00"), 7, "50 58 31 00", { 0, 0 }, TEXT_STANDS(1, 1), 1 },
     /* types without decoding here, unknown codes among them, inside the record and not */
-    { DESCRIBED("00 00 10 00", "00", "10", "00", "00"), 0, "34 12", 0, 0, UNKNOWN_IS, 1 },
-    { DESCRIBED("00 00 11 00", "00", "10", "00", "00"), 0, "34 12", 0, 0, UNKNOWN_IS, 1 },
-    { DESCRIBED("00 00 80 00", "00", "10", "00", "00"), 0, "34 12", 0, 0, UNKNOWN_IS, 1 },
-    { DESCRIBED("00 00 FE 00", "00", "10", "00", "00"), 0, "34 12", 0, 0, UNKNOWN_IS, 1 },
-    { DESCRIBED("00 00 FF 00", "00", "10", "00", "00"), 0, "34 12", 0, 0, UNKNOWN_IS, 1 },
-    { DESCRIBED("00 00 11 00", "00", "11", "00", "00"), 0, "34 12", 0, 0, OUTSIDE(3), 0 },
-    { DESCRIBED("01 00 11 00", "63", "40", "00", "00"), 7, "34 12", 0, 0, UNKNOWN_IS, 1 },
+    { DESCRIBED("00 00 10 00", "00", "10", "00", "00"), 0, "34 12", { 0, 0 }, UNKNOWN_IS, 1 },
+    { DESCRIBED("00 00 11 00", "00", "10", "00", "00"), 0, "34 12", { 0, 0 }, UNKNOWN_IS, 1 },
+    { DESCRIBED("00 00 80 00", "00", "10", "00", "00"), 0, "34 12", { 0, 0 }, UNKNOWN_IS, 1 },
+    { DESCRIBED("00 00 FE 00", "00", "10", "00", "00"), 0, "34 12", { 0, 0 }, UNKNOWN_IS, 1 },
+    { DESCRIBED("00 00 FF 00", "00", "10", "00", "00"), 0, "34 12", { 0, 0 }, UNKNOWN_IS, 1 },
+    { DESCRIBED("00 00 11 00", "00", "11", "00", "00"), 0, "34 12", { 0, 0 }, OUTSIDE(3), 0 },
+    { DESCRIBED("01 00 11 00", "63", "40", "00", "00"), 7, "34 12", { 0, 0 }, UNKNOWN_IS, 1 },
     /* invalid by the flags, by the record's bit, and valid by another bit */
-    { DESCRIBED("00 00 00 00", "00", "10", "01", "09"), 0, "34 12 00 02", 0, 2, UNSIGNED_IS(4660), 0 },
-    { DESCRIBED("00 00 00 00", "00", "10", "02", "09"), 0, "34 12 00 02", 0, 2, UNSIGNED_IS(4660), 0 },
-    { DESCRIBED("00 00 00 00", "00", "10", "02", "08"), 0, "34 12 00 02", 0, 2, UNSIGNED_IS(4660), 1 },
-    { DESCRIBED("00 00 00 00", "00", "10", "00", "09"), 0, "34 12 00 02", 0, 2, UNSIGNED_IS(4660), 1 },
+    { DESCRIBED("00 00 00 00", "00", "10", "01", "09"), 0, "34 12 00 02", { 0, 2 }, UNSIGNED_IS(4660), 0 },
+    { DESCRIBED("00 00 00 00", "00", "10", "02", "09"), 0, "34 12 00 02", { 0, 2 }, UNSIGNED_IS(4660), 0 },
+    { DESCRIBED("00 00 00 00", "00", "10", "02", "08"), 0, "34 12 00 02", { 0, 2 }, UNSIGNED_IS(4660), 1 },
+    { DESCRIBED("00 00 00 00", "00", "10", "00", "09"), 0, "34 12 00 02", { 0, 2 }, UNSIGNED_IS(4660), 1 },
 };
 
 /* What is read goes into the decoder as it stands. */
@@ -325,8 +324,8 @@ static void check_described(described a, size_t links)
     read = read_bytes(bytes, size);
     CHECK(read.reply == 0);
     record = hex(a.record);
-    CHECK(value_is(mf4_decode_value(record.bytes, record.length, a.id_size, read.block.channel), a.value));
-    CHECK(valid_value_is(mf4_decode_valid_value(record.bytes, record.length, a.id_size, a.data_bytes, read.block.channel),
+    CHECK(value_is(mf4_decode_value(record.bytes, record.length, a.group.record_id_size, read.block.channel), a.value));
+    CHECK(valid_value_is(mf4_decode_valid_value(record.bytes, record.length, a.group, read.block.channel),
                          a.value, a.is_valid));
 }
 

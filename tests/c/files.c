@@ -22,11 +22,11 @@ void put(size_t at, uint64_t number, int size)
         built.bytes[at++] = (uint8_t)number;
 }
 
-void put_block(size_t at, const char *id, uint64_t block_len, uint64_t links_nr)
+void put_block(size_t at, const char *id, uint64_t block_len, uint64_t link_count)
 {
     memcpy(built.bytes + at, id, 4);
     put(at + 8, block_len, 8);
-    put(at + 16, links_nr, 8);
+    put(at + 16, link_count, 8);
 }
 
 size_t put_data(size_t at, unsigned first, size_t size)
@@ -85,15 +85,15 @@ void make_uncut_file(void)
 
 lent lend_file(void) { return built.length == 0 ? no_bytes() : lend_copy(INPUT, built.bytes, built.length); }
 
-int fetched_is(mf4_fetched a, uint32_t reply, uint64_t told) { return a.reply == reply && a.told == told; }
+int fetched_is(mf4_done_reply a, uint32_t reply, uint64_t told) { return a.reply == reply && a.told == told; }
 
-int length_is(mf4_length a, uint32_t reply, uint64_t told, uint64_t length)
+int length_is(mf4_length_reply a, uint32_t reply, uint64_t told, uint64_t length)
 {
     return a.reply == reply && a.told == told && a.length == length;
 }
 
 /* A fetch has two refusals of its own: 15, which it tells first, and 16, which it tells of an accepted chain. */
-static int length_agrees(mf4_length length, mf4_fetched fetched)
+static int length_agrees(mf4_length_reply length, mf4_done_reply fetched)
 {
     if (fetched.reply == MF4_BAD_RECORD_SIZE)
         return 1;
@@ -102,10 +102,11 @@ static int length_agrees(mf4_length length, mf4_fetched fetched)
     return length_is(length, fetched.reply, fetched.told, 0);
 }
 
-mf4_fetched fetch(uint64_t start, uint64_t number, uint64_t record_size, lent buffer)
+mf4_done_reply fetch(uint64_t start, uint64_t number, uint64_t record_size, lent buffer)
 {
     lent file = lend_file();
-    mf4_fetched answer = mf4_read_record(file.bytes, file.length, start, number, record_size, buffer.bytes, buffer.length);
+    mf4_done_reply answer = mf4_read_record(file.bytes, file.length, start, number, record_size, buffer.bytes,
+                                            buffer.length);
     CHECK(length_agrees(mf4_data_length(file.bytes, file.length, start), answer));
     CHECK(is_unchanged(file));
     return answer;

@@ -15,7 +15,7 @@ void cut_file(size_t length);
 size_t file_length(void);
 
 void put(size_t at, uint64_t number, int size);
-void put_block(size_t at, const char *id, uint64_t block_len, uint64_t links_nr);
+void put_block(size_t at, const char *id, uint64_t block_len, uint64_t link_count);
 
 /* A data block whose bytes count on from `first`, and one of that id with those bytes. They give the address behind it. */
 size_t put_data(size_t at, unsigned first, size_t size);
@@ -44,14 +44,14 @@ void make_uncut_file(void);
 lent lend_file(void);
 
 /* Each fetch is also a check that mf4_data_length answers, or refuses alike. */
-mf4_fetched fetch(uint64_t start, uint64_t number, uint64_t record_size, lent buffer);
-int fetched_is(mf4_fetched a, uint32_t reply, uint64_t told);
+mf4_done_reply fetch(uint64_t start, uint64_t number, uint64_t record_size, lent buffer);
+int fetched_is(mf4_done_reply a, uint32_t reply, uint64_t told);
 
 int fetches(uint64_t number, uint64_t record_size, const char *record);
 int refuses(uint64_t number, uint64_t record_size, uint32_t reply);
 int refuses_from(uint64_t start, uint64_t number, uint64_t record_size, uint32_t reply, uint64_t told);
 
-int length_is(mf4_length a, uint32_t reply, uint64_t told, uint64_t length);
+int length_is(mf4_length_reply a, uint32_t reply, uint64_t told, uint64_t length);
 
 /* The chain is accepted, and its joined data has that length. */
 int joins(uint64_t length);

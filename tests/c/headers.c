@@ -5,26 +5,26 @@
 
 #define SAMPLE_HEADER "23 23 44 54 04 03 02 01 88 77 66 55 44 33 22 11 FF FF FF FF FF FF FF FF"
 
-int is_header(mf4_block_header a, uint32_t id, uint32_t reserved0, uint64_t block_len, uint64_t links_nr)
+int is_header(mf4_header a, uint32_t id, uint32_t reserved0, uint64_t block_len, uint64_t link_count)
 {
-    return a.id == id && a.reserved0 == reserved0 && a.block_len == block_len && a.links_nr == links_nr;
+    return a.id == id && a.reserved0 == reserved0 && a.block_len == block_len && a.link_count == link_count;
 }
 
-int written_is(mf4_written a, uint64_t count) { return a.reply == 0 && a.told == 0 && a.count == count; }
+int written_is(mf4_written_reply a, uint64_t count) { return a.reply == 0 && a.told == 0 && a.count == count; }
 
-int write_refused(mf4_written a, uint32_t reply, uint64_t told)
+int write_refused(mf4_written_reply a, uint32_t reply, uint64_t told)
 {
     return a.reply == reply && a.told == told && a.count == 0;
 }
 
-static int header_refused(mf4_header a, uint32_t reply, uint64_t told)
+static int header_refused(mf4_header_reply a, uint32_t reply, uint64_t told)
 {
     return a.reply == reply && a.told == told && is_header(a.header, 0, 0, 0, 0);
 }
 
 static void check_read_header(void)
 {
-    mf4_header answer;
+    mf4_header_reply answer;
     lent input;
     name_case("read a header");
     input = hex(SAMPLE_HEADER);
@@ -43,7 +43,7 @@ static void check_read_header(void)
 
 static void check_write_header(void)
 {
-    const mf4_block_header header = { MF4_ID_DT, 0x01020304, UINT64_C(0x1122334455667788), UINT64_MAX };
+    const mf4_header header = { MF4_ID_DT, 0x01020304, UINT64_C(0x1122334455667788), UINT64_MAX };
     lent out;
     name_case("write a header");
     out = lend_marked(OUTPUT, 24);

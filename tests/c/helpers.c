@@ -10,6 +10,7 @@ static void check_version(void)
     name_case("the version");
     snprintf(version, sizeof version, "%d.%d.%d", MF4_VERSION_MAJOR, MF4_VERSION_MINOR, MF4_VERSION_PATCH);
     CHECK(strcmp(version, MF4_VERSION) == 0);
+    CHECK(mf4_version() == MF4_VERSION_NUMBER && mf4_version_matches() == 1);
 }
 
 typedef struct named_id {
@@ -19,7 +20,8 @@ typedef struct named_id {
 
 static const named_id named_ids[] = {
     { "##HD", MF4_ID_HD }, { "##DG", MF4_ID_DG }, { "##CG", MF4_ID_CG }, { "##CN", MF4_ID_CN }, { "##TX", MF4_ID_TX },
-    { "##MD", MF4_ID_MD }, { "##DL", MF4_ID_DL }, { "##DT", MF4_ID_DT }, { "##SD", MF4_ID_SD },
+    { "##MD", MF4_ID_MD }, { "##DL", MF4_ID_DL }, { "##DT", MF4_ID_DT }, { "##SD", MF4_ID_SD }, { "##CC", MF4_ID_CC },
+    { "##CA", MF4_ID_CA }, { "##DZ", MF4_ID_DZ }, { "##HL", MF4_ID_HL },
 };
 
 /* An id's name is what reading a header with those four bytes gives. */
@@ -39,12 +41,12 @@ static void check_ids(void)
 static void check_numbers(void)
 {
     name_case("numbers of a value");
-    CHECK(mf4_signed_of(0) == 0 && mf4_signed_of(MOST) == -1);
-    CHECK(mf4_signed_of(UINT64_C(0x7FFFFFFFFFFFFFFF)) == INT64_MAX);
-    CHECK(mf4_signed_of(UINT64_C(0x8000000000000000)) == INT64_MIN);
-    CHECK(mf4_double_of(UINT64_C(0x3FF0000000000000)) == 1.0);
-    CHECK(mf4_double_of(UINT64_C(0xC340000000000002)) == -9007199254740996.0);
-    CHECK(mf4_double_of(NAN_BITS) != mf4_double_of(NAN_BITS));
+    CHECK(mf4_bits_as_signed(0) == 0 && mf4_bits_as_signed(MOST) == -1);
+    CHECK(mf4_bits_as_signed(UINT64_C(0x7FFFFFFFFFFFFFFF)) == INT64_MAX);
+    CHECK(mf4_bits_as_signed(UINT64_C(0x8000000000000000)) == INT64_MIN);
+    CHECK(mf4_bits_as_double(UINT64_C(0x3FF0000000000000)) == 1.0);
+    CHECK(mf4_bits_as_double(UINT64_C(0xC340000000000002)) == -9007199254740996.0);
+    CHECK(mf4_bits_as_double(NAN_BITS) != mf4_bits_as_double(NAN_BITS));
 }
 
 /* A number to be written is what a value of its kind tells. */
@@ -56,7 +58,7 @@ static void check_numbers_given(void)
     CHECK(mf4_signed(INT64_MIN).number == UINT64_C(0x8000000000000000) && mf4_signed(INT64_MAX).number == INT64_MAX);
     CHECK(mf4_double(1.0).kind == MF4_KIND_DOUBLE && mf4_double(1.0).number == UINT64_C(0x3FF0000000000000));
     CHECK(mf4_double(-0.0).number == UINT64_C(0x8000000000000000));
-    CHECK(mf4_signed_of(mf4_signed(-7).number) == -7 && mf4_double_of(mf4_double(-2.5).number) == -2.5);
+    CHECK(mf4_bits_as_signed(mf4_signed(-7).number) == -7 && mf4_bits_as_double(mf4_double(-2.5).number) == -2.5);
 }
 
 static void check_text_room(void)
@@ -71,7 +73,10 @@ static void check_channel_names(void)
 {
     name_case("names of a channel block");
     CHECK(MF4_TOO_FEW_LINKS == 17 && strcmp(mf4_reply_text(17), "the channel block has fewer than 8 links") == 0);
-    CHECK(MF4_COMPLEX_BE == 16 && MF4_CHANNEL_BLOCK_SIZE == 160);
+    CHECK(MF4_TYPE_COMPLEX_BE == 16 && MF4_CHANNEL_BLOCK_SIZE == 160);
+    CHECK(MF4_CHANNEL_FIXED_LENGTH == 0 && MF4_CHANNEL_VARIABLE_LENGTH == 1 && MF4_CHANNEL_MASTER == 2);
+    CHECK(MF4_CHANNEL_VIRTUAL_MASTER == 3 && MF4_CHANNEL_SYNC == 4 && MF4_CHANNEL_MAX_LENGTH == 5);
+    CHECK(MF4_CHANNEL_VIRTUAL == 6);
 }
 
 static void check_names_of_refused_fields(void)

@@ -112,6 +112,7 @@ static void check_everything(void)
     check_one_length();
     check_long_chains();
     check_long_files();
+    check_single_blocks();
     check_payloads();
     check_refused_payloads();
 }

@@ -8,13 +8,13 @@ static lent lend_numbers(enum role role, const uint64_t *numbers, size_t count)
     return count == 0 ? no_bytes() : lend_copy(role, numbers, 8 * count);
 }
 
-static mf4_written write_equal(lent out, const uint64_t *links, size_t count)
+static mf4_written_reply write_equal(lent out, const uint64_t *links, size_t count)
 {
     lent lent_links = lend_numbers(LINKS, links, count);
     return mf4_write_list_equal(9, numbers_of(lent_links), count, 10, out.bytes, out.length);
 }
 
-static mf4_written write_variable(lent out, const uint64_t *links, size_t count, const uint64_t *offsets,
+static mf4_written_reply write_variable(lent out, const uint64_t *links, size_t count, const uint64_t *offsets,
                                   size_t offset_count)
 {
     lent lent_links = lend_numbers(LINKS, links, count), lent_offsets = lend_numbers(OFFSETS, offsets, offset_count);
@@ -54,12 +54,12 @@ static void check_write_no_links(void)
     name_case("write a list of no data links");
     out = lend_marked(OUTPUT, 48);
     CHECK(written_is(write_equal(out, NULL, 0), 48));
-    CHECK(holds_only_hex(out, DL LEN("30") LINKS_NR("01") LEN("09") "01 00 00 00 00 00 00 00 " LEN("0A")));
+    CHECK(holds_only_hex(out, DL LEN("30") LINK_COUNT("01") LEN("09") "01 00 00 00 00 00 00 00 " LEN("0A")));
     out = lend_marked(OUTPUT, 47);
     CHECK(write_refused(write_equal(out, NULL, 0), 6, 48) && is_unchanged(out));
     out = lend_marked(OUTPUT, 41);
     CHECK(written_is(write_variable(out, NULL, 0, NULL, 0), 40));
-    CHECK(holds_only_hex(out, DL LEN("28") LINKS_NR("01") LEN("09") ZERO8));
+    CHECK(holds_only_hex(out, DL LEN("28") LINK_COUNT("01") LEN("09") ZERO8));
     out = lend_marked(OUTPUT, 39);
     CHECK(write_refused(write_variable(out, NULL, 0, NULL, 0), 6, 40) && is_unchanged(out));
 }

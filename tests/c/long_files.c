@@ -27,11 +27,13 @@ static const long_case long_cases[] = {
     { LONGEST, 0, 11 }, { LONGEST, LONGEST - 23, 11 }, { LONGEST, LONGEST - 24, 3 },
 };
 
-static const mf4_channel byte = FIELD(MF4_UNSIGNED_LE, 0, 0, 8), position = PAYLOAD(MF4_UTF8, 0, 64);
+static const mf4_channel byte = FIELD(MF4_TYPE_UNSIGNED_LE, 0, 0, 8), position = PAYLOAD(MF4_TYPE_UTF8, 0, 64);
+static const mf4_group group = { 0, 8 };
 
-static mf4_payload ask_payload(const uint8_t *file, long_case a, uint64_t record_size, mf4_channel channel, lent buffer)
+static mf4_payload_reply ask_payload(const uint8_t *file, long_case a, uint64_t record_size, mf4_channel channel,
+                                     lent buffer)
 {
-    return mf4_record_payload(file, a.length, a.start, 0, record_size, 0, 8, channel, buffer.bytes, 8, NULL, 0);
+    return mf4_record_payload(file, a.length, a.start, 0, record_size, group, channel, buffer.bytes, 8, NULL, 0);
 }
 
 static void check_long_file(const uint8_t *file, long_case a)
@@ -40,8 +42,8 @@ static void check_long_file(const uint8_t *file, long_case a)
     CHECK(length_is(mf4_data_length(file, a.length, a.start), a.reply, 0, 0));
     CHECK(fetched_is(mf4_read_record(file, a.length, a.start, 0, 8, buffer.bytes, 8), a.reply, 0));
     CHECK(fetched_is(mf4_read_record(file, a.length, a.start, 0, 9, buffer.bytes, 8), 15, 0));
-    CHECK(valid_value_refused(mf4_record_value(file, a.length, a.start, 0, 8, 0, 8, byte, buffer.bytes, 8), a.reply, 0));
-    CHECK(valid_value_refused(mf4_record_value(file, a.length, a.start, 0, 9, 0, 8, byte, buffer.bytes, 8), 15, 0));
+    CHECK(valid_value_refused(mf4_record_value(file, a.length, a.start, 0, 8, group, byte, buffer.bytes, 8), a.reply, 0));
+    CHECK(valid_value_refused(mf4_record_value(file, a.length, a.start, 0, 9, group, byte, buffer.bytes, 8), 15, 0));
     CHECK(payload_refused(ask_payload(file, a, 8, position, buffer), a.reply, 0));
     CHECK(payload_refused(ask_payload(file, a, 9, position, buffer), 15, 0));
     CHECK(payload_refused(ask_payload(file, a, 9, byte, buffer), 35, 0));

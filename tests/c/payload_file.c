@@ -37,8 +37,8 @@ static void fill_records(const payload_plan *plan, uint8_t *records)
 
 question lay_payload_file(const payload_plan *plan)
 {
-    const mf4_channel channel = { MF4_BYTE_ARRAY, MF4_CHANNEL_VARIABLE_LENGTH, 0, BYTE_OFFSET, 64, 0, 0, 0 };
-    question asked = { 0, START, ASKED, RECORD_SIZE, ID_SIZE, DATA_BYTES, channel, RECORD_SIZE + 7, STREAM_SIZE + 5 };
+    const mf4_channel channel = { MF4_TYPE_BYTE_ARRAY, MF4_CHANNEL_VARIABLE_LENGTH, 0, BYTE_OFFSET, 64, 0, 0, 0 };
+    question asked = { 0, START, ASKED, RECORD_SIZE, { ID_SIZE, DATA_BYTES }, channel, RECORD_SIZE + 7, STREAM_SIZE + 5 };
     uint8_t records[RECORDS * RECORD_SIZE];
     start_file(0);
     fill_records(plan, records);
@@ -46,13 +46,13 @@ question lay_payload_file(const payload_plan *plan)
                          plan->payload_cut);
     cut_file(payloads.end);
     asked.file_length = payloads.end;
-    asked.channel.data = payloads.places[0];
+    asked.channel.data_addr = payloads.places[0];
     return asked;
 }
 
 size_t put_wide_payloads(question *asked, size_t count, size_t size)
 {
-    const size_t list = (size_t)asked->channel.data, fields = list + 32 + 8 * count, block = fields + 16;
+    const size_t list = (size_t)asked->channel.data_addr, fields = list + 32 + 8 * count, block = fields + 16;
     size_t i;
     put_block(list, "##DL", block - list, 1 + count);
     put(list + 24, 0, 8);
@@ -67,12 +67,12 @@ size_t put_wide_payloads(question *asked, size_t count, size_t size)
 
 lent lend_room(enum role role, size_t room) { return room == 0 ? no_bytes() : lend_marked(role, room); }
 
-mf4_payload ask(question asked, lent record, lent payload)
+mf4_payload_reply ask(question asked, lent record, lent payload)
 {
     lent file = lend_file();
-    mf4_payload answer = mf4_record_payload(file.bytes, asked.file_length, asked.start, asked.number, asked.record_size,
-                                            asked.id_size, asked.data_bytes, asked.channel, record.bytes, record.length,
-                                            payload.bytes, payload.length);
+    mf4_payload_reply answer = mf4_record_payload(file.bytes, asked.file_length, asked.start, asked.number,
+                                                  asked.record_size, asked.group, asked.channel, record.bytes,
+                                                  record.length, payload.bytes, payload.length);
     CHECK(is_unchanged(file));
     return answer;
 }
@@ -104,8 +104,8 @@ void check_answered(const payload_plan *plan, question asked, expected value, ui
         lent record = lend_room(OUTPUT, RECORD_SIZE + surplus[i]), payload = lend_room(TWIN_OUTPUT, length + surplus[i]);
         CHECK(payload_is(ask(asked, record, payload), value, length, is_valid));
         CHECK(holds_record(record, plan) && holds_payload(payload, plan));
-        CHECK(value_is(mf4_decode_value(payload.bytes, length, asked.id_size, asked.channel), value));
-        CHECK(mf4_check_validity(record.bytes, RECORD_SIZE, asked.id_size, asked.data_bytes, asked.channel) == is_valid);
+        CHECK(value_is(mf4_decode_value(payload.bytes, length, asked.group.record_id_size, asked.channel), value));
+        CHECK(mf4_check_validity(record.bytes, RECORD_SIZE, asked.group, asked.channel) == is_valid);
     }
 }
 

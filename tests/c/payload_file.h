@@ -29,8 +29,8 @@ void put_length(payload_plan *plan, uint64_t position, uint32_t length);
 /* The arguments of the call. */
 typedef struct question {
     size_t file_length;
-    uint64_t start, number, record_size, id_size;
-    uint32_t data_bytes;
+    uint64_t start, number, record_size;
+    mf4_group group;
     mf4_channel channel;
     size_t record_room, payload_room;
 } question;
@@ -51,7 +51,7 @@ size_t put_wide_payloads(question *asked, size_t count, size_t size);
 /* A buffer of no bytes is lent as NULL. */
 lent lend_room(enum role role, size_t room);
 
-mf4_payload ask(question asked, lent record, lent payload);
+mf4_payload_reply ask(question asked, lent record, lent payload);
 
 /* Answered in buffers of just the size and in longer ones, with no byte changed behind what was fetched, and alike by the
  * calls that are given the payload and the record. */

@@ -98,31 +98,33 @@ static void check_cuts(void)
 #define NUMBER_BYTES "34 12 00 00 00 00 00 80"
 
 static const struct { uint8_t data_type; const char *payload; expected value; } payload_values[] = {
-    { MF4_UNSIGNED_LE, NUMBER_BYTES, UNSIGNED_IS(UINT64_C(0x8000000000001234)) },
-    { MF4_UNSIGNED_BE, NUMBER_BYTES, UNSIGNED_IS(UINT64_C(0x3412000000000080)) },
-    { MF4_SIGNED_LE, NUMBER_BYTES, SIGNED_IS(-INT64_C(0x7FFFFFFFFFFFEDCC)) },
-    { MF4_SIGNED_BE, NUMBER_BYTES, SIGNED_IS(INT64_C(0x3412000000000080)) },
-    { MF4_FLOAT_LE, "00 00 00 00 00 00 F0 3F", DOUBLE_IS(UINT64_C(0x3FF0000000000000)) },
-    { MF4_FLOAT_BE, "FF F0 00 00 00 00 00 01", DOUBLE_IS(UINT64_C(0xFFF0000000000001)) },
+    { MF4_TYPE_UNSIGNED_LE, NUMBER_BYTES, UNSIGNED_IS(UINT64_C(0x8000000000001234)) },
+    { MF4_TYPE_UNSIGNED_BE, NUMBER_BYTES, UNSIGNED_IS(UINT64_C(0x3412000000000080)) },
+    { MF4_TYPE_SIGNED_LE, NUMBER_BYTES, SIGNED_IS(-INT64_C(0x7FFFFFFFFFFFEDCC)) },
+    { MF4_TYPE_SIGNED_BE, NUMBER_BYTES, SIGNED_IS(INT64_C(0x3412000000000080)) },
+    { MF4_TYPE_FLOAT_LE, "00 00 00 00 00 00 F0 3F", DOUBLE_IS(UINT64_C(0x3FF0000000000000)) },
+    { MF4_TYPE_FLOAT_BE, "FF F0 00 00 00 00 00 01", DOUBLE_IS(UINT64_C(0xFFF0000000000001)) },
     /* the first eight bytes of more, and fewer */
-    { MF4_UNSIGNED_LE, NUMBER_BYTES " 99", UNSIGNED_IS(UINT64_C(0x8000000000001234)) },
-    { MF4_UNSIGNED_BE, NUMBER_BYTES " 99 99", UNSIGNED_IS(UINT64_C(0x3412000000000080)) },
-    { MF4_UNSIGNED_LE, "34 12 00 00 00 00 00", OUTSIDE(8) }, { MF4_UNSIGNED_BE, "", OUTSIDE(8) },
-    { MF4_SIGNED_LE, "34", OUTSIDE(8) }, { MF4_SIGNED_BE, "34 12 00 00 00 00 00", OUTSIDE(8) },
-    { MF4_FLOAT_LE, "00 00 80 3F", OUTSIDE(8) }, { MF4_FLOAT_BE, "", OUTSIDE(8) },
+    { MF4_TYPE_UNSIGNED_LE, NUMBER_BYTES " 99", UNSIGNED_IS(UINT64_C(0x8000000000001234)) },
+    { MF4_TYPE_UNSIGNED_BE, NUMBER_BYTES " 99 99", UNSIGNED_IS(UINT64_C(0x3412000000000080)) },
+    { MF4_TYPE_UNSIGNED_LE, "34 12 00 00 00 00 00", OUTSIDE(8) }, { MF4_TYPE_UNSIGNED_BE, "", OUTSIDE(8) },
+    { MF4_TYPE_SIGNED_LE, "34", OUTSIDE(8) }, { MF4_TYPE_SIGNED_BE, "34 12 00 00 00 00 00", OUTSIDE(8) },
+    { MF4_TYPE_FLOAT_LE, "00 00 80 3F", OUTSIDE(8) }, { MF4_TYPE_FLOAT_BE, "", OUTSIDE(8) },
     /* a text up to its stop, or to the payload's end */
-    { MF4_LATIN1, "50 58 31 00 39", TEXT_STANDS(0, 3) }, { MF4_LATIN1, "50 58 31", TEXT_STANDS(0, 3) },
-    { MF4_UTF8, "C3 A9 41", TEXT_STANDS(0, 3) }, { MF4_UTF8, "00 58", TEXT_STANDS(0, 0) },
-    { MF4_UTF8, "", TEXT_STANDS(0, 0) },
-    { MF4_UTF16_LE, "41 00 42 00 00 00 43 00", TEXT_STANDS(0, 4) }, { MF4_UTF16_LE, "41 00 00 42 43", TEXT_STANDS(0, 4) },
-    { MF4_UTF16_BE, "00 41 00 42 00", TEXT_STANDS(0, 4) }, { MF4_UTF16_BE, "00", TEXT_STANDS(0, 0) },
+    { MF4_TYPE_LATIN1, "50 58 31 00 39", TEXT_STANDS(0, 3) }, { MF4_TYPE_LATIN1, "50 58 31", TEXT_STANDS(0, 3) },
+    { MF4_TYPE_UTF8, "C3 A9 41", TEXT_STANDS(0, 3) }, { MF4_TYPE_UTF8, "00 58", TEXT_STANDS(0, 0) },
+    { MF4_TYPE_UTF8, "", TEXT_STANDS(0, 0) },
+    { MF4_TYPE_UTF16_LE, "41 00 42 00 00 00 43 00", TEXT_STANDS(0, 4) },
+    { MF4_TYPE_UTF16_LE, "41 00 00 42 43", TEXT_STANDS(0, 4) },
+    { MF4_TYPE_UTF16_BE, "00 41 00 42 00", TEXT_STANDS(0, 4) }, { MF4_TYPE_UTF16_BE, "00", TEXT_STANDS(0, 0) },
     /* all bytes */
-    { MF4_BYTE_ARRAY, "01 00 02 00", STANDS(MF4_KIND_BYTES, 0, 4) }, { MF4_BYTE_ARRAY, "", STANDS(MF4_KIND_BYTES, 0, 0) },
-    { MF4_MIME_SAMPLE, "00 00 00 00 00 00 00 00 00 00", STANDS(MF4_KIND_SAMPLE, 0, 10) },
-    { MF4_MIME_STREAM, "01", STANDS(MF4_KIND_STREAM, 0, 1) },
+    { MF4_TYPE_BYTE_ARRAY, "01 00 02 00", STANDS(MF4_KIND_BYTES, 0, 4) },
+    { MF4_TYPE_BYTE_ARRAY, "", STANDS(MF4_KIND_BYTES, 0, 0) },
+    { MF4_TYPE_MIME_SAMPLE, "00 00 00 00 00 00 00 00 00 00", STANDS(MF4_KIND_SAMPLE, 0, 10) },
+    { MF4_TYPE_MIME_STREAM, "01", STANDS(MF4_KIND_STREAM, 0, 1) },
     /* no decoding, of however many bytes */
-    { MF4_CANOPEN_DATE, "01 02 03 04 05 06 07", UNKNOWN_IS }, { MF4_CANOPEN_TIME, "01", UNKNOWN_IS },
-    { MF4_COMPLEX_LE, "", UNKNOWN_IS }, { MF4_COMPLEX_BE, NUMBER_BYTES, UNKNOWN_IS }, { 17, "", UNKNOWN_IS },
+    { MF4_TYPE_CANOPEN_DATE, "01 02 03 04 05 06 07", UNKNOWN_IS }, { MF4_TYPE_CANOPEN_TIME, "01", UNKNOWN_IS },
+    { MF4_TYPE_COMPLEX_LE, "", UNKNOWN_IS }, { MF4_TYPE_COMPLEX_BE, NUMBER_BYTES, UNKNOWN_IS }, { 17, "", UNKNOWN_IS },
     { 255, NUMBER_BYTES, UNKNOWN_IS },
 };
 
@@ -166,7 +168,7 @@ static void check_every_type(void)
             lent payload = lend_copy(TWIN_INPUT, plan.stream + 4, lengths[i]);
             name_number("payloads of the data type", type);
             asked.channel.data_type = (uint8_t)type;
-            if (type <= MF4_FLOAT_BE && lengths[i] < 8)
+            if (type <= MF4_TYPE_FLOAT_BE && lengths[i] < 8)
                 check_refused(&plan, asked, 21, 8, RECORD_AND_PAYLOAD);
             else
                 check_answered(&plan, asked, mf4_decode_value(payload.bytes, payload.length, ID_SIZE, asked.channel), 1);
@@ -203,7 +205,7 @@ static void check_validities(void)
             asked = lay_payload_file(&plan);
             asked.channel.flags = validities[i].flags;
             asked.channel.pos_invalidation_bit = validities[i].bit;
-            asked.data_bytes = validities[i].data_bytes;
+            asked.group.data_bytes = validities[i].data_bytes;
             check_answered(&plan, asked, value, validities[i].is_valid);
         }
 }
@@ -220,7 +222,7 @@ static void check_rooms(void)
     asked = lay_payload_file(&plan);
     for (room = 0; room < 5; room++) {
         lent record, payload;
-        mf4_payload refused;
+        mf4_payload_reply refused;
         name_number("a payload of five bytes in", room);
         asked.payload_room = room;
         check_refused(&plan, asked, 6, 5, THE_RECORD);
@@ -239,9 +241,9 @@ static void check_empty_payload(void)
     name_case("an empty payload needs no room");
     plan.position = 7;
     asked = lay_payload_file(&plan);
-    asked.channel.data_type = MF4_UTF8;
+    asked.channel.data_type = MF4_TYPE_UTF8;
     CHECK(payload_is(ask(asked, lend_room(OUTPUT, RECORD_SIZE), no_bytes()), nothing, 0, 1));
-    asked.channel.data_type = MF4_SIGNED_LE;
+    asked.channel.data_type = MF4_TYPE_SIGNED_LE;
     CHECK(payload_refused(ask(asked, lend_room(OUTPUT, RECORD_SIZE), no_bytes()), 21, 8));
 }
 
@@ -275,7 +277,7 @@ static void check_many_fragments(void)
     for (i = 0; i < COUNT(rows); i++) {
         payload_plan plan = whole_plan();
         question asked;
-        mf4_payload answer;
+        mf4_payload_reply answer;
         name_row("4,096 and 4,097 fragments of payloads", i);
         plan.position = rows[i].position;
         asked = lay_payload_file(&plan);

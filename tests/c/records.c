@@ -83,10 +83,10 @@ static void check_repeated_block(void)
     CHECK(joins(9) && fetches(0, 9, "01 02 03 01 02 03 04 05 06"));
 }
 
-static mf4_valid_value record_value(uint64_t number, uint64_t size, uint64_t id_size, mf4_channel channel, lent buffer)
+static mf4_valid_value_reply record_value(uint64_t number, uint64_t size, uint64_t id_size, mf4_channel channel, lent buffer)
 {
     lent file = lend_file();
-    return mf4_record_value(file.bytes, file.length, START, number, size, id_size, 2, channel, buffer.bytes,
+    return mf4_record_value(file.bytes, file.length, START, number, size, group_of(id_size, 2), channel, buffer.bytes,
                             buffer.length);
 }
 
@@ -94,8 +94,8 @@ static mf4_valid_value record_value(uint64_t number, uint64_t size, uint64_t id_
 static void check_record_value_answers(void)
 {
     static const expected first = UNSIGNED_IS(0x0201), second = UNSIGNED_IS(0x0504), text = TEXT_STANDS(1, 2);
-    mf4_channel channel = FIELD(MF4_UNSIGNED_LE, 0, 0, 16);
-    const mf4_channel text_channel = FIELD(MF4_LATIN1, 0, 0, 16);
+    mf4_channel channel = FIELD(MF4_TYPE_UNSIGNED_LE, 0, 0, 16);
+    const mf4_channel text_channel = FIELD(MF4_TYPE_LATIN1, 0, 0, 16);
     lent buffer;
     name_case("a record's value");
     make_cut_file();
@@ -119,14 +119,14 @@ typedef struct refused_field {
 } refused_field;
 
 static const refused_field refused_fields[] = {
-    { 0, FIELD(MF4_UNSIGNED_LE, 0, 0, 0), 18, 0 },
-    { 0, FIELD(MF4_SIGNED_BE, 8, 0, 8), 19, 0 },
-    { 0, FIELD(MF4_UNSIGNED_BE, 0, 0, 65), 20, 0 },
-    { 0, FIELD(MF4_UNSIGNED_LE, 0, 2, 16), 21, 4 },
-    { 1, FIELD(MF4_LATIN1, 0, 2, 16), 21, 5 },
-    { 9, PAYLOAD(MF4_SIGNED_LE, 0, 32), 21, 4 },
-    { MOST, FIELD(MF4_UNSIGNED_LE, 0, 0, 8), 21, MOST },
-    { 0, FIELD(MF4_FLOAT_LE, 0, 0, 16), 22, 0 },
+    { 0, FIELD(MF4_TYPE_UNSIGNED_LE, 0, 0, 0), 18, 0 },
+    { 0, FIELD(MF4_TYPE_SIGNED_BE, 8, 0, 8), 19, 0 },
+    { 0, FIELD(MF4_TYPE_UNSIGNED_BE, 0, 0, 65), 20, 0 },
+    { 0, FIELD(MF4_TYPE_UNSIGNED_LE, 0, 2, 16), 21, 4 },
+    { 1, FIELD(MF4_TYPE_LATIN1, 0, 2, 16), 21, 5 },
+    { 9, PAYLOAD(MF4_TYPE_SIGNED_LE, 0, 32), 21, 4 },
+    { MOST, FIELD(MF4_TYPE_UNSIGNED_LE, 0, 0, 8), 21, MOST },
+    { 0, FIELD(MF4_TYPE_FLOAT_LE, 0, 0, 16), 22, 0 },
 };
 
 /* The field is refused and the record stays. The marks behind the record are no part of it. */
@@ -148,7 +148,7 @@ static void check_record_value_refusals(void)
 
 static void check_refused_records(void)
 {
-    const mf4_channel too_far = FIELD(MF4_UNSIGNED_LE, 0, 2, 16), good = FIELD(MF4_UNSIGNED_LE, 0, 0, 8);
+    const mf4_channel too_far = FIELD(MF4_TYPE_UNSIGNED_LE, 0, 2, 16), good = FIELD(MF4_TYPE_UNSIGNED_LE, 0, 0, 8);
     lent buffer;
     name_case("a record refused, with a field that is refused too");
     make_cut_file();

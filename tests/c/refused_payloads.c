@@ -18,16 +18,16 @@ static void check_other_channels(void)
     size_t i;
     uint8_t type;
     for (i = 0; i < COUNT(other_channels); i++)
-        for (type = MF4_FLOAT_BE; type <= MF4_LATIN1; type++) {
+        for (type = MF4_TYPE_FLOAT_BE; type <= MF4_TYPE_LATIN1; type++) {
             question asked = whole;
             name_row("channels that hold no position", i);
             asked.channel.data_type = type;
             asked.channel.channel_type = other_channels[i].channel_type;
             asked.channel.bit_offset = other_channels[i].bit_offset;
             asked.channel.bit_count = other_channels[i].bit_count;
-            asked.channel.data = other_channels[i].has_data ? asked.channel.data : 0;
+            asked.channel.data_addr = other_channels[i].has_data ? asked.channel.data_addr : 0;
             check_refused(&plan, asked, 35, 0, NOTHING);
-            CHECK(payload_refused(mf4_record_payload(NULL, 0, 0, 0, 0, 0, 0, asked.channel, NULL, 0, NULL, 0), 35, 0));
+            CHECK(payload_refused(mf4_record_payload(NULL, 0, 0, 0, 0, asked.group, asked.channel, NULL, 0, NULL, 0), 35, 0));
         }
 }
 
@@ -52,7 +52,7 @@ static void check_far_positions(void)
         for (type = 0; type <= 17; type++) {
             name_row("positions that end outside the record", i);
             asked.channel.data_type = type;
-            asked.id_size = far_positions[i].id_size;
+            asked.group.record_id_size = far_positions[i].id_size;
             asked.channel.byte_offset = far_positions[i].byte_offset;
             check_refused(&plan, asked, 21, far_positions[i].told, THE_RECORD);
         }
@@ -68,7 +68,7 @@ static void check_last_position(void)
     name_case("a position that ends with the record");
     plan.position = 11 << 8;  /* so that 11 stands a byte further */
     asked = lay_payload_file(&plan);
-    asked.id_size = 4, asked.channel.byte_offset = 0;
+    asked.group.record_id_size = 4, asked.channel.byte_offset = 0;
     record = lend_room(OUTPUT, RECORD_SIZE), payload = lend_room(TWIN_OUTPUT, 8);
     CHECK(payload_is(ask(asked, record, payload), value, 8, 1) && holds_only_hex(payload, "34 12 00 00 00 00 00 80"));
     CHECK(holds_only_hex(record, "82 71 72 00 0B 00 00 00 00 00 00 00"));
@@ -149,7 +149,7 @@ static void check_loops_of_payloads(void)
         name_row("loops of the chain of payloads", i);
         plan.payload_cut = loops[i].lists;
         asked = lay_payload_file(&plan);
-        put((size_t)asked.channel.data + 24, asked.channel.data, 8);
+        put((size_t)asked.channel.data_addr + 24, asked.channel.data_addr, 8);
         check_refused(&plan, asked, loops[i].reply, 0, THE_RECORD);
     }
 }
@@ -192,7 +192,7 @@ static void check_links(void)
     for (i = 0; i < COUNT(links); i++) {
         question as_data = whole, as_start = whole;
         name_row("data links and starts", i);
-        as_data.channel.data = links[i].address;
+        as_data.channel.data_addr = links[i].address;
         check_outcome(&plan, as_data, links[i].as_data, 0, links[i].as_data == 35 ? NOTHING : THE_RECORD);
         as_start.start = links[i].address;
         check_outcome(&plan, as_start, links[i].as_start, 0, NOTHING);
@@ -240,7 +240,7 @@ static void add_fault(question *asked, enum fault fault)
     case FAR_POSITION: asked->channel.byte_offset = 4; break;
     case DAMAGED_PAYLOADS: put(payload_chain().places[0] + FIRST_PAYLOAD_BLOCK, MF4_ID_DT, 4); break;
     case SHORT_PAYLOAD_BUFFER: asked->payload_room = 2; break;
-    case SHORT_NUMBER: asked->channel.data_type = MF4_FLOAT_LE; break;
+    case SHORT_NUMBER: asked->channel.data_type = MF4_TYPE_FLOAT_LE; break;
     default: break;  /* FAR_PAYLOAD is one of the plan */
     }
 }

@@ -7,24 +7,26 @@
 #define FIELD(type, bit_offset, byte_offset, bit_count) { (type), 0, (bit_offset), (byte_offset), (bit_count), 0, 0, 0 }
 #define PAYLOAD(type, bit_offset, bit_count) { (type), MF4_CHANNEL_VARIABLE_LENGTH, (bit_offset), 99, (bit_count), 0, 0, 7 }
 
-typedef mf4_value expected;
+mf4_group group_of(uint64_t record_id_size, uint32_t data_bytes);
 
-#define REFUSED_WITH(reply) { (reply), MF4_KIND_NOTHING, 0, 0, 0, 0 }
-#define OUTSIDE(needed) { 21, MF4_KIND_NOTHING, (needed), 0, 0, 0 }
-#define UNSIGNED_IS(value) { MF4_ANSWER, MF4_KIND_UNSIGNED, 0, (value), 0, 0 }
-#define SIGNED_IS(value) { MF4_ANSWER, MF4_KIND_SIGNED, 0, (uint64_t)(value), 0, 0 }
-#define DOUBLE_IS(bits) { MF4_ANSWER, MF4_KIND_DOUBLE, 0, (bits), 0, 0 }
-#define STANDS(kind, at, length) { MF4_ANSWER, (kind), 0, 0, (at), (length) }
+typedef mf4_value_reply expected;
+
+#define REFUSED_WITH(reply) { (reply), 0, MF4_KIND_NOTHING, 0, 0, 0 }
+#define OUTSIDE(needed) { 21, (needed), MF4_KIND_NOTHING, 0, 0, 0 }
+#define UNSIGNED_IS(value) { MF4_ANSWER, 0, MF4_KIND_UNSIGNED, (value), 0, 0 }
+#define SIGNED_IS(value) { MF4_ANSWER, 0, MF4_KIND_SIGNED, (uint64_t)(value), 0, 0 }
+#define DOUBLE_IS(bits) { MF4_ANSWER, 0, MF4_KIND_DOUBLE, (bits), 0, 0 }
+#define STANDS(kind, at, length) { MF4_ANSWER, 0, (kind), 0, (at), (length) }
 #define TEXT_STANDS(at, length) STANDS(MF4_KIND_TEXT, (at), (length))
-#define UNKNOWN_IS { MF4_ANSWER, MF4_KIND_UNKNOWN, 0, 0, 0, 0 }
+#define UNKNOWN_IS { MF4_ANSWER, 0, MF4_KIND_UNKNOWN, 0, 0, 0 }
 
-int value_is(mf4_value a, expected value);
-int valid_value_is(mf4_valid_value a, expected value, uint8_t is_valid);
+int value_is(mf4_value_reply a, expected value);
+int valid_value_is(mf4_valid_value_reply a, expected value, uint8_t is_valid);
 
-int payload_is(mf4_payload a, expected value, uint64_t payload_length, uint8_t is_valid);
+int payload_is(mf4_payload_reply a, expected value, uint64_t payload_length, uint8_t is_valid);
 
-int valid_value_refused(mf4_valid_value a, uint32_t reply, uint64_t told);
-int payload_refused(mf4_payload a, uint32_t reply, uint64_t told);
+int valid_value_refused(mf4_valid_value_reply a, uint32_t reply, uint64_t told);
+int payload_refused(mf4_payload_reply a, uint32_t reply, uint64_t told);
 
 /* The value alone and with its validity; where it is refused, the double and the validity alone too. */
 void check_value(lent record, uint64_t id_size, mf4_channel channel, expected value);

@@ -6,7 +6,7 @@
 #define DOUBLE(bits) { MF4_KIND_DOUBLE, UINT64_C(bits) }
 #define OF_KIND(kind, value) { (kind), (value) }
 
-static int stored_is(mf4_stored a, uint32_t reply, uint64_t told) { return a.reply == reply && a.told == told; }
+static int stored_is(mf4_done_reply a, uint32_t reply, uint64_t told) { return a.reply == reply && a.told == told; }
 
 /* A record as OUTPUT, since it is written; an empty one is lent as NULL. */
 static lent record_of(const char *text)
@@ -16,7 +16,7 @@ static lent record_of(const char *text)
     return count > 0 ? lend_copy(OUTPUT, bytes, count) : no_bytes();
 }
 
-static mf4_stored written(uint64_t id_size, mf4_channel channel, mf4_number value, lent record)
+static mf4_done_reply written(uint64_t id_size, mf4_channel channel, mf4_number value, lent record)
 {
     return mf4_write_value(id_size, channel, value, record.bytes, record.length);
 }
@@ -30,67 +30,67 @@ typedef struct stored_case {
 } stored_case;
 
 static const stored_case integers[] = {
-    { "00 00 00", 0, FIELD(MF4_UNSIGNED_LE, 0, 0, 16), UNSIGNED(4660), "34 12 00" },
-    { "00 00 00", 0, FIELD(MF4_UNSIGNED_BE, 0, 0, 16), UNSIGNED(4660), "12 34 00" },
-    { "FF FF FF", 1, FIELD(MF4_UNSIGNED_LE, 0, 1, 8), UNSIGNED(0), "FF FF 00" },
-    { "12 34", 0, FIELD(MF4_UNSIGNED_LE, 4, 0, 8), UNSIGNED(0xAB), "B2 3A" },
-    { "12 34", 0, FIELD(MF4_UNSIGNED_BE, 4, 0, 8), UNSIGNED(0xAB), "1A B4" },
-    { "FF FF", 0, FIELD(MF4_UNSIGNED_LE, 7, 0, 2), UNSIGNED(0), "7F FE" },
-    { "FF FF", 0, FIELD(MF4_UNSIGNED_BE, 7, 0, 2), UNSIGNED(0), "FE 7F" },
-    { "00", 0, FIELD(MF4_UNSIGNED_LE, 7, 0, 1), UNSIGNED(1), "80" },
-    { "00 00", 0, FIELD(MF4_UNSIGNED_LE, 0, 0, 12), UNSIGNED(0xFFF), "FF 0F" },
-    { "00 00", 0, FIELD(MF4_UNSIGNED_BE, 0, 0, 12), UNSIGNED(0xFFF), "0F FF" },
-    { "05 00 00 00 00 00 00 00 A0", 0, FIELD(MF4_UNSIGNED_LE, 4, 0, 64), UNSIGNED(MOST), "F5 FF FF FF FF FF FF FF AF" },
-    { "A0 00 00 00 00 00 00 00 05", 0, FIELD(MF4_UNSIGNED_BE, 4, 0, 64), UNSIGNED(MOST), "AF FF FF FF FF FF FF FF F5" },
-    { "FF FF FF FF FF FF FF FF FF", 0, FIELD(MF4_UNSIGNED_LE, 7, 0, 64), UNSIGNED(0), "7F 00 00 00 00 00 00 00 80" },
-    { "FF FF FF FF FF FF FF FF FF", 0, FIELD(MF4_SIGNED_BE, 7, 0, 64), SIGNED(0), "80 00 00 00 00 00 00 00 7F" },
-    { "00 00 00 00 00 00 00 00", 0, FIELD(MF4_SIGNED_LE, 0, 0, 64), SIGNED(INT64_MIN), "00 00 00 00 00 00 00 80" },
-    { "00 00 00 00 00 00 00 00", 0, FIELD(MF4_SIGNED_BE, 0, 0, 64), SIGNED(INT64_MAX), "7F FF FF FF FF FF FF FF" },
-    { "0F", 0, FIELD(MF4_SIGNED_LE, 4, 0, 4), SIGNED(-1), "FF" },
-    { "7F", 0, FIELD(MF4_SIGNED_BE, 4, 0, 4), SIGNED(-8), "8F" },
-    { "8F", 0, FIELD(MF4_SIGNED_BE, 4, 0, 4), SIGNED(7), "7F" },
-    { "FE", 0, FIELD(MF4_SIGNED_LE, 0, 0, 1), SIGNED(-1), "FF" },
-    { "FF", 0, FIELD(MF4_SIGNED_LE, 0, 0, 1), SIGNED(0), "FE" },
+    { "00 00 00", 0, FIELD(MF4_TYPE_UNSIGNED_LE, 0, 0, 16), UNSIGNED(4660), "34 12 00" },
+    { "00 00 00", 0, FIELD(MF4_TYPE_UNSIGNED_BE, 0, 0, 16), UNSIGNED(4660), "12 34 00" },
+    { "FF FF FF", 1, FIELD(MF4_TYPE_UNSIGNED_LE, 0, 1, 8), UNSIGNED(0), "FF FF 00" },
+    { "12 34", 0, FIELD(MF4_TYPE_UNSIGNED_LE, 4, 0, 8), UNSIGNED(0xAB), "B2 3A" },
+    { "12 34", 0, FIELD(MF4_TYPE_UNSIGNED_BE, 4, 0, 8), UNSIGNED(0xAB), "1A B4" },
+    { "FF FF", 0, FIELD(MF4_TYPE_UNSIGNED_LE, 7, 0, 2), UNSIGNED(0), "7F FE" },
+    { "FF FF", 0, FIELD(MF4_TYPE_UNSIGNED_BE, 7, 0, 2), UNSIGNED(0), "FE 7F" },
+    { "00", 0, FIELD(MF4_TYPE_UNSIGNED_LE, 7, 0, 1), UNSIGNED(1), "80" },
+    { "00 00", 0, FIELD(MF4_TYPE_UNSIGNED_LE, 0, 0, 12), UNSIGNED(0xFFF), "FF 0F" },
+    { "00 00", 0, FIELD(MF4_TYPE_UNSIGNED_BE, 0, 0, 12), UNSIGNED(0xFFF), "0F FF" },
+    { "05 00 00 00 00 00 00 00 A0", 0, FIELD(MF4_TYPE_UNSIGNED_LE, 4, 0, 64), UNSIGNED(MOST), "F5 FF FF FF FF FF FF FF AF" },
+    { "A0 00 00 00 00 00 00 00 05", 0, FIELD(MF4_TYPE_UNSIGNED_BE, 4, 0, 64), UNSIGNED(MOST), "AF FF FF FF FF FF FF FF F5" },
+    { "FF FF FF FF FF FF FF FF FF", 0, FIELD(MF4_TYPE_UNSIGNED_LE, 7, 0, 64), UNSIGNED(0), "7F 00 00 00 00 00 00 00 80" },
+    { "FF FF FF FF FF FF FF FF FF", 0, FIELD(MF4_TYPE_SIGNED_BE, 7, 0, 64), SIGNED(0), "80 00 00 00 00 00 00 00 7F" },
+    { "00 00 00 00 00 00 00 00", 0, FIELD(MF4_TYPE_SIGNED_LE, 0, 0, 64), SIGNED(INT64_MIN), "00 00 00 00 00 00 00 80" },
+    { "00 00 00 00 00 00 00 00", 0, FIELD(MF4_TYPE_SIGNED_BE, 0, 0, 64), SIGNED(INT64_MAX), "7F FF FF FF FF FF FF FF" },
+    { "0F", 0, FIELD(MF4_TYPE_SIGNED_LE, 4, 0, 4), SIGNED(-1), "FF" },
+    { "7F", 0, FIELD(MF4_TYPE_SIGNED_BE, 4, 0, 4), SIGNED(-8), "8F" },
+    { "8F", 0, FIELD(MF4_TYPE_SIGNED_BE, 4, 0, 4), SIGNED(7), "7F" },
+    { "FE", 0, FIELD(MF4_TYPE_SIGNED_LE, 0, 0, 1), SIGNED(-1), "FF" },
+    { "FF", 0, FIELD(MF4_TYPE_SIGNED_LE, 0, 0, 1), SIGNED(0), "FE" },
     /* no data link, another channel type: fields of the record */
-    { "34 12", 0, { MF4_UNSIGNED_LE, 1, 0, 1, 8, 0, 0, 0 }, UNSIGNED(7), "34 07" },
-    { "34 12", 0, { MF4_UNSIGNED_LE, 2, 0, 1, 8, 0, 0, 7 }, UNSIGNED(7), "34 07" },
+    { "34 12", 0, { MF4_TYPE_UNSIGNED_LE, 1, 0, 1, 8, 0, 0, 0 }, UNSIGNED(7), "34 07" },
+    { "34 12", 0, { MF4_TYPE_UNSIGNED_LE, 2, 0, 1, 8, 0, 0, 7 }, UNSIGNED(7), "34 07" },
     /* flags and the invalidation bit play no part */
-    { "34 12", 0, { MF4_UNSIGNED_LE, 0, 0, 1, 8, 3, 4, 0 }, UNSIGNED(7), "34 07" },
+    { "34 12", 0, { MF4_TYPE_UNSIGNED_LE, 0, 0, 1, 8, 3, 4, 0 }, UNSIGNED(7), "34 07" },
 };
 
 /* Of 32 bits what widening gives back, of 64 every pattern. */
 static const stored_case floats[] = {
-    { "FF FF FF FF", 0, FIELD(MF4_FLOAT_LE, 0, 0, 32), DOUBLE(0x3FF0000000000000), "00 00 80 3F" },
-    { "FF FF FF FF", 0, FIELD(MF4_FLOAT_BE, 0, 0, 32), DOUBLE(0x3FF0000000000000), "3F 80 00 00" },
-    { "0F 00 00 00 F0", 0, FIELD(MF4_FLOAT_LE, 4, 0, 32), DOUBLE(0x3FF0000000000000), "0F 00 00 F8 F3" },
-    { "FF FF FF FF", 0, FIELD(MF4_FLOAT_LE, 0, 0, 32), DOUBLE(0x0000000000000000), "00 00 00 00" },
-    { "FF FF FF FF", 0, FIELD(MF4_FLOAT_LE, 0, 0, 32), DOUBLE(0x8000000000000000), "00 00 00 80" },
-    { "00 00 00 00", 0, FIELD(MF4_FLOAT_LE, 0, 0, 32), DOUBLE(0x36A0000000000000), "01 00 00 00" },
-    { "00 00 00 00", 0, FIELD(MF4_FLOAT_LE, 0, 0, 32), DOUBLE(0xB6A0000000000000), "01 00 00 80" },
-    { "00 00 00 00", 0, FIELD(MF4_FLOAT_LE, 0, 0, 32), DOUBLE(0x36B8000000000000), "03 00 00 00" },
-    { "00 00 00 00", 0, FIELD(MF4_FLOAT_LE, 0, 0, 32), DOUBLE(0x380FFFFFC0000000), "FF FF 7F 00" },
-    { "00 00 00 00", 0, FIELD(MF4_FLOAT_LE, 0, 0, 32), DOUBLE(0x3810000000000000), "00 00 80 00" },
-    { "00 00 00 00", 0, FIELD(MF4_FLOAT_LE, 0, 0, 32), DOUBLE(0x47EFFFFFE0000000), "FF FF 7F 7F" },
-    { "00 00 00 00", 0, FIELD(MF4_FLOAT_LE, 0, 0, 32), DOUBLE(0x7FF0000000000000), "00 00 80 7F" },
-    { "00 00 00 00", 0, FIELD(MF4_FLOAT_BE, 0, 0, 32), DOUBLE(0xFFF0000000000000), "FF 80 00 00" },
-    { "FF FF FF FF", 0, FIELD(MF4_FLOAT_LE, 0, 0, 32), DOUBLE(0x7FF8000000000000), "00 00 C0 7F" },
-    { "FF FF FF FF FF FF FF FF", 0, FIELD(MF4_FLOAT_LE, 0, 0, 64), DOUBLE(0x7FF8000000000000), "00 00 00 00 00 00 F8 7F" },
-    { "00 00 00 00 00 00 00 00", 0, FIELD(MF4_FLOAT_BE, 0, 0, 64), DOUBLE(0xFFF0000000000001), "FF F0 00 00 00 00 00 01" },
-    { "00 00 00 00 00 00 00 00", 0, FIELD(MF4_FLOAT_LE, 0, 0, 64), DOUBLE(0x0000000000000001), "01 00 00 00 00 00 00 00" },
-    { "7F 00 00 00 00 00 00 00 80", 0, FIELD(MF4_FLOAT_LE, 7, 0, 64), DOUBLE(0xFFFFFFFFFFFFFFFF),
+    { "FF FF FF FF", 0, FIELD(MF4_TYPE_FLOAT_LE, 0, 0, 32), DOUBLE(0x3FF0000000000000), "00 00 80 3F" },
+    { "FF FF FF FF", 0, FIELD(MF4_TYPE_FLOAT_BE, 0, 0, 32), DOUBLE(0x3FF0000000000000), "3F 80 00 00" },
+    { "0F 00 00 00 F0", 0, FIELD(MF4_TYPE_FLOAT_LE, 4, 0, 32), DOUBLE(0x3FF0000000000000), "0F 00 00 F8 F3" },
+    { "FF FF FF FF", 0, FIELD(MF4_TYPE_FLOAT_LE, 0, 0, 32), DOUBLE(0x0000000000000000), "00 00 00 00" },
+    { "FF FF FF FF", 0, FIELD(MF4_TYPE_FLOAT_LE, 0, 0, 32), DOUBLE(0x8000000000000000), "00 00 00 80" },
+    { "00 00 00 00", 0, FIELD(MF4_TYPE_FLOAT_LE, 0, 0, 32), DOUBLE(0x36A0000000000000), "01 00 00 00" },
+    { "00 00 00 00", 0, FIELD(MF4_TYPE_FLOAT_LE, 0, 0, 32), DOUBLE(0xB6A0000000000000), "01 00 00 80" },
+    { "00 00 00 00", 0, FIELD(MF4_TYPE_FLOAT_LE, 0, 0, 32), DOUBLE(0x36B8000000000000), "03 00 00 00" },
+    { "00 00 00 00", 0, FIELD(MF4_TYPE_FLOAT_LE, 0, 0, 32), DOUBLE(0x380FFFFFC0000000), "FF FF 7F 00" },
+    { "00 00 00 00", 0, FIELD(MF4_TYPE_FLOAT_LE, 0, 0, 32), DOUBLE(0x3810000000000000), "00 00 80 00" },
+    { "00 00 00 00", 0, FIELD(MF4_TYPE_FLOAT_LE, 0, 0, 32), DOUBLE(0x47EFFFFFE0000000), "FF FF 7F 7F" },
+    { "00 00 00 00", 0, FIELD(MF4_TYPE_FLOAT_LE, 0, 0, 32), DOUBLE(0x7FF0000000000000), "00 00 80 7F" },
+    { "00 00 00 00", 0, FIELD(MF4_TYPE_FLOAT_BE, 0, 0, 32), DOUBLE(0xFFF0000000000000), "FF 80 00 00" },
+    { "FF FF FF FF", 0, FIELD(MF4_TYPE_FLOAT_LE, 0, 0, 32), DOUBLE(0x7FF8000000000000), "00 00 C0 7F" },
+    { "FF FF FF FF FF FF FF FF", 0, FIELD(MF4_TYPE_FLOAT_LE, 0, 0, 64), DOUBLE(0x7FF8000000000000), "00 00 00 00 00 00 F8 7F" },
+    { "00 00 00 00 00 00 00 00", 0, FIELD(MF4_TYPE_FLOAT_BE, 0, 0, 64), DOUBLE(0xFFF0000000000001), "FF F0 00 00 00 00 00 01" },
+    { "00 00 00 00 00 00 00 00", 0, FIELD(MF4_TYPE_FLOAT_LE, 0, 0, 64), DOUBLE(0x0000000000000001), "01 00 00 00 00 00 00 00" },
+    { "7F 00 00 00 00 00 00 00 80", 0, FIELD(MF4_TYPE_FLOAT_LE, 7, 0, 64), DOUBLE(0xFFFFFFFFFFFFFFFF),
       "FF FF FF FF FF FF FF FF FF" },
 };
 
 static int reads_back(lent record, uint64_t id_size, mf4_channel channel, mf4_number value)
 {
-    const expected due = { MF4_ANSWER, value.kind, 0, value.number, 0, 0 };
+    const expected due = { MF4_ANSWER, 0, value.kind, value.number, 0, 0 };
     return value_is(mf4_decode_value(record.bytes, record.length, id_size, channel), due);
 }
 
 /* What is decoded, written over itself, changes no byte. Not so of the NaNs of 32 bits, which all become the one. */
 static void check_written_over(lent record, uint64_t id_size, mf4_channel channel)
 {
-    const mf4_value read = mf4_decode_value(record.bytes, record.length, id_size, channel);
+    const mf4_value_reply read = mf4_decode_value(record.bytes, record.length, id_size, channel);
     mf4_number same;
     same.kind = read.kind, same.number = read.number;
     CHECK(stored_is(written(id_size, channel, same, record), MF4_ANSWER, 0) && is_unchanged(record));
@@ -112,8 +112,7 @@ static void check_stored_case(stored_case a)
 
 typedef struct marked_case {
     const char *record;
-    uint64_t id_size;
-    uint32_t data_bytes;
+    mf4_group group;
     mf4_channel channel;
     mf4_number value;
     const char *after;
@@ -123,54 +122,54 @@ typedef struct marked_case {
 /* Where the invalidation bit stands beside the field, validity stays; where it is one of the field's, it is as written. */
 static const marked_case validities[] = {
     /* in a byte behind the field's, with and without an id in front, and beyond the record */
-    { "34 12 00", 0, 2, MARKED(MF4_UNSIGNED_LE, 0, 0, 16, 2, 0), UNSIGNED(0xFFFF), "FF FF 00", 1, 1 },
-    { "34 12 01", 0, 2, MARKED(MF4_UNSIGNED_LE, 0, 0, 16, 2, 0), UNSIGNED(0), "00 00 01", 0, 0 },
-    { "07 34 02", 1, 1, MARKED(MF4_UNSIGNED_BE, 0, 0, 8, 2, 1), UNSIGNED(0xFF), "07 FF 02", 0, 0 },
-    { "FF FF FD", 1, 1, MARKED(MF4_SIGNED_LE, 0, 0, 8, 2, 1), SIGNED(0), "FF 00 FD", 1, 1 },
-    { "34 12 FF", 0, 2, MARKED(MF4_UNSIGNED_LE, 0, 0, 16, 2, 8), UNSIGNED(0), "00 00 FF", 1, 1 },
+    { "34 12 00", { 0, 2 }, MARKED(MF4_TYPE_UNSIGNED_LE, 0, 0, 16, 2, 0), UNSIGNED(0xFFFF), "FF FF 00", 1, 1 },
+    { "34 12 01", { 0, 2 }, MARKED(MF4_TYPE_UNSIGNED_LE, 0, 0, 16, 2, 0), UNSIGNED(0), "00 00 01", 0, 0 },
+    { "07 34 02", { 1, 1 }, MARKED(MF4_TYPE_UNSIGNED_BE, 0, 0, 8, 2, 1), UNSIGNED(0xFF), "07 FF 02", 0, 0 },
+    { "FF FF FD", { 1, 1 }, MARKED(MF4_TYPE_SIGNED_LE, 0, 0, 8, 2, 1), SIGNED(0), "FF 00 FD", 1, 1 },
+    { "34 12 FF", { 0, 2 }, MARKED(MF4_TYPE_UNSIGNED_LE, 0, 0, 16, 2, 8), UNSIGNED(0), "00 00 FF", 1, 1 },
     /* in the field's own bytes: right above its highest bit, and right below its lowest */
-    { "34 12", 0, 1, MARKED(MF4_UNSIGNED_LE, 0, 0, 12, 2, 4), UNSIGNED(0), "00 10", 0, 0 },
-    { "34 E2", 0, 1, MARKED(MF4_UNSIGNED_LE, 0, 0, 12, 2, 4), UNSIGNED(0xFFF), "FF EF", 1, 1 },
-    { "12 34", 0, 0, MARKED(MF4_UNSIGNED_BE, 0, 0, 12, 2, 4), UNSIGNED(0), "10 00", 0, 0 },
-    { "E2 34", 0, 0, MARKED(MF4_UNSIGNED_BE, 0, 0, 12, 2, 4), UNSIGNED(0xFFF), "EF FF", 1, 1 },
-    { "08 00", 0, 0, MARKED(MF4_SIGNED_LE, 4, 0, 12, 2, 3), SIGNED(-1), "F8 FF", 0, 0 },
-    { "F7 FF", 0, 0, MARKED(MF4_SIGNED_LE, 4, 0, 12, 2, 3), SIGNED(0), "07 00", 1, 1 },
-    { "00 08", 0, 0, MARKED(MF4_SIGNED_BE, 4, 0, 12, 2, 11), SIGNED(-1), "FF F8", 0, 0 },
-    { "FF F7", 0, 0, MARKED(MF4_SIGNED_BE, 4, 0, 12, 2, 11), SIGNED(0), "00 07", 1, 1 },
+    { "34 12", { 0, 1 }, MARKED(MF4_TYPE_UNSIGNED_LE, 0, 0, 12, 2, 4), UNSIGNED(0), "00 10", 0, 0 },
+    { "34 E2", { 0, 1 }, MARKED(MF4_TYPE_UNSIGNED_LE, 0, 0, 12, 2, 4), UNSIGNED(0xFFF), "FF EF", 1, 1 },
+    { "12 34", { 0, 0 }, MARKED(MF4_TYPE_UNSIGNED_BE, 0, 0, 12, 2, 4), UNSIGNED(0), "10 00", 0, 0 },
+    { "E2 34", { 0, 0 }, MARKED(MF4_TYPE_UNSIGNED_BE, 0, 0, 12, 2, 4), UNSIGNED(0xFFF), "EF FF", 1, 1 },
+    { "08 00", { 0, 0 }, MARKED(MF4_TYPE_SIGNED_LE, 4, 0, 12, 2, 3), SIGNED(-1), "F8 FF", 0, 0 },
+    { "F7 FF", { 0, 0 }, MARKED(MF4_TYPE_SIGNED_LE, 4, 0, 12, 2, 3), SIGNED(0), "07 00", 1, 1 },
+    { "00 08", { 0, 0 }, MARKED(MF4_TYPE_SIGNED_BE, 4, 0, 12, 2, 11), SIGNED(-1), "FF F8", 0, 0 },
+    { "FF F7", { 0, 0 }, MARKED(MF4_TYPE_SIGNED_BE, 4, 0, 12, 2, 11), SIGNED(0), "00 07", 1, 1 },
     /* one of the field's: its lowest, its highest, and one between */
-    { "00", 0, 0, MARKED(MF4_UNSIGNED_LE, 0, 0, 8, 2, 0), UNSIGNED(1), "01", 1, 0 },
-    { "FF", 0, 0, MARKED(MF4_UNSIGNED_LE, 0, 0, 8, 2, 0), UNSIGNED(0xFE), "FE", 0, 1 },
-    { "FF", 0, 0, MARKED(MF4_UNSIGNED_LE, 0, 0, 8, 2, 0), UNSIGNED(1), "01", 0, 0 },
-    { "00 00", 0, 1, MARKED(MF4_UNSIGNED_LE, 0, 0, 12, 2, 3), UNSIGNED(0x800), "00 08", 1, 0 },
-    { "FF FF", 0, 1, MARKED(MF4_UNSIGNED_LE, 0, 0, 12, 2, 3), UNSIGNED(0x7FF), "FF F7", 0, 1 },
-    { "00 00", 0, 0, MARKED(MF4_UNSIGNED_BE, 0, 0, 16, 2, 0), UNSIGNED(0x100), "01 00", 1, 0 },
-    { "FF FF", 0, 0, MARKED(MF4_UNSIGNED_BE, 0, 0, 16, 2, 0), UNSIGNED(0xFEFF), "FE FF", 0, 1 },
-    { "07 00 00", 1, 0, MARKED(MF4_UNSIGNED_LE, 7, 0, 2, 2, 8), UNSIGNED(2), "07 00 01", 1, 0 },
-    { "07 FF FF", 1, 0, MARKED(MF4_UNSIGNED_LE, 7, 0, 2, 2, 8), UNSIGNED(1), "07 FF FE", 0, 1 },
-    { "0F", 0, 0, MARKED(MF4_SIGNED_LE, 4, 0, 4, 2, 7), SIGNED(-8), "8F", 1, 0 },
-    { "8F", 0, 0, MARKED(MF4_SIGNED_BE, 4, 0, 4, 2, 7), SIGNED(7), "7F", 0, 1 },
-    { "00 00 80 3F", 0, 0, MARKED(MF4_FLOAT_LE, 0, 0, 32, 2, 31), DOUBLE(0xBFF0000000000000), "00 00 80 BF", 1, 0 },
-    { "BF 80 00 00", 0, 0, MARKED(MF4_FLOAT_BE, 0, 0, 32, 2, 7), DOUBLE(0x3FF0000000000000), "3F 80 00 00", 0, 1 },
+    { "00", { 0, 0 }, MARKED(MF4_TYPE_UNSIGNED_LE, 0, 0, 8, 2, 0), UNSIGNED(1), "01", 1, 0 },
+    { "FF", { 0, 0 }, MARKED(MF4_TYPE_UNSIGNED_LE, 0, 0, 8, 2, 0), UNSIGNED(0xFE), "FE", 0, 1 },
+    { "FF", { 0, 0 }, MARKED(MF4_TYPE_UNSIGNED_LE, 0, 0, 8, 2, 0), UNSIGNED(1), "01", 0, 0 },
+    { "00 00", { 0, 1 }, MARKED(MF4_TYPE_UNSIGNED_LE, 0, 0, 12, 2, 3), UNSIGNED(0x800), "00 08", 1, 0 },
+    { "FF FF", { 0, 1 }, MARKED(MF4_TYPE_UNSIGNED_LE, 0, 0, 12, 2, 3), UNSIGNED(0x7FF), "FF F7", 0, 1 },
+    { "00 00", { 0, 0 }, MARKED(MF4_TYPE_UNSIGNED_BE, 0, 0, 16, 2, 0), UNSIGNED(0x100), "01 00", 1, 0 },
+    { "FF FF", { 0, 0 }, MARKED(MF4_TYPE_UNSIGNED_BE, 0, 0, 16, 2, 0), UNSIGNED(0xFEFF), "FE FF", 0, 1 },
+    { "07 00 00", { 1, 0 }, MARKED(MF4_TYPE_UNSIGNED_LE, 7, 0, 2, 2, 8), UNSIGNED(2), "07 00 01", 1, 0 },
+    { "07 FF FF", { 1, 0 }, MARKED(MF4_TYPE_UNSIGNED_LE, 7, 0, 2, 2, 8), UNSIGNED(1), "07 FF FE", 0, 1 },
+    { "0F", { 0, 0 }, MARKED(MF4_TYPE_SIGNED_LE, 4, 0, 4, 2, 7), SIGNED(-8), "8F", 1, 0 },
+    { "8F", { 0, 0 }, MARKED(MF4_TYPE_SIGNED_BE, 4, 0, 4, 2, 7), SIGNED(7), "7F", 0, 1 },
+    { "00 00 80 3F", { 0, 0 }, MARKED(MF4_TYPE_FLOAT_LE, 0, 0, 32, 2, 31), DOUBLE(0xBFF0000000000000), "00 00 80 BF", 1, 0 },
+    { "BF 80 00 00", { 0, 0 }, MARKED(MF4_TYPE_FLOAT_BE, 0, 0, 32, 2, 7), DOUBLE(0x3FF0000000000000), "3F 80 00 00", 0, 1 },
     /* the flags decide whether the bit counts */
-    { "00", 0, 0, MARKED(MF4_UNSIGNED_LE, 0, 0, 8, 0, 0), UNSIGNED(1), "01", 1, 1 },
-    { "01", 0, 0, MARKED(MF4_UNSIGNED_LE, 0, 0, 8, 1, 0), UNSIGNED(0), "00", 0, 0 },
-    { "01", 0, 0, MARKED(MF4_UNSIGNED_LE, 0, 0, 8, 3, 0), UNSIGNED(0), "00", 0, 0 },
+    { "00", { 0, 0 }, MARKED(MF4_TYPE_UNSIGNED_LE, 0, 0, 8, 0, 0), UNSIGNED(1), "01", 1, 1 },
+    { "01", { 0, 0 }, MARKED(MF4_TYPE_UNSIGNED_LE, 0, 0, 8, 1, 0), UNSIGNED(0), "00", 0, 0 },
+    { "01", { 0, 0 }, MARKED(MF4_TYPE_UNSIGNED_LE, 0, 0, 8, 3, 0), UNSIGNED(0), "00", 0, 0 },
 };
 
 static void check_marked_case(marked_case a)
 {
-    const expected value = { MF4_ANSWER, a.value.kind, 0, a.value.number, 0, 0 };
+    const expected value = { MF4_ANSWER, 0, a.value.kind, a.value.number, 0, 0 };
     uint8_t after[256];
     const size_t count = from_hex(a.after, after);
     lent record = record_of(a.record);
-    CHECK(mf4_check_validity(record.bytes, record.length, a.id_size, a.data_bytes, a.channel) == a.was_valid);
-    check_written_over(record, a.id_size, a.channel);
-    CHECK(stored_is(written(a.id_size, a.channel, a.value, record), MF4_ANSWER, 0));
+    CHECK(mf4_check_validity(record.bytes, record.length, a.group, a.channel) == a.was_valid);
+    check_written_over(record, a.group.record_id_size, a.channel);
+    CHECK(stored_is(written(a.group.record_id_size, a.channel, a.value, record), MF4_ANSWER, 0));
     CHECK(count == record.length && same_bytes(record.bytes, after, count));
-    CHECK(mf4_check_validity(record.bytes, record.length, a.id_size, a.data_bytes, a.channel) == a.is_valid);
-    CHECK(valid_value_is(mf4_decode_valid_value(record.bytes, record.length, a.id_size, a.data_bytes, a.channel), value,
+    CHECK(mf4_check_validity(record.bytes, record.length, a.group, a.channel) == a.is_valid);
+    CHECK(valid_value_is(mf4_decode_valid_value(record.bytes, record.length, a.group, a.channel), value,
                          a.is_valid));
-    check_written_over(record_of(a.after), a.id_size, a.channel);
+    check_written_over(record_of(a.after), a.group.record_id_size, a.channel);
 }
 
 static void check_validities(void)
@@ -192,90 +191,90 @@ typedef struct refused_case {
 } refused_case;
 
 static const refused_case do_not_fit[] = {
-    { "00", 0, FIELD(MF4_UNSIGNED_LE, 0, 0, 8), UNSIGNED(256), 24, 0 },
-    { "00", 0, FIELD(MF4_UNSIGNED_BE, 7, 0, 1), UNSIGNED(2), 24, 0 },
-    { "00 00 00 00 00 00 00 00", 0, FIELD(MF4_UNSIGNED_LE, 0, 0, 63), UNSIGNED(UINT64_C(1) << 63), 24, 0 },
-    { "00", 0, FIELD(MF4_UNSIGNED_LE, 0, 0, 1), UNSIGNED(MOST), 24, 0 },
-    { "00", 0, FIELD(MF4_SIGNED_LE, 0, 0, 8), SIGNED(128), 24, 0 },
-    { "00", 0, FIELD(MF4_SIGNED_BE, 0, 0, 8), SIGNED(-129), 24, 0 },
-    { "00", 0, FIELD(MF4_SIGNED_LE, 0, 0, 1), SIGNED(1), 24, 0 },
-    { "00", 0, FIELD(MF4_SIGNED_LE, 0, 0, 1), SIGNED(-2), 24, 0 },
-    { "00 00 00 00 00 00 00 00", 0, FIELD(MF4_SIGNED_LE, 0, 0, 63), SIGNED(INT64_MIN), 24, 0 },
-    { "00 00 00 00 00 00 00 00", 0, FIELD(MF4_SIGNED_LE, 0, 0, 63), SIGNED(INT64_MAX), 24, 0 },
+    { "00", 0, FIELD(MF4_TYPE_UNSIGNED_LE, 0, 0, 8), UNSIGNED(256), 24, 0 },
+    { "00", 0, FIELD(MF4_TYPE_UNSIGNED_BE, 7, 0, 1), UNSIGNED(2), 24, 0 },
+    { "00 00 00 00 00 00 00 00", 0, FIELD(MF4_TYPE_UNSIGNED_LE, 0, 0, 63), UNSIGNED(UINT64_C(1) << 63), 24, 0 },
+    { "00", 0, FIELD(MF4_TYPE_UNSIGNED_LE, 0, 0, 1), UNSIGNED(MOST), 24, 0 },
+    { "00", 0, FIELD(MF4_TYPE_SIGNED_LE, 0, 0, 8), SIGNED(128), 24, 0 },
+    { "00", 0, FIELD(MF4_TYPE_SIGNED_BE, 0, 0, 8), SIGNED(-129), 24, 0 },
+    { "00", 0, FIELD(MF4_TYPE_SIGNED_LE, 0, 0, 1), SIGNED(1), 24, 0 },
+    { "00", 0, FIELD(MF4_TYPE_SIGNED_LE, 0, 0, 1), SIGNED(-2), 24, 0 },
+    { "00 00 00 00 00 00 00 00", 0, FIELD(MF4_TYPE_SIGNED_LE, 0, 0, 63), SIGNED(INT64_MIN), 24, 0 },
+    { "00 00 00 00 00 00 00 00", 0, FIELD(MF4_TYPE_SIGNED_LE, 0, 0, 63), SIGNED(INT64_MAX), 24, 0 },
     /* halves of the last place, also of the smallest and the largest, and what is too near 0 or too far from it */
-    { "00 00 00 00", 0, FIELD(MF4_FLOAT_LE, 0, 0, 32), DOUBLE(0x3FF0000010000000), 24, 0 },
-    { "00 00 00 00", 0, FIELD(MF4_FLOAT_LE, 0, 0, 32), DOUBLE(0x3FF0000030000000), 24, 0 },
-    { "00 00 00 00", 0, FIELD(MF4_FLOAT_LE, 0, 0, 32), DOUBLE(0x3FF0000000000001), 24, 0 },
-    { "00 00 00 00", 0, FIELD(MF4_FLOAT_LE, 0, 0, 32), DOUBLE(0x3FEFFFFFFFFFFFFF), 24, 0 },
-    { "00 00 00 00", 0, FIELD(MF4_FLOAT_LE, 0, 0, 32), DOUBLE(0x3690000000000000), 24, 0 },
-    { "00 00 00 00", 0, FIELD(MF4_FLOAT_LE, 0, 0, 32), DOUBLE(0x36A8000000000000), 24, 0 },
-    { "00 00 00 00", 0, FIELD(MF4_FLOAT_LE, 0, 0, 32), DOUBLE(0x380FFFFFE0000000), 24, 0 },
-    { "00 00 00 00", 0, FIELD(MF4_FLOAT_LE, 0, 0, 32), DOUBLE(0x0000000000000001), 24, 0 },
-    { "00 00 00 00", 0, FIELD(MF4_FLOAT_LE, 0, 0, 32), DOUBLE(0x800FFFFFFFFFFFFF), 24, 0 },
-    { "00 00 00 00", 0, FIELD(MF4_FLOAT_LE, 0, 0, 32), DOUBLE(0x47EFFFFFF0000000), 24, 0 },
-    { "00 00 00 00", 0, FIELD(MF4_FLOAT_LE, 0, 0, 32), DOUBLE(0x47F0000000000000), 24, 0 },
-    { "00 00 00 00", 0, FIELD(MF4_FLOAT_LE, 0, 0, 32), DOUBLE(0x7FEFFFFFFFFFFFFF), 24, 0 },
+    { "00 00 00 00", 0, FIELD(MF4_TYPE_FLOAT_LE, 0, 0, 32), DOUBLE(0x3FF0000010000000), 24, 0 },
+    { "00 00 00 00", 0, FIELD(MF4_TYPE_FLOAT_LE, 0, 0, 32), DOUBLE(0x3FF0000030000000), 24, 0 },
+    { "00 00 00 00", 0, FIELD(MF4_TYPE_FLOAT_LE, 0, 0, 32), DOUBLE(0x3FF0000000000001), 24, 0 },
+    { "00 00 00 00", 0, FIELD(MF4_TYPE_FLOAT_LE, 0, 0, 32), DOUBLE(0x3FEFFFFFFFFFFFFF), 24, 0 },
+    { "00 00 00 00", 0, FIELD(MF4_TYPE_FLOAT_LE, 0, 0, 32), DOUBLE(0x3690000000000000), 24, 0 },
+    { "00 00 00 00", 0, FIELD(MF4_TYPE_FLOAT_LE, 0, 0, 32), DOUBLE(0x36A8000000000000), 24, 0 },
+    { "00 00 00 00", 0, FIELD(MF4_TYPE_FLOAT_LE, 0, 0, 32), DOUBLE(0x380FFFFFE0000000), 24, 0 },
+    { "00 00 00 00", 0, FIELD(MF4_TYPE_FLOAT_LE, 0, 0, 32), DOUBLE(0x0000000000000001), 24, 0 },
+    { "00 00 00 00", 0, FIELD(MF4_TYPE_FLOAT_LE, 0, 0, 32), DOUBLE(0x800FFFFFFFFFFFFF), 24, 0 },
+    { "00 00 00 00", 0, FIELD(MF4_TYPE_FLOAT_LE, 0, 0, 32), DOUBLE(0x47EFFFFFF0000000), 24, 0 },
+    { "00 00 00 00", 0, FIELD(MF4_TYPE_FLOAT_LE, 0, 0, 32), DOUBLE(0x47F0000000000000), 24, 0 },
+    { "00 00 00 00", 0, FIELD(MF4_TYPE_FLOAT_LE, 0, 0, 32), DOUBLE(0x7FEFFFFFFFFFFFFF), 24, 0 },
     /* every NaN but the one */
-    { "00 00 00 00", 0, FIELD(MF4_FLOAT_LE, 0, 0, 32), DOUBLE(0xFFF8000000000000), 24, 0 },
-    { "00 00 00 00", 0, FIELD(MF4_FLOAT_LE, 0, 0, 32), DOUBLE(0x7FF8000000000001), 24, 0 },
-    { "00 00 00 00", 0, FIELD(MF4_FLOAT_LE, 0, 0, 32), DOUBLE(0x7FF0000000000001), 24, 0 },
-    { "00 00 00 00", 0, FIELD(MF4_FLOAT_LE, 0, 0, 32), DOUBLE(0x7FF0000020000000), 24, 0 },
-    { "00 00 00 00", 0, FIELD(MF4_FLOAT_LE, 0, 0, 32), DOUBLE(0x7FFFFFFFFFFFFFFF), 24, 0 },
+    { "00 00 00 00", 0, FIELD(MF4_TYPE_FLOAT_LE, 0, 0, 32), DOUBLE(0xFFF8000000000000), 24, 0 },
+    { "00 00 00 00", 0, FIELD(MF4_TYPE_FLOAT_LE, 0, 0, 32), DOUBLE(0x7FF8000000000001), 24, 0 },
+    { "00 00 00 00", 0, FIELD(MF4_TYPE_FLOAT_LE, 0, 0, 32), DOUBLE(0x7FF0000000000001), 24, 0 },
+    { "00 00 00 00", 0, FIELD(MF4_TYPE_FLOAT_LE, 0, 0, 32), DOUBLE(0x7FF0000020000000), 24, 0 },
+    { "00 00 00 00", 0, FIELD(MF4_TYPE_FLOAT_LE, 0, 0, 32), DOUBLE(0x7FFFFFFFFFFFFFFF), 24, 0 },
 };
 
 static const refused_case of_another_kind[] = {
-    { "00", 0, FIELD(MF4_UNSIGNED_LE, 0, 0, 8), SIGNED(1), 25, 0 },
-    { "00", 0, FIELD(MF4_UNSIGNED_BE, 0, 0, 8), DOUBLE(0x0000000000000001), 25, 0 },
-    { "00", 0, FIELD(MF4_SIGNED_LE, 0, 0, 8), UNSIGNED(1), 25, 0 },
-    { "00", 0, FIELD(MF4_SIGNED_BE, 0, 0, 8), DOUBLE(0x0000000000000000), 25, 0 },
-    { "00 00 00 00", 0, FIELD(MF4_FLOAT_LE, 0, 0, 32), UNSIGNED(0), 25, 0 },
-    { "00 00 00 00", 0, FIELD(MF4_FLOAT_BE, 0, 0, 32), SIGNED(0), 25, 0 },
-    { "00", 0, FIELD(MF4_UNSIGNED_LE, 0, 0, 8), OF_KIND(MF4_KIND_NOTHING, 0), 25, 0 },
-    { "00", 0, FIELD(MF4_UNSIGNED_LE, 0, 0, 8), OF_KIND(MF4_KIND_TEXT, 0), 25, 0 },
-    { "00", 0, FIELD(MF4_UNSIGNED_LE, 0, 0, 8), OF_KIND(257, 0), 25, 0 },
-    { "00", 0, FIELD(MF4_SIGNED_LE, 0, 0, 8), OF_KIND(UINT32_MAX, 0), 25, 0 },
-    { "00 00 00 00", 0, FIELD(MF4_FLOAT_LE, 0, 0, 32), OF_KIND(UINT32_C(0x80000003), 0), 25, 0 },
+    { "00", 0, FIELD(MF4_TYPE_UNSIGNED_LE, 0, 0, 8), SIGNED(1), 25, 0 },
+    { "00", 0, FIELD(MF4_TYPE_UNSIGNED_BE, 0, 0, 8), DOUBLE(0x0000000000000001), 25, 0 },
+    { "00", 0, FIELD(MF4_TYPE_SIGNED_LE, 0, 0, 8), UNSIGNED(1), 25, 0 },
+    { "00", 0, FIELD(MF4_TYPE_SIGNED_BE, 0, 0, 8), DOUBLE(0x0000000000000000), 25, 0 },
+    { "00 00 00 00", 0, FIELD(MF4_TYPE_FLOAT_LE, 0, 0, 32), UNSIGNED(0), 25, 0 },
+    { "00 00 00 00", 0, FIELD(MF4_TYPE_FLOAT_BE, 0, 0, 32), SIGNED(0), 25, 0 },
+    { "00", 0, FIELD(MF4_TYPE_UNSIGNED_LE, 0, 0, 8), OF_KIND(MF4_KIND_NOTHING, 0), 25, 0 },
+    { "00", 0, FIELD(MF4_TYPE_UNSIGNED_LE, 0, 0, 8), OF_KIND(MF4_KIND_TEXT, 0), 25, 0 },
+    { "00", 0, FIELD(MF4_TYPE_UNSIGNED_LE, 0, 0, 8), OF_KIND(257, 0), 25, 0 },
+    { "00", 0, FIELD(MF4_TYPE_SIGNED_LE, 0, 0, 8), OF_KIND(UINT32_MAX, 0), 25, 0 },
+    { "00 00 00 00", 0, FIELD(MF4_TYPE_FLOAT_LE, 0, 0, 32), OF_KIND(UINT32_C(0x80000003), 0), 25, 0 },
     /* channels of variable length, whatever the number */
-    { "00", 5, PAYLOAD(MF4_UNSIGNED_LE, 0, 8), UNSIGNED(1), 25, 0 },
-    { "00 00 00 00", MOST, PAYLOAD(MF4_FLOAT_LE, 0, 32), DOUBLE(0x3FF0000000000000), 25, 0 },
-    { "", 0, PAYLOAD(MF4_UTF8, 0, 64), UNSIGNED(1), 25, 0 },
+    { "00", 5, PAYLOAD(MF4_TYPE_UNSIGNED_LE, 0, 8), UNSIGNED(1), 25, 0 },
+    { "00 00 00 00", MOST, PAYLOAD(MF4_TYPE_FLOAT_LE, 0, 32), DOUBLE(0x3FF0000000000000), 25, 0 },
+    { "", 0, PAYLOAD(MF4_TYPE_UTF8, 0, 64), UNSIGNED(1), 25, 0 },
     /* texts, bytes and unknown types */
-    { "50 58", 0, FIELD(MF4_LATIN1, 0, 0, 16), UNSIGNED(1), 25, 0 },
-    { "", 0, FIELD(MF4_UTF8, 255, 0, 7), UNSIGNED(1), 25, 0 },
-    { "50 58", 0, FIELD(MF4_BYTE_ARRAY, 0, 0, 16), UNSIGNED(1), 25, 0 },
-    { "50 58", 0, FIELD(MF4_CANOPEN_DATE, 0, 0, 16), UNSIGNED(1), 25, 0 },
-    { "50 58 50 58", 0, FIELD(MF4_COMPLEX_LE, 0, 0, 32), DOUBLE(0x3FF0000000000000), 25, 0 },
+    { "50 58", 0, FIELD(MF4_TYPE_LATIN1, 0, 0, 16), UNSIGNED(1), 25, 0 },
+    { "", 0, FIELD(MF4_TYPE_UTF8, 255, 0, 7), UNSIGNED(1), 25, 0 },
+    { "50 58", 0, FIELD(MF4_TYPE_BYTE_ARRAY, 0, 0, 16), UNSIGNED(1), 25, 0 },
+    { "50 58", 0, FIELD(MF4_TYPE_CANOPEN_DATE, 0, 0, 16), UNSIGNED(1), 25, 0 },
+    { "50 58 50 58", 0, FIELD(MF4_TYPE_COMPLEX_LE, 0, 0, 32), DOUBLE(0x3FF0000000000000), 25, 0 },
     { "50", 0, FIELD(255, 0, 0, 8), UNSIGNED(1), 25, 0 },
 };
 
 /* What decoding refuses comes first and is told as there, then another kind, then what does not fit. */
 static const refused_case in_order[] = {
-    { "00", 0, FIELD(MF4_UNSIGNED_LE, 8, 9, 0), SIGNED(1), 18, 0 },
-    { "", MOST, FIELD(MF4_FLOAT_LE, 8, UINT32_MAX, 0), OF_KIND(9, 9), 18, 0 },
-    { "00", 0, FIELD(MF4_UNSIGNED_LE, 8, 0, 65), UNSIGNED(MOST), 19, 0 },
-    { "00", 0, FIELD(MF4_FLOAT_LE, 255, 0, 16), UNSIGNED(1), 19, 0 },
-    { "", 0, FIELD(MF4_SIGNED_LE, 7, UINT32_MAX, 65), DOUBLE(0x0000000000000000), 20, 0 },
-    { "", 0, FIELD(MF4_UNSIGNED_LE, 0, 0, 8), SIGNED(1), 21, 1 },
-    { "00", 0, FIELD(MF4_UNSIGNED_LE, 1, 0, 8), UNSIGNED(256), 21, 2 },
-    { "00 00 00 00 00 00", 2, FIELD(MF4_UNSIGNED_LE, 0, 3, 16), UNSIGNED(65536), 21, 7 },
-    { "00 00 00 00 00 00 00 00", 0, FIELD(MF4_SIGNED_LE, 4, 0, 64), SIGNED(0), 21, 9 },
-    { "00 00", 0, FIELD(MF4_FLOAT_LE, 1, 0, 16), UNSIGNED(1), 21, 3 },
-    { "00 00", 0, FIELD(MF4_LATIN1, 0, 1, 16), UNSIGNED(1), 21, 3 },
+    { "00", 0, FIELD(MF4_TYPE_UNSIGNED_LE, 8, 9, 0), SIGNED(1), 18, 0 },
+    { "", MOST, FIELD(MF4_TYPE_FLOAT_LE, 8, UINT32_MAX, 0), OF_KIND(9, 9), 18, 0 },
+    { "00", 0, FIELD(MF4_TYPE_UNSIGNED_LE, 8, 0, 65), UNSIGNED(MOST), 19, 0 },
+    { "00", 0, FIELD(MF4_TYPE_FLOAT_LE, 255, 0, 16), UNSIGNED(1), 19, 0 },
+    { "", 0, FIELD(MF4_TYPE_SIGNED_LE, 7, UINT32_MAX, 65), DOUBLE(0x0000000000000000), 20, 0 },
+    { "", 0, FIELD(MF4_TYPE_UNSIGNED_LE, 0, 0, 8), SIGNED(1), 21, 1 },
+    { "00", 0, FIELD(MF4_TYPE_UNSIGNED_LE, 1, 0, 8), UNSIGNED(256), 21, 2 },
+    { "00 00 00 00 00 00", 2, FIELD(MF4_TYPE_UNSIGNED_LE, 0, 3, 16), UNSIGNED(65536), 21, 7 },
+    { "00 00 00 00 00 00 00 00", 0, FIELD(MF4_TYPE_SIGNED_LE, 4, 0, 64), SIGNED(0), 21, 9 },
+    { "00 00", 0, FIELD(MF4_TYPE_FLOAT_LE, 1, 0, 16), UNSIGNED(1), 21, 3 },
+    { "00 00", 0, FIELD(MF4_TYPE_LATIN1, 0, 1, 16), UNSIGNED(1), 21, 3 },
     { "", 0, FIELD(17, 0, 0, 0), OF_KIND(0, 0), 21, 1 },
-    { "00 00", 5, PAYLOAD(MF4_UNSIGNED_LE, 0, 24), UNSIGNED(1), 21, 3 },
-    { "00 00", MOST - 1, FIELD(MF4_UNSIGNED_LE, 0, 0, 8), UNSIGNED(1), 21, MOST },
-    { "00 00", MOST, FIELD(MF4_UNSIGNED_LE, 0, 0, 8), UNSIGNED(1), 21, MOST },
-    { "00 00", MOST, FIELD(MF4_UNSIGNED_LE, 0, 1, 8), UNSIGNED(1), 21, MOST }, /* a sum that wraps would find byte 0 */
-    { "00 00", MOST, FIELD(MF4_SIGNED_BE, 0, 2, 8), SIGNED(1), 21, MOST },
-    { "00 00", MOST - 4294967294, FIELD(MF4_UNSIGNED_LE, 0, UINT32_MAX, 8), UNSIGNED(1), 21, MOST },
-    { "00 00", MOST - 4294967297, FIELD(MF4_UNSIGNED_LE, 0, UINT32_MAX, 8), UNSIGNED(1), 21, MOST - 1 },
-    { "00 00", 0, FIELD(MF4_FLOAT_LE, 7, UINT32_MAX, UINT32_MAX), UNSIGNED(1), 21, UINT64_C(4831838208) },
-    { "00 00", 0, FIELD(MF4_FLOAT_LE, 0, 0, 16), UNSIGNED(1), 22, 0 },
-    { "00 00 00 00", 0, FIELD(MF4_FLOAT_BE, 0, 0, 31), OF_KIND(0, 0), 22, 0 },
-    { "00 00 00 00", 9, PAYLOAD(MF4_FLOAT_BE, 0, 31), DOUBLE(0x3FF0000000000000), 22, 0 },
-    { "00", 0, FIELD(MF4_UNSIGNED_LE, 0, 0, 8), SIGNED(256), 25, 0 },
-    { "00 00 00 00", 0, FIELD(MF4_FLOAT_LE, 0, 0, 32), UNSIGNED(MOST), 25, 0 },
-    { "00", 0, PAYLOAD(MF4_UNSIGNED_LE, 0, 8), UNSIGNED(256), 25, 0 },
+    { "00 00", 5, PAYLOAD(MF4_TYPE_UNSIGNED_LE, 0, 24), UNSIGNED(1), 21, 3 },
+    { "00 00", MOST - 1, FIELD(MF4_TYPE_UNSIGNED_LE, 0, 0, 8), UNSIGNED(1), 21, MOST },
+    { "00 00", MOST, FIELD(MF4_TYPE_UNSIGNED_LE, 0, 0, 8), UNSIGNED(1), 21, MOST },
+    { "00 00", MOST, FIELD(MF4_TYPE_UNSIGNED_LE, 0, 1, 8), UNSIGNED(1), 21, MOST }, /* a sum that wraps would find byte 0 */
+    { "00 00", MOST, FIELD(MF4_TYPE_SIGNED_BE, 0, 2, 8), SIGNED(1), 21, MOST },
+    { "00 00", MOST - 4294967294, FIELD(MF4_TYPE_UNSIGNED_LE, 0, UINT32_MAX, 8), UNSIGNED(1), 21, MOST },
+    { "00 00", MOST - 4294967297, FIELD(MF4_TYPE_UNSIGNED_LE, 0, UINT32_MAX, 8), UNSIGNED(1), 21, MOST - 1 },
+    { "00 00", 0, FIELD(MF4_TYPE_FLOAT_LE, 7, UINT32_MAX, UINT32_MAX), UNSIGNED(1), 21, UINT64_C(4831838208) },
+    { "00 00", 0, FIELD(MF4_TYPE_FLOAT_LE, 0, 0, 16), UNSIGNED(1), 22, 0 },
+    { "00 00 00 00", 0, FIELD(MF4_TYPE_FLOAT_BE, 0, 0, 31), OF_KIND(0, 0), 22, 0 },
+    { "00 00 00 00", 9, PAYLOAD(MF4_TYPE_FLOAT_BE, 0, 31), DOUBLE(0x3FF0000000000000), 22, 0 },
+    { "00", 0, FIELD(MF4_TYPE_UNSIGNED_LE, 0, 0, 8), SIGNED(256), 25, 0 },
+    { "00 00 00 00", 0, FIELD(MF4_TYPE_FLOAT_LE, 0, 0, 32), UNSIGNED(MOST), 25, 0 },
+    { "00", 0, PAYLOAD(MF4_TYPE_UNSIGNED_LE, 0, 8), UNSIGNED(256), 25, 0 },
 };
 
 /* The record as given, and filled with marks: a refusal changes neither. */
@@ -335,7 +334,7 @@ static void check_shape(mf4_channel channel, size_t behind)
     const uint64_t largest = MOST >> (64 - channel.bit_count);
     mf4_number value = { MF4_KIND_UNSIGNED, 0 };
     int pass;
-    if (channel.data_type >= MF4_SIGNED_LE)
+    if (channel.data_type >= MF4_TYPE_SIGNED_LE)
         value.kind = MF4_KIND_SIGNED;
     for (pass = 0; pass < 2; pass++) {
         lent record = lend_marked(OUTPUT, at + span + behind);
@@ -357,7 +356,7 @@ static void check_shapes(void)
 {
     uint8_t type, bit_offset;
     uint32_t bit_count;
-    for (type = MF4_UNSIGNED_LE; type <= MF4_SIGNED_BE; type++)
+    for (type = MF4_TYPE_UNSIGNED_LE; type <= MF4_TYPE_SIGNED_BE; type++)
         for (bit_offset = 0; bit_offset < 8; bit_offset++)
             for (bit_count = 1; bit_count <= 64; bit_count++) {
                 const mf4_channel channel = FIELD(type, bit_offset, 2, bit_count);
@@ -376,7 +375,7 @@ static void check_every_type(void)
             const mf4_channel channel = FIELD((uint8_t)type, 0, 2, 64);
             const mf4_number value = { kind, 5 };
             lent record = lend_marked(OUTPUT, 11);
-            const int is_stored = type <= MF4_FLOAT_BE && kind == MF4_KIND_UNSIGNED + type / 2;
+            const int is_stored = type <= MF4_TYPE_FLOAT_BE && kind == MF4_KIND_UNSIGNED + type / 2;
             name_number("kinds of numbers for the data type", type);
             CHECK(stored_is(written(1, channel, value, record), is_stored ? MF4_ANSWER : 25, 0));
             CHECK(is_stored ? reads_back(record, 1, channel, value) && same_outside_field(record, channel, 3)

@@ -17,11 +17,11 @@ int is_bad_size(uint64_t record_size, size_t room)
     return record_size == 0 || record_size > MF4_MAX_RECORD_SIZE || room < record_size;
 }
 
-static mf4_length exercise_length(const log_file *log, query asked)
+static mf4_length_reply exercise_length(const log_file *log, query asked)
 {
     static slow_chain slow;
-    mf4_length answer = mf4_data_length(asked.file.bytes, asked.file.length, asked.start);
-    mf4_length again = mf4_data_length(asked.file.bytes, asked.file.length, asked.start);
+    mf4_length_reply answer = mf4_data_length(asked.file.bytes, asked.file.length, asked.start);
+    mf4_length_reply again = mf4_data_length(asked.file.bytes, asked.file.length, asked.start);
     check_reply(DATA_LENGTH, answer.reply, answer.told, CHAIN_REPLIES);
     MUST(answer.reply == again.reply && answer.told == again.told && answer.length == again.length);
     walk_slowly(asked.file, asked.start, MF4_ID_DT, &slow);
@@ -34,7 +34,7 @@ static mf4_length exercise_length(const log_file *log, query asked)
 }
 
 /* A record is there exactly where the joined data's length says so, and a chain that is refused is refused alike. */
-static void check_against_length(query asked, mf4_length length, mf4_fetched answer)
+static void check_against_length(query asked, mf4_length_reply length, mf4_done_reply answer)
 {
     if (is_bad_size(asked.record_size, asked.buffer_length))
         MUST(answer.reply == MF4_BAD_RECORD_SIZE);
@@ -46,21 +46,21 @@ static void check_against_length(query asked, mf4_length length, mf4_fetched ans
         MUST(answer.reply == MF4_NO_SUCH_RECORD);
 }
 
-static mf4_fetched read_record(query asked, size_t file_length, lent buffer)
+static mf4_done_reply read_record(query asked, size_t file_length, lent buffer)
 {
     return mf4_read_record(asked.file.bytes, file_length, asked.start, asked.number, asked.record_size, buffer.bytes,
                            buffer.length);
 }
 
-static mf4_valid_value record_value(query asked, size_t file_length, lent buffer)
+static mf4_valid_value_reply record_value(query asked, size_t file_length, lent buffer)
 {
-    return mf4_record_value(asked.file.bytes, file_length, asked.start, asked.number, asked.record_size, asked.how.id_size,
-                            asked.how.data_bytes, asked.how.channel, buffer.bytes, buffer.length);
+    return mf4_record_value(asked.file.bytes, file_length, asked.start, asked.number, asked.record_size, asked.how.group,
+                            asked.how.channel, buffer.bytes, buffer.length);
 }
 
-static mf4_fetched exercise_record(const log_file *log, query asked, mf4_length length, lent buffer)
+static mf4_done_reply exercise_record(const log_file *log, query asked, mf4_length_reply length, lent buffer)
 {
-    mf4_fetched answer = read_record(asked, asked.file.length, buffer), again;
+    mf4_done_reply answer = read_record(asked, asked.file.length, buffer), again;
     check_reply(READ_RECORD, answer.reply, answer.told, RECORD_REPLIES);
     check_against_length(asked, length, answer);
     MUST(is_unchanged_from(buffer, answer.reply == MF4_ANSWER ? (size_t)asked.record_size : 0));
@@ -73,16 +73,15 @@ static mf4_fetched exercise_record(const log_file *log, query asked, mf4_length 
 }
 
 /* One call for record and value is the two calls one after the other, and leaves the same bytes. */
-static void exercise_record_value(query asked, mf4_fetched fetched, lent record)
+static void exercise_record_value(query asked, mf4_done_reply fetched, lent record)
 {
     lent buffer = lend_marked(TWIN_OUTPUT, asked.buffer_length);
-    mf4_valid_value answer = record_value(asked, asked.file.length, buffer), expected;
+    mf4_valid_value_reply answer = record_value(asked, asked.file.length, buffer), expected;
     memset(&expected, 0, sizeof expected);
     check_reply(RECORD_VALUE, answer.reply, answer.told, RECORD_REPLIES | FIELD_REFUSALS);
     note(RECORD_VALUE, 32 + answer.kind);
     if (fetched.reply == MF4_ANSWER)
-        expected = mf4_decode_valid_value(record.bytes, (size_t)asked.record_size, asked.how.id_size, asked.how.data_bytes,
-                                          asked.how.channel);
+        expected = mf4_decode_valid_value(record.bytes, (size_t)asked.record_size, asked.how.group, asked.how.channel);
     else
         expected.reply = fetched.reply, expected.told = fetched.told;
     MUST(same_valid_value(answer, expected));
@@ -96,9 +95,9 @@ static void exercise_long_file(query asked, lent buffer)
 {
     size_t claimed = (size_t)MF4_MAX_FILE_SIZE + 1 + (size_t)choose_raw(2);
     uint32_t expected = is_bad_size(asked.record_size, asked.buffer_length) ? MF4_BAD_RECORD_SIZE : MF4_FILE_TOO_LONG;
-    mf4_length length = mf4_data_length(asked.file.bytes, claimed, asked.start);
-    mf4_fetched fetched = read_record(asked, claimed, buffer);
-    mf4_valid_value value = record_value(asked, claimed, buffer);
+    mf4_length_reply length = mf4_data_length(asked.file.bytes, claimed, asked.start);
+    mf4_done_reply fetched = read_record(asked, claimed, buffer);
+    mf4_valid_value_reply value = record_value(asked, claimed, buffer);
     MUST(length.reply == MF4_FILE_TOO_LONG && length.told == 0 && length.length == 0);
     MUST(fetched.reply == expected && fetched.told == 0);
     MUST(value.reply == expected && value.told == 0);
@@ -121,7 +120,7 @@ void exercise_chain(const log_file *log, reading how)
 {
     query asked = choose_query(log, how);
     lent buffer = lend_marked(OUTPUT, asked.buffer_length);
-    mf4_length length;
+    mf4_length_reply length;
     exercise_long_file(asked, buffer);
     length = exercise_length(log, asked);
     exercise_record_value(asked, exercise_record(log, asked, length, buffer), buffer);

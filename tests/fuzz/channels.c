@@ -23,7 +23,7 @@ static mf4_channel description_due(const uint8_t *block, const uint8_t *fields)
     channel.bit_count = (uint32_t)little(fields + 8, 4);
     channel.flags = (uint32_t)little(fields + 12, 4);
     channel.pos_invalidation_bit = (uint32_t)little(fields + 16, 4);
-    channel.data = little(block + 64, 8);
+    channel.data_addr = little(block + 64, 8);
     return channel;
 }
 
@@ -32,7 +32,7 @@ static void fields_due(mf4_channel_block *due, const uint8_t *fields)
     due->sync_type = fields[1];
     due->precision = fields[20];
     due->reserved1 = fields[21];
-    due->attachment_nr = (uint16_t)(fields[22] + 256 * fields[23]);
+    due->attachment_count = (uint16_t)(fields[22] + 256 * fields[23]);
     due->min_raw_value = little(fields + 24, 8);
     due->max_raw_value = little(fields + 32, 8);
     due->lower_limit = little(fields + 40, 8);
@@ -48,7 +48,7 @@ static mf4_channel_block block_due(const uint8_t *block, uint64_t links)
     due.header.id = (uint32_t)little(block, 4);
     due.header.reserved0 = (uint32_t)little(block + 4, 4);
     due.header.block_len = little(block + 8, 8);
-    due.header.links_nr = links;
+    due.header.link_count = links;
     due.next_ch_addr = little(block + 24, 8);
     due.component_addr = little(block + 32, 8);
     due.name_addr = little(block + 40, 8);
@@ -57,7 +57,7 @@ static mf4_channel_block block_due(const uint8_t *block, uint64_t links)
     due.unit_addr = little(block + 72, 8);
     due.comment_addr = little(block + 80, 8);
     due.more_links_at = 88;
-    due.more_links = links - LEAST_LINKS;
+    due.more_link_count = links - LEAST_LINKS;
     due.channel = description_due(block, fields);
     fields_due(&due, fields);
     return due;
@@ -94,14 +94,14 @@ static mf4_channel_reply channel_due(const uint8_t *bytes, size_t length)
 /* What a block comes back as: the writer has a header of its own, no further links, and zeros. */
 static mf4_channel_reply written_due(mf4_channel_block block)
 {
-    static const mf4_block_header header = { MF4_ID_CN, 0, 160, LEAST_LINKS };
+    static const mf4_header header = { MF4_ID_CN, 0, 160, LEAST_LINKS };
     mf4_channel_reply due = refused_with(MF4_ANSWER, 0);
     due.block = block;
     due.block.header = header;
     due.block.more_links_at = 88;
-    due.block.more_links = 0;
+    due.block.more_link_count = 0;
     due.block.reserved1 = 0;
-    due.block.attachment_nr = 0;
+    due.block.attachment_count = 0;
     return due;
 }
 
@@ -110,7 +110,7 @@ static void exercise_write(mf4_channel_block block)
 {
     size_t room = 158 + choose_byte() % 6, behind = choose_byte() % 3;
     lent whole = lend_marked(OUTPUT, room + behind), out = whole;
-    mf4_written answer;
+    mf4_written_reply answer;
     out.length = room;
     answer = mf4_write_channel(block, out.bytes, out.length);
     check_written(WRITE_CHANNEL, answer, out, REPLY(0) | REPLY(6));
@@ -127,7 +127,7 @@ static void exercise_write(mf4_channel_block block)
 /* What was read is written with the same links and the same fields, but for the reserved byte and the attachments. */
 static void exercise_rewriting(lent input, mf4_channel_block block)
 {
-    const uint8_t *fields = input.bytes + 24 + 8 * block.header.links_nr;
+    const uint8_t *fields = input.bytes + 24 + 8 * block.header.link_count;
     uint8_t out[MF4_CHANNEL_BLOCK_SIZE];
     MUST(mf4_write_channel(block, out, sizeof out).reply == MF4_ANSWER);
     MUST(same_bytes(out + 24, input.bytes + 24, 64));
@@ -140,8 +140,8 @@ static void exercise_read(lent input, mf4_channel_block block, reading how)
 {
     how.channel = block.channel;
     exercise_value(input, how);
-    if (block.channel.data_type > MF4_COMPLEX_BE) {
-        mf4_value value = mf4_decode_value(input.bytes, input.length, how.id_size, how.channel);
+    if (block.channel.data_type > MF4_TYPE_COMPLEX_BE) {
+        mf4_value_reply value = mf4_decode_value(input.bytes, input.length, how.group.record_id_size, how.channel);
         MUST(value.reply == MF4_ANSWER ? value.kind == MF4_KIND_UNKNOWN : value.reply == MF4_FIELD_OUTSIDE);
     }
     exercise_rewriting(input, block);
@@ -157,8 +157,8 @@ void exercise_channel(lent input, reading how)
     MUST(is_unchanged(input));
     if (answer.reply == MF4_ANSWER) {
         uint8_t code = answer.block.channel.data_type;
-        note(READ_CHANNEL, 32 + (unsigned)answer.block.more_links % 8);
-        note(READ_CHANNEL, 40u + (code <= MF4_COMPLEX_BE ? code : 17));
+        note(READ_CHANNEL, 32 + (unsigned)answer.block.more_link_count % 8);
+        note(READ_CHANNEL, 40u + (code <= MF4_TYPE_COMPLEX_BE ? code : 17));
         exercise_read(input, answer.block, how);
     }
 }
@@ -171,7 +171,7 @@ static void put_little(uint8_t *place, uint64_t number)
 }
 
 /* Any number, or one around the largest whose block has a size below 2^64. */
-static uint64_t choose_links_nr(void)
+static uint64_t choose_many_links(void)
 {
     uint8_t how = choose_byte();
     return how % 2 == 0 ? choose_number() : UINT64_MAX / 8 - how / 2 % 16;
@@ -195,7 +195,7 @@ lent choose_channel_block(void)
     memcpy(bytes, "##CN", 4);
     if (how % 8 == 7)
         bytes[choose_byte() % 4] ^= choose_byte();
-    put_little(bytes + 16, how / 8 % 4 == 3 ? choose_links_nr() : links);
+    put_little(bytes + 16, how / 8 % 4 == 3 ? choose_many_links() : links);
     if (how % 8 < 3)
         put_little(bytes + size - 8 * (1 + choose_byte() % 6), choose_no_number());
     if (how / 32 == 7)
@@ -213,7 +213,7 @@ void exercise_channel_writer(mf4_channel channel)
     mf4_channel_block block;
     uint64_t *numbers[] = { &block.next_ch_addr, &block.component_addr, &block.name_addr, &block.source_addr,
                           &block.conversion_addr, &block.unit_addr, &block.comment_addr, &block.more_links_at,
-                          &block.more_links, &block.header.block_len, &block.header.links_nr, &block.min_raw_value,
+                          &block.more_link_count, &block.header.block_len, &block.header.link_count, &block.min_raw_value,
                           &block.max_raw_value, &block.lower_limit, &block.upper_limit, &block.lower_ext_limit,
                           &block.upper_ext_limit };
     size_t i;
@@ -225,6 +225,6 @@ void exercise_channel_writer(mf4_channel channel)
     block.sync_type = choose_byte();
     block.precision = choose_byte();
     block.reserved1 = choose_byte();
-    block.attachment_nr = (uint16_t)choose_raw(2);
+    block.attachment_count = (uint16_t)choose_raw(2);
     exercise_write(block);
 }

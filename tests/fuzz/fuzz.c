@@ -72,7 +72,7 @@ static void exercise_record(void)
     for (i = 0; i < length; i++)
         bytes[i] = choose_byte();
     if (choose_byte() % 8 != 7) {
-        how.id_size %= 3;
+        how.group.record_id_size %= 3;
         how.channel.byte_offset %= 8;
     }
     exercise_written(lend_copy(INPUT, bytes, length), how);
@@ -88,6 +88,7 @@ int LLVMFuzzerTestOneInput(const uint8_t *data, size_t size)
     place_slices((enum placement)(choose_byte() % PLACEMENTS));
     make_file(&log);
     how = choose_reading();
+    MUST(mf4_version() == MF4_VERSION_NUMBER && mf4_version_matches());
     exercise_types(choose_byte());
     exercise_chain(&log, how);
     exercise_payload(&log, how);

@@ -46,20 +46,19 @@ size_t choose_size(size_t most);
 /* Mostly as many bytes as are needed, or one or two more. */
 size_t choose_room(uint64_t needed);
 
-/* How a channel is read in a record: its description, and the sizes beside it. */
+/* How a channel is read in a record. */
 typedef struct reading {
-    uint64_t id_size;
-    uint32_t data_bytes;
+    mf4_group group;
     mf4_channel channel;
 } reading;
 
 reading choose_reading(void);
 
-int same_valid_value(mf4_valid_value a, mf4_valid_value b);
-int same_written(mf4_written a, mf4_written b);
+int same_valid_value(mf4_valid_value_reply a, mf4_valid_value_reply b);
+int same_written(mf4_written_reply a, mf4_written_reply b);
 
 /* The reply is one of those allowed, and nothing behind the count has changed. */
-void check_written(enum call call, mf4_written answer, lent out, uint64_t allowed);
+void check_written(enum call call, mf4_written_reply answer, lent out, uint64_t allowed);
 
 void exercise_types(uint8_t code);
 void exercise_header(lent input);

@@ -14,7 +14,7 @@ static uint64_t add_block(log_file *file, size_t size)
 static uint64_t add_data_block(log_file *file, log_chain *chain, uint32_t data_id, size_t size, uint8_t seed)
 {
     uint64_t address = add_block(file, 24 + size);
-    mf4_block_header header = { data_id, 0, 24 + size, 0 };
+    mf4_header header = { data_id, 0, 24 + size, 0 };
     size_t i;
     MUST(mf4_write_header(header, file->bytes + address, 24).reply == MF4_ANSWER);
     for (i = 0; i < size; i++) {
@@ -115,7 +115,7 @@ static uint64_t add_list(log_file *file, log_chain *chain, uint32_t data_id, con
     uint64_t links[MOST_FRAGMENTS] = { 0 }, offsets[MOST_FRAGMENTS] = { 0 };
     size_t size = 24 + 8 + 8 * count + 8 + (plan->equal ? 8 : 8 * count);
     uint64_t address = add_block(file, size);
-    mf4_written written;
+    mf4_written_reply written;
     for (i = 0; i < count; i++) {
         offsets[i] = chain->joined_length;
         links[i] = add_data_block(file, chain, data_id, plan->sizes[i], choose_byte());

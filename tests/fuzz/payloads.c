@@ -19,7 +19,7 @@ typedef struct payload_query {
 
 /* What is due: the answer, and what is written into the front of each buffer. */
 typedef struct payload_due {
-    mf4_payload answer;
+    mf4_payload_reply answer;
     uint8_t record[MOST_ROOM], payload[MOST_ROOM];
     size_t record_written, payload_written;
 } payload_due;
@@ -33,13 +33,13 @@ static int refuse(payload_due *due, uint32_t reply, uint64_t told)
 
 static int holds_position(mf4_channel channel)
 {
-    return channel.channel_type == MF4_CHANNEL_VARIABLE_LENGTH && channel.data != 0 && channel.bit_offset == 0
+    return channel.channel_type == MF4_CHANNEL_VARIABLE_LENGTH && channel.data_addr != 0 && channel.bit_offset == 0
         && channel.bit_count == 64;
 }
 
 static int take_record(payload_query asked, payload_due *due)
 {
-    mf4_fetched fetched;
+    mf4_done_reply fetched;
     if (!holds_position(asked.how.channel))
         return refuse(due, MF4_NO_POSITION, 0);
     fetched = mf4_read_record(asked.file.bytes, asked.file.length, asked.start, asked.number, asked.record_size, due->record,
@@ -52,7 +52,7 @@ static int take_record(payload_query asked, payload_due *due)
 
 static int take_position(payload_query asked, payload_due *due, uint64_t *position)
 {
-    const uint64_t at = sum_of(asked.how.id_size, asked.how.channel.byte_offset);
+    const uint64_t at = sum_of(asked.how.group.record_id_size, asked.how.channel.byte_offset);
     if (sum_of(at, 8) > asked.record_size)
         return refuse(due, MF4_FIELD_OUTSIDE, sum_of(at, 8));
     *position = little(due->record + at, 8);
@@ -64,7 +64,7 @@ static int take_payload(payload_query asked, payload_due *due, uint64_t position
     static slow_chain chain;
     uint8_t length_bytes[4];
     uint64_t length;
-    walk_slowly(asked.file, asked.how.channel.data, MF4_ID_SD, &chain);
+    walk_slowly(asked.file, asked.how.channel.data_addr, MF4_ID_SD, &chain);
     if (chain.reply != MF4_ANSWER)
         return refuse(due, chain.reply, chain.told);
     if (chain.length < 4 || position > chain.length - 4)
@@ -84,7 +84,8 @@ static int take_payload(payload_query asked, payload_due *due, uint64_t position
 static void take_value(payload_query asked, payload_due *due)
 {
     const reading how = asked.how;
-    const mf4_value value = mf4_decode_value(due->payload, due->payload_written, how.id_size, how.channel);
+    const mf4_value_reply value = mf4_decode_value(due->payload, due->payload_written, how.group.record_id_size,
+                                                   how.channel);
     refuse(due, value.reply, value.told);
     due->answer.kind = value.kind;
     due->answer.number = value.number;
@@ -93,7 +94,7 @@ static void take_value(payload_query asked, payload_due *due)
     if (value.reply != MF4_ANSWER)
         return;
     due->answer.payload_length = due->payload_written;
-    due->answer.is_valid = mf4_check_validity(due->record, due->record_written, how.id_size, how.data_bytes, how.channel);
+    due->answer.is_valid = mf4_check_validity(due->record, due->record_written, how.group, how.channel);
 }
 
 static void work_out(payload_query asked, payload_due *due)
@@ -105,14 +106,13 @@ static void work_out(payload_query asked, payload_due *due)
         take_value(asked, due);
 }
 
-static mf4_payload record_payload(payload_query asked, size_t file_length, lent record, lent payload)
+static mf4_payload_reply record_payload(payload_query asked, size_t file_length, lent record, lent payload)
 {
-    return mf4_record_payload(asked.file.bytes, file_length, asked.start, asked.number, asked.record_size, asked.how.id_size,
-                              asked.how.data_bytes, asked.how.channel, record.bytes, record.length, payload.bytes,
-                              payload.length);
+    return mf4_record_payload(asked.file.bytes, file_length, asked.start, asked.number, asked.record_size, asked.how.group,
+                              asked.how.channel, record.bytes, record.length, payload.bytes, payload.length);
 }
 
-static int same_payload(mf4_payload a, mf4_payload b)
+static int same_payload(mf4_payload_reply a, mf4_payload_reply b)
 {
     return a.reply == b.reply && a.kind == b.kind && a.told == b.told && a.number == b.number && a.at == b.at
         && a.length == b.length && a.payload_length == b.payload_length && a.is_valid == b.is_valid;
@@ -124,7 +124,7 @@ static int holds_only(lent buffer, const uint8_t *written, size_t count)
 }
 
 /* Beside the reply the kind counts, and whether a chain is refused in front of the record or behind it. */
-static void note_payload(mf4_payload answer, int is_fetched)
+static void note_payload(mf4_payload_reply answer, int is_fetched)
 {
     note(RECORD_PAYLOAD, 55 + answer.kind);
     if (is_fetched && answer.reply <= MF4_UNTRUE_DECLARATION)
@@ -134,7 +134,7 @@ static void note_payload(mf4_payload answer, int is_fetched)
 static void exercise_answer(payload_query asked, lent record, lent payload)
 {
     static payload_due due;
-    mf4_payload answer = record_payload(asked, asked.file.length, record, payload);
+    mf4_payload_reply answer = record_payload(asked, asked.file.length, record, payload);
     check_reply(RECORD_PAYLOAD, answer.reply, answer.told, PAYLOAD_REPLIES);
     work_out(asked, &due);
     note_payload(answer, due.record_written > 0);
@@ -154,7 +154,7 @@ static uint32_t reply_of_long_file(payload_query asked)
 
 static void exercise_long_file(payload_query asked, lent record, lent payload)
 {
-    mf4_payload expected;
+    mf4_payload_reply expected;
     memset(&expected, 0, sizeof expected);
     expected.reply = reply_of_long_file(asked);
     MUST(same_payload(record_payload(asked, (size_t)MF4_MAX_FILE_SIZE + 1, record, payload), expected));
@@ -170,7 +170,7 @@ static void choose_channel(const log_file *log, mf4_channel *channel)
         channel->bit_offset = 0;
         channel->bit_count = 64;
     }
-    channel->data = how < 12 && log->payloads.start != 0 ? log->payloads.start : choose_link(log);
+    channel->data_addr = how < 12 && log->payloads.start != 0 ? log->payloads.start : choose_link(log);
 }
 
 /* Mostly a record that holds the position with a few bytes around it, and invalidation bits near its end. */
@@ -179,12 +179,12 @@ static void choose_record(payload_query *asked)
     const uint8_t how = choose_byte() % 16;
     mf4_channel *channel = &asked->how.channel;
     if (how < 14) {
-        asked->how.id_size %= 3;
+        asked->how.group.record_id_size %= 3;
         channel->byte_offset %= 4;
-        asked->how.data_bytes = channel->byte_offset + 8;
+        asked->how.group.data_bytes = channel->byte_offset + 8;
         channel->pos_invalidation_bit %= 40;
     }
-    asked->record_size = (asked->how.id_size + channel->byte_offset) % 8 + 8 + choose_byte() % 4;
+    asked->record_size = (asked->how.group.record_id_size + channel->byte_offset) % 8 + 8 + choose_byte() % 4;
     if (how == 15)
         asked->record_size = choose_number();
     asked->record_room = choose_room(asked->record_size);
@@ -197,7 +197,8 @@ static void choose_payload(log_file *log, payload_query *asked)
     const uint64_t position = choose_below(log->payloads.joined_length + 2), length = choose_below(24);
     asked->number = choose_below(log->records.joined_length / size + 1);
     put_joined(log, &log->payloads, (uint32_t)position, length, 4);
-    put_joined(log, &log->records, asked->number * size + asked->how.id_size + asked->how.channel.byte_offset, position, 8);
+    put_joined(log, &log->records,
+               asked->number * size + asked->how.group.record_id_size + asked->how.channel.byte_offset, position, 8);
     asked->payload_room = choose_room(length);
 }
 

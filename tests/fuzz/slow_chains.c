@@ -4,7 +4,7 @@
 /* A list of a chain, and what it declares for the whole of it. */
 typedef struct slow_list {
     const uint8_t *bytes;
-    mf4_list read;
+    mf4_list_reply read;
     int is_one_length;
     uint64_t one_length;
 } slow_list;
@@ -21,9 +21,9 @@ static int has_header(lent file, uint64_t address)
     return address != 0 && file.length >= MF4_HEADER_SIZE && address <= file.length - MF4_HEADER_SIZE;
 }
 
-static int agrees(mf4_list read)
+static int agrees(mf4_list_reply read)
 {
-    return read.data_block_nr == read.links && read.header.block_len >= read.rest_at + 8 * read.rest;
+    return read.data_block_count == read.data_link_count && read.header.block_len >= read.rest_at + 8 * read.rest_count;
 }
 
 static int take_list(lent file, uint64_t address, slow_chain *chain, slow_list *list)
@@ -36,7 +36,7 @@ static int take_list(lent file, uint64_t address, slow_chain *chain, slow_list *
         return refuse(chain, list->read.reply, list->read.told);
     if (!agrees(list->read))
         return refuse(chain, MF4_LIST_DISAGREES, 0);
-    if (chain->count + list->read.links > MF4_MAX_FRAGMENTS)
+    if (chain->count + list->read.data_link_count > MF4_MAX_FRAGMENTS)
         return refuse(chain, MF4_TOO_MANY_FRAGMENTS, 0);
     list->is_one_length = (list->read.flags & MF4_LIST_EQUAL_LENGTH) != 0;
     list->one_length = list->is_one_length ? little(list->bytes + list->read.rest_at, 8) : 0;
@@ -47,9 +47,9 @@ static int fits(const slow_list *list, const slow_list *first)
 {
     if (list->is_one_length != first->is_one_length || list->one_length != first->one_length)
         return 0;
-    if (!list->is_one_length || list->read.links == first->read.links)
+    if (!list->is_one_length || list->read.data_link_count == first->read.data_link_count)
         return 1;
-    return list->read.next == 0 && list->read.links < first->read.links;
+    return list->read.next_addr == 0 && list->read.data_link_count < first->read.data_link_count;
 }
 
 static int is_data_block(lent file, uint64_t address, uint32_t data_id)
@@ -62,7 +62,7 @@ static int is_data_block(lent file, uint64_t address, uint32_t data_id)
 
 static int is_true(const slow_list *list, uint64_t index, uint64_t before, uint64_t size)
 {
-    const int is_last = list->read.next == 0 && index + 1 == list->read.links;
+    const int is_last = list->read.next_addr == 0 && index + 1 == list->read.data_link_count;
     if (!list->is_one_length)
         return little(list->bytes + list->read.rest_at + 8 * index, 8) == before;
     return size == list->one_length || (is_last && size < list->one_length);
@@ -70,7 +70,7 @@ static int is_true(const slow_list *list, uint64_t index, uint64_t before, uint6
 
 static int take_fragment(lent file, const slow_list *list, uint64_t index, uint32_t data_id, slow_chain *chain)
 {
-    const uint64_t address = little(list->bytes + list->read.links_at + 8 * index, 8);
+    const uint64_t address = little(list->bytes + list->read.data_links_at + 8 * index, 8);
     uint64_t size;
     if (!has_header(file, address))
         return refuse(chain, MF4_NO_BLOCK_THERE, 0);
@@ -89,7 +89,7 @@ static int take_fragment(lent file, const slow_list *list, uint64_t index, uint3
 static int take_fragments(lent file, const slow_list *list, uint32_t data_id, slow_chain *chain)
 {
     uint64_t index;
-    for (index = 0; index < list->read.links; index++)
+    for (index = 0; index < list->read.data_link_count; index++)
         if (!take_fragment(file, list, index, data_id, chain))
             return 0;
     return 1;
@@ -103,13 +103,13 @@ void walk_slowly(lent file, uint64_t start, uint32_t data_id, slow_chain *chain)
     chain->length = 0;
     refuse(chain, MF4_ANSWER, 0);
     for (lists = 0; lists < MF4_MAX_LISTS; lists++) {
-        if (!take_list(file, lists == 0 ? start : list.read.next, chain, &list))
+        if (!take_list(file, lists == 0 ? start : list.read.next_addr, chain, &list))
             return;
         if (lists == 0)
             first = list;
         if (!fits(&list, &first))
             refuse(chain, MF4_UNTRUE_DECLARATION, 0);
-        if (chain->reply != MF4_ANSWER || !take_fragments(file, &list, data_id, chain) || list.read.next == 0)
+        if (chain->reply != MF4_ANSWER || !take_fragments(file, &list, data_id, chain) || list.read.next_addr == 0)
             return;
     }
     refuse(chain, MF4_TOO_MANY_LISTS, 0);

@@ -5,18 +5,18 @@
 
 enum { DAMAGED = -1, MOST_TEXT = 1 << 14, MOST_WRITTEN = 2 * MOST_TEXT + 17 };
 
-typedef mf4_text text_call(const uint8_t *, size_t, uint8_t *, size_t);
+typedef mf4_text_reply text_call(const uint8_t *, size_t, uint8_t *, size_t);
 
 static text_call *const text_calls[] = { mf4_text_latin1, mf4_text_utf8, mf4_text_utf16_le, mf4_text_utf16_be };
 
 /* What stands in the way of a damaged text; Latin-1 cannot be damaged. */
 static const char *const placeholders[] = { "", "<Invalid UTF8>", "<Invalid UTF16LE>", "<Invalid UTF16BE>" };
 
-static int is_utf16(uint8_t type) { return type == MF4_UTF16_LE || type == MF4_UTF16_BE; }
+static int is_utf16(uint8_t type) { return type == MF4_TYPE_UTF16_LE || type == MF4_TYPE_UTF16_BE; }
 
 static int32_t unit_at(uint8_t type, const uint8_t *bytes)
 {
-    return type == MF4_UTF16_LE ? bytes[1] << 8 | bytes[0] : bytes[0] << 8 | bytes[1];
+    return type == MF4_TYPE_UTF16_LE ? bytes[1] << 8 | bytes[0] : bytes[0] << 8 | bytes[1];
 }
 
 /* The length up to the stop: the first NUL byte, or the first zero unit, where an odd last byte is none. */
@@ -64,7 +64,7 @@ static int32_t next_of_utf16(uint8_t type, const uint8_t *bytes, size_t left, si
 
 static int32_t next_character(uint8_t type, const uint8_t *bytes, size_t left, size_t *taken)
 {
-    if (type == MF4_UTF8)
+    if (type == MF4_TYPE_UTF8)
         return next_of_utf8(bytes, left, taken);
     if (is_utf16(type))
         return next_of_utf16(type, bytes, left, taken);
@@ -91,7 +91,7 @@ typedef struct expected_text {
 
 static void expect_placeholder(expected_text *text)
 {
-    const char *placeholder = placeholders[text->type - MF4_LATIN1];
+    const char *placeholder = placeholders[text->type - MF4_TYPE_LATIN1];
     text->damaged = 1;
     text->count = strlen(placeholder);
     memcpy(text->bytes, placeholder, text->count);
@@ -113,7 +113,7 @@ static void expect_text(expected_text *text, uint8_t type, lent input)
     }
 }
 
-static int same_text(mf4_text a, mf4_text b)
+static int same_text(mf4_text_reply a, mf4_text_reply b)
 {
     return a.reply == b.reply && a.told == b.told && a.count == b.count && a.damaged == b.damaged;
 }
@@ -121,10 +121,10 @@ static int same_text(mf4_text a, mf4_text b)
 /* By the call of its encoding and by its type's code, into a buffer of that room. */
 static void exercise_text(lent input, const expected_text *text, size_t room)
 {
-    text_call *call = text_calls[text->type - MF4_LATIN1];
-    enum call counted = (enum call)(TEXT_LATIN1 + (text->type - MF4_LATIN1));
+    text_call *call = text_calls[text->type - MF4_TYPE_LATIN1];
+    enum call counted = (enum call)(TEXT_LATIN1 + (text->type - MF4_TYPE_LATIN1));
     lent out = lend_marked(OUTPUT, room);
-    mf4_text answer = call(input.bytes, input.length, out.bytes, out.length);
+    mf4_text_reply answer = call(input.bytes, input.length, out.bytes, out.length);
     check_reply(counted, answer.reply, answer.told, REPLY(0) | REPLY(6));
     note(counted, 20u + answer.damaged);
     MUST((answer.reply == MF4_ANSWER) == (room >= text->count));
@@ -140,8 +140,8 @@ static void exercise_text(lent input, const expected_text *text, size_t room)
 static void exercise_no_text(lent input, uint8_t type)
 {
     lent out = lend_marked(OUTPUT, 17);
-    mf4_text answer = mf4_text_by_type(type, input.bytes, input.length, out.bytes, out.length), expected;
-    if (type >= MF4_LATIN1 && type <= MF4_UTF16_BE)
+    mf4_text_reply answer = mf4_text_by_type(type, input.bytes, input.length, out.bytes, out.length), expected;
+    if (type >= MF4_TYPE_LATIN1 && type <= MF4_TYPE_UTF16_BE)
         return;
     memset(&expected, 0, sizeof expected);
     expected.reply = MF4_NO_TEXT_TYPE;
@@ -153,7 +153,7 @@ void exercise_texts(lent input)
 {
     static expected_text text;
     uint8_t type;
-    for (type = MF4_LATIN1; type <= MF4_UTF16_BE; type++) {
+    for (type = MF4_TYPE_LATIN1; type <= MF4_TYPE_UTF16_BE; type++) {
         expect_text(&text, type, input);
         MUST(mf4_text_room(input.length) >= text.count);
         exercise_text(input, &text, 0);

@@ -25,26 +25,26 @@ static mf4_channel choose_channel(void)
     channel.bit_count = choose_bit_count();
     channel.flags = choose_byte() % 5;
     channel.pos_invalidation_bit = (uint32_t)choose_number();
-    channel.data = choose_byte() % 2;
+    channel.data_addr = choose_byte() % 2;
     return channel;
 }
 
 reading choose_reading(void)
 {
     reading how;
-    how.id_size = choose_below(9);
-    how.data_bytes = (uint32_t)choose_number();
+    how.group.record_id_size = choose_below(9);
+    how.group.data_bytes = (uint32_t)choose_number();
     how.channel = choose_channel();
     return how;
 }
 
 static int is_payload(mf4_channel channel)
 {
-    return channel.channel_type == MF4_CHANNEL_VARIABLE_LENGTH && channel.data != 0;
+    return channel.channel_type == MF4_CHANNEL_VARIABLE_LENGTH && channel.data_addr != 0;
 }
 
-static int is_integer(mf4_channel channel) { return channel.data_type <= MF4_SIGNED_BE; }
-static int is_number(mf4_channel channel) { return channel.data_type <= MF4_FLOAT_BE; }
+static int is_integer(mf4_channel channel) { return channel.data_type <= MF4_TYPE_SIGNED_BE; }
+static int is_number(mf4_channel channel) { return channel.data_type <= MF4_TYPE_FLOAT_BE; }
 static int is_float(mf4_channel channel) { return is_number(channel) && !is_integer(channel); }
 
 /* The field bit by bit, lowest first: slow, and told quite otherwise than by words and shifts. */
@@ -80,11 +80,11 @@ static uint64_t sign_extended(uint64_t field, unsigned bit_count)
     return (field ^ sign) - sign;
 }
 
-static void check_number(mf4_value value, uint64_t field, mf4_channel channel)
+static void check_number(mf4_value_reply value, uint64_t field, mf4_channel channel)
 {
-    if (channel.data_type <= MF4_UNSIGNED_BE)
+    if (channel.data_type <= MF4_TYPE_UNSIGNED_BE)
         MUST(value.kind == MF4_KIND_UNSIGNED && value.number == field);
-    else if (channel.data_type <= MF4_SIGNED_BE)
+    else if (channel.data_type <= MF4_TYPE_SIGNED_BE)
         MUST(value.kind == MF4_KIND_SIGNED && value.number == sign_extended(field, channel.bit_count));
     else
         MUST(value.kind == MF4_KIND_DOUBLE && value.number == (channel.bit_count == 32 ? widened((uint32_t)field) : field));
@@ -93,7 +93,7 @@ static void check_number(mf4_value value, uint64_t field, mf4_channel channel)
 
 static uint64_t start_of(reading how)
 {
-    return is_payload(how.channel) ? 0 : sum_of(how.id_size, how.channel.byte_offset);
+    return is_payload(how.channel) ? 0 : sum_of(how.group.record_id_size, how.channel.byte_offset);
 }
 
 /* All of a payload that is no number; the whole bytes of a text or of bytes; else all that the bits reach into. */
@@ -102,7 +102,7 @@ static uint64_t span_of(size_t length, mf4_channel channel)
     const uint64_t bits = (uint64_t)channel.bit_offset + channel.bit_count;
     if (is_payload(channel) && !is_number(channel))
         return length;
-    if (channel.data_type >= MF4_LATIN1 && channel.data_type <= MF4_MIME_STREAM)
+    if (channel.data_type >= MF4_TYPE_LATIN1 && channel.data_type <= MF4_TYPE_MIME_STREAM)
         return channel.bit_count / 8;
     return bits > 0 ? (bits + 7) / 8 : 1;
 }
@@ -126,7 +126,7 @@ static uint32_t reply_due(size_t length, reading how)
     return MF4_ANSWER;
 }
 
-static void check_refusal(size_t length, reading how, mf4_value answer)
+static void check_refusal(size_t length, reading how, mf4_value_reply answer)
 {
     MUST(answer.told == (answer.reply == MF4_FIELD_OUTSIDE ? bytes_needed(length, how) : 0));
     MUST(answer.kind == MF4_KIND_NOTHING && answer.number == 0 && answer.at == 0 && answer.length == 0);
@@ -138,7 +138,7 @@ static uint64_t field_in(lent record, reading how)
     return field_of(record.bytes + start_of(how), (size_t)span_of(record.length, how.channel), how.channel);
 }
 
-static void check_value(lent record, reading how, mf4_value answer)
+static void check_value(lent record, reading how, mf4_value_reply answer)
 {
     check_reply(DECODE, answer.reply, answer.told, REPLY(0) | FIELD_REFUSALS);
     note(DECODE, 32 + answer.kind);
@@ -153,74 +153,85 @@ static void check_value(lent record, reading how, mf4_value answer)
         MUST(answer.number == 0);
     MUST(answer.kind >= MF4_KIND_UNSIGNED && answer.kind <= MF4_KIND_UNKNOWN);
     MUST(answer.at <= record.length && answer.length <= record.length - answer.at);
-    if (answer.kind == MF4_KIND_TEXT && how.channel.data_type <= MF4_UTF8 && answer.length > 0)
+    if (answer.kind == MF4_KIND_TEXT && how.channel.data_type <= MF4_TYPE_UTF8 && answer.length > 0)
         MUST(memchr(record.bytes + answer.at, 0, (size_t)answer.length) == NULL);
 }
 
-static uint64_t expected_double(mf4_value answer, mf4_channel channel)
+static uint64_t expected_double(mf4_value_reply answer, mf4_channel channel)
 {
     if (is_payload(channel))
         return NAN_BITS;
     switch (answer.kind) {
     case MF4_KIND_UNSIGNED: return bits_of((double)answer.number);
-    case MF4_KIND_SIGNED: return bits_of((double)mf4_signed_of(answer.number));
+    case MF4_KIND_SIGNED: return bits_of((double)mf4_bits_as_signed(answer.number));
     case MF4_KIND_DOUBLE: return answer.number;
     default: return NAN_BITS;
     }
 }
 
-static void check_double(uint64_t bits, mf4_value answer, mf4_channel channel)
+static void check_double(uint64_t bits, mf4_value_reply answer, mf4_channel channel)
 {
     int is_nan = (bits & ~((uint64_t)1 << 63)) > (uint64_t)0x7FF << 52;
     note(DECODE_DOUBLE, (unsigned)(bits >> 52) % 64);
     MUST(bits == expected_double(answer, channel));
-    MUST(bits_of(mf4_double_of(bits)) == (is_nan ? NAN_BITS : bits));
+    MUST(bits_of(mf4_bits_as_double(bits)) == (is_nan ? NAN_BITS : bits));
 }
 
-static int same_value(mf4_value a, mf4_value b)
+static int same_value(mf4_value_reply a, mf4_value_reply b)
 {
     return a.reply == b.reply && a.told == b.told && a.kind == b.kind && a.number == b.number && a.at == b.at
         && a.length == b.length;
 }
 
-static mf4_value value_in(mf4_valid_value a)
+static mf4_value_reply value_in(mf4_valid_value_reply a)
 {
-    mf4_value value = { a.reply, a.kind, a.told, a.number, a.at, a.length };
+    mf4_value_reply value = { a.reply, a.told, a.kind, a.number, a.at, a.length };
     return value;
 }
 
-int same_valid_value(mf4_valid_value a, mf4_valid_value b)
+int same_valid_value(mf4_valid_value_reply a, mf4_valid_value_reply b)
 {
     return same_value(value_in(a), value_in(b)) && a.is_valid == b.is_valid;
 }
 
 static uint8_t exercise_validity(lent record, reading how)
 {
-    uint8_t is_valid = mf4_check_validity(record.bytes, record.length, how.id_size, how.data_bytes, how.channel);
+    uint8_t is_valid = mf4_check_validity(record.bytes, record.length, how.group, how.channel);
     note(VALIDITY, is_valid + 2u * (how.channel.flags % 4));
     MUST(is_valid <= 1);
-    MUST(is_valid == mf4_check_validity(record.bytes, record.length, how.id_size, how.data_bytes, how.channel));
+    MUST(is_valid == mf4_check_validity(record.bytes, record.length, how.group, how.channel));
     return is_valid;
 }
 
-static void exercise_both(lent record, reading how, mf4_value value, uint8_t is_valid)
+static void exercise_both(lent record, reading how, mf4_value_reply value, uint8_t is_valid)
 {
-    mf4_valid_value both = mf4_decode_valid_value(record.bytes, record.length, how.id_size, how.data_bytes, how.channel);
+    mf4_valid_value_reply both = mf4_decode_valid_value(record.bytes, record.length, how.group, how.channel);
     check_reply(DECODE_VALID, both.reply, both.told, REPLY(0) | FIELD_REFUSALS);
     MUST(same_value(value_in(both), value));
     MUST(both.is_valid == (both.reply == MF4_ANSWER ? is_valid : 0));
-    MUST(same_valid_value(both, mf4_decode_valid_value(record.bytes, record.length, how.id_size, how.data_bytes,
-                                                       how.channel)));
+    MUST(same_valid_value(both, mf4_decode_valid_value(record.bytes, record.length, how.group, how.channel)));
+}
+
+/* What mf4.h makes of the pattern, and of the validity. */
+static void check_inline_doubles(lent record, reading how, uint64_t bits, uint8_t is_valid)
+{
+    const double plain = mf4_decode_double(record.bytes, record.length, how.group.record_id_size, how.channel);
+    const double valid = mf4_decode_valid_double(record.bytes, record.length, how.group, how.channel);
+    const uint64_t due = bits_of(mf4_bits_as_double(bits));
+    MUST(bits_of(plain) == due);
+    MUST(bits_of(valid) == (is_valid ? due : NAN_BITS));
 }
 
 void exercise_value(lent record, reading how)
 {
-    mf4_value value = mf4_decode_value(record.bytes, record.length, how.id_size, how.channel);
-    uint64_t bits = mf4_decode_double(record.bytes, record.length, how.id_size, how.channel);
+    const uint8_t is_valid = exercise_validity(record, how);
+    mf4_value_reply value = mf4_decode_value(record.bytes, record.length, how.group.record_id_size, how.channel);
+    uint64_t bits = mf4_decode_double_bits(record.bytes, record.length, how.group.record_id_size, how.channel);
     check_value(record, how, value);
-    MUST(same_value(value, mf4_decode_value(record.bytes, record.length, how.id_size, how.channel)));
-    exercise_both(record, how, value, exercise_validity(record, how));
+    MUST(same_value(value, mf4_decode_value(record.bytes, record.length, how.group.record_id_size, how.channel)));
+    exercise_both(record, how, value, is_valid);
     check_double(bits, value, how.channel);
-    MUST(bits == mf4_decode_double(record.bytes, record.length, how.id_size, how.channel));
+    check_inline_doubles(record, how, bits, is_valid);
+    MUST(bits == mf4_decode_double_bits(record.bytes, record.length, how.group.record_id_size, how.channel));
     MUST(is_unchanged(record));
 }

@@ -7,11 +7,11 @@ enum { MOST_ENTRIES = MF4_MAX_CHANNELS + 2, MOST_SPAN = 9 };
 
 static int is_payload(mf4_channel channel)
 {
-    return channel.channel_type == MF4_CHANNEL_VARIABLE_LENGTH && channel.data != 0;
+    return channel.channel_type == MF4_CHANNEL_VARIABLE_LENGTH && channel.data_addr != 0;
 }
 
-static int is_number(mf4_channel channel) { return channel.data_type <= MF4_FLOAT_BE; }
-static int is_float(mf4_channel channel) { return is_number(channel) && channel.data_type >= MF4_FLOAT_LE; }
+static int is_number(mf4_channel channel) { return channel.data_type <= MF4_TYPE_FLOAT_BE; }
+static int is_float(mf4_channel channel) { return is_number(channel) && channel.data_type >= MF4_TYPE_FLOAT_LE; }
 static int is_big_endian(mf4_channel channel) { return channel.data_type % 2 == 1; }
 
 /* ---- the bits of a field ---------------------------------------------------------------------------------------- */
@@ -38,7 +38,7 @@ static void mark_bits(mf4_channel channel, uint8_t marks[MOST_SPAN])
 /* Whether the double is that of some float of 32 bits; C may not be asked to narrow one that is too large. */
 static int narrowed_fits(uint64_t bits)
 {
-    double value = mf4_double_of(bits);
+    double value = mf4_bits_as_double(bits);
     float single;
     if (value != value)
         return bits == NAN_BITS;
@@ -51,7 +51,7 @@ static int narrowed_fits(uint64_t bits)
 
 static int fits(mf4_channel channel, mf4_number number)
 {
-    const int64_t value = mf4_signed_of(number.number);
+    const int64_t value = mf4_bits_as_signed(number.number);
     int64_t half;
     if (is_float(channel))
         return channel.bit_count == 64 || narrowed_fits(number.number);
@@ -73,7 +73,7 @@ static uint32_t reply_due(mf4_channel channel, mf4_number number)
 /* In front of the field, behind it, and beside it in its own bytes. */
 static void check_kept(lent record, reading how)
 {
-    const size_t at = (size_t)how.id_size + how.channel.byte_offset, span = (size_t)span_of(how.channel);
+    const size_t at = (size_t)how.group.record_id_size + how.channel.byte_offset, span = (size_t)span_of(how.channel);
     uint8_t marks[MOST_SPAN];
     size_t i;
     mark_bits(how.channel, marks);
@@ -84,7 +84,7 @@ static void check_kept(lent record, reading how)
 
 static void check_stored(lent record, reading how, mf4_number number)
 {
-    const mf4_value read = mf4_decode_value(record.bytes, record.length, how.id_size, how.channel);
+    const mf4_value_reply read = mf4_decode_value(record.bytes, record.length, how.group.record_id_size, how.channel);
     MUST(read.reply == MF4_ANSWER && read.kind == number.kind && read.number == number.number);
     check_kept(record, how);
     note(WRITE_VALUE, 32 + how.channel.data_type * 2u + (span_of(how.channel) == MOST_SPAN));
@@ -93,7 +93,7 @@ static void check_stored(lent record, reading how, mf4_number number)
 /* Whether the field was one of the NaNs of 32 bits that are read as another, 0x7FC00000. */
 static int was_another_nan(lent record, reading how)
 {
-    const uint8_t *span = record.before + how.id_size + how.channel.byte_offset;
+    const uint8_t *span = record.before + how.group.record_id_size + how.channel.byte_offset;
     uint64_t field = 0, k;
     if (!is_float(how.channel) || how.channel.bit_count != 32)
         return 0;
@@ -106,14 +106,14 @@ static int was_another_nan(lent record, reading how)
 static void exercise_same_number(lent input, reading how)
 {
     lent record = lend_copy(OUTPUT, input.bytes, input.length);
-    const mf4_value old = mf4_decode_value(record.bytes, record.length, how.id_size, how.channel);
+    const mf4_value_reply old = mf4_decode_value(record.bytes, record.length, how.group.record_id_size, how.channel);
     mf4_number same;
-    mf4_stored stored;
+    mf4_done_reply stored;
     if (is_payload(how.channel) || old.kind < MF4_KIND_UNSIGNED || old.kind > MF4_KIND_DOUBLE)
         return;
     same.kind = old.kind;
     same.number = old.number;
-    stored = mf4_write_value(how.id_size, how.channel, same, record.bytes, record.length);
+    stored = mf4_write_value(how.group.record_id_size, how.channel, same, record.bytes, record.length);
     MUST(stored.reply == MF4_ANSWER && stored.told == 0);
     check_stored(record, how, same);
     MUST(is_unchanged(record) != was_another_nan(record, how));
@@ -122,8 +122,8 @@ static void exercise_same_number(lent input, reading how)
 static void exercise_number(lent input, reading how, mf4_number number)
 {
     lent record = lend_copy(OUTPUT, input.bytes, input.length);
-    const mf4_value old = mf4_decode_value(record.bytes, record.length, how.id_size, how.channel);
-    const mf4_stored stored = mf4_write_value(how.id_size, how.channel, number, record.bytes, record.length);
+    const mf4_value_reply old = mf4_decode_value(record.bytes, record.length, how.group.record_id_size, how.channel);
+    const mf4_done_reply stored = mf4_write_value(how.group.record_id_size, how.channel, number, record.bytes, record.length);
     check_reply(WRITE_VALUE, stored.reply, stored.told,
                 REPLY(0) | FIELD_REFUSALS | REPLY(MF4_DOES_NOT_FIT) | REPLY(MF4_OTHER_KIND));
     MUST(stored.reply == (old.reply != MF4_ANSWER ? old.reply : reply_due(how.channel, number)) && stored.told == old.told);
@@ -184,7 +184,7 @@ static void exercise_kinds(lent input, reading how, uint64_t bits)
 void exercise_written(lent record, reading how)
 {
     exercise_kinds(record, how, is_float(how.channel) ? choose_double() : choose_integer(how.channel.bit_count));
-    how.channel.data_type = choose_byte() % 2 == 0 ? MF4_FLOAT_LE : MF4_FLOAT_BE;
+    how.channel.data_type = choose_byte() % 2 == 0 ? MF4_TYPE_FLOAT_LE : MF4_TYPE_FLOAT_BE;
     how.channel.bit_count = 32;
     exercise_kinds(record, how, choose_double());
 }
@@ -212,9 +212,9 @@ static int share_a_bit(mf4_channel a, mf4_channel b)
 }
 
 /* Of all pairs the last one seen, from the back of the list to its front. */
-static mf4_overlap overlap_due(const mf4_channel *list, size_t count)
+static mf4_overlap_reply overlap_due(const mf4_channel *list, size_t count)
 {
-    mf4_overlap due = { 0, 0, 0, 0, 0 };
+    mf4_overlap_reply due = { 0, 0, 0, 0, 0 };
     size_t i, j;
     if (count > MF4_MAX_CHANNELS) {
         due.reply = MF4_TOO_MANY_CHANNELS;
@@ -236,7 +236,7 @@ static mf4_overlap overlap_due(const mf4_channel *list, size_t count)
     return due;
 }
 
-static int same_overlap(mf4_overlap a, mf4_overlap b)
+static int same_overlap(mf4_overlap_reply a, mf4_overlap_reply b)
 {
     return a.reply == b.reply && a.told == b.told && a.found == b.found && a.first == b.first && a.second == b.second;
 }
@@ -274,7 +274,7 @@ void exercise_overlap(reading how)
     const size_t count = choose_list(list, how);
     lent lent_list = lend_copy(INPUT, list, count * sizeof *list);
     const mf4_channel *entries = (const mf4_channel *)(const void *)lent_list.bytes;
-    const mf4_overlap found = mf4_first_overlap(count > 0 || choose_byte() % 2 == 0 ? entries : NULL, count);
+    const mf4_overlap_reply found = mf4_first_overlap(count > 0 || choose_byte() % 2 == 0 ? entries : NULL, count);
     check_reply(FIRST_OVERLAP, found.reply, found.told,
                 REPLY(0) | REPLY(MF4_TOO_MANY_CHANNELS) | REPLY(MF4_NO_FIXED_NUMBER));
     note(FIRST_OVERLAP, 40u + found.found + 2u * (found.second - found.first < 8 ? (unsigned)(found.second - found.first) : 8));

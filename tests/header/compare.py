@@ -1,19 +1,25 @@
-"""Compares mf4.h with the library's source, and both with the theorems that pin the order of fields and arguments.
+"""Compares mf4.h with the library's source, both with the theorems that pin the order of fields and arguments, and mf4.h
+with its own scheme of names.
 
     compare.py BUILD_DIR [COMPILER]    from the repository's root
 
-The replies, structs and calls of the source, in the words of C, must be those of the header, one by one: replies by name
-and number; fields and arguments by name, type and order; sizes and offsets as a C compiler lays them out. Each struct NAME
-must have its theorem NAME-fields and each call NAME its theorem NAME-arguments, with the fields and arguments in that order.
-Exit status: 0 if all agree, 1 if not.
+The version, replies, structs and calls of the source, in the words of C, must be those of the header, one by one: replies
+by name and number; fields and arguments by name, type and order; sizes and offsets as a C compiler lays them out. Each
+struct NAME must have its theorem NAME-fields and each call NAME its theorem NAME-arguments, with the fields and arguments
+in that order. The code in the header's comments must stand in the C tests, which run it. Exit status: 0 if all agree, 1 if
+not.
 """
 
 import sys
+from pathlib import Path
 
+import scheme
 import theorems
 from header import Header
-from source import Source, Unreadable, replies
+from source import Source, Unreadable, replies, version
 
+VERSION = "crates/mf4/src/version.rt"
+TESTS = "tests/c"
 REFUSALS = "crates/refusals/src/lib.rt"
 SOURCE = ["crates/replies/src", "crates/mf4/src"]
 THEOREMS = ["crates/replies/proofs/Structs.antt", "crates/mf4/proofs/Border.antt"]
@@ -45,15 +51,27 @@ def expected_layout(source):
     return layout
 
 
+def untried(examples):
+    """The code in the header's comments that stands in no test."""
+    tests = ["\n".join(line.strip() for line in path.read_text(encoding="utf-8").splitlines())
+             for path in Path(TESTS).glob("*.c")]
+    for example in examples:
+        if not any("\n".join(example) in test for test in tests):
+            yield f"code in a comment of {HEADER} is not in {TESTS}: {example[0]} .."
+
+
 def differences(compiler, build):
     source, header = Source(SOURCE), Header(HEADER)
+    yield from one_by_one("version", version(VERSION), HEADER, header.version)
     yield from one_by_one("reply", replies(REFUSALS), HEADER, header.replies)
     yield from one_by_one("struct", declarations(source.structs), HEADER, declarations(header.structs))
     yield from one_by_one("the layout of", expected_layout(source), HEADER, header.measured(compiler, INCLUDE, build))
     yield from one_by_one("call", source.calls, HEADER, header.calls)
     yield from one_by_one("theorem", theorems.expected(source), " and ".join(THEOREMS), theorems.stated(THEOREMS))
+    yield from scheme.broken(header)
+    yield from untried(header.examples)
     counts = f"{len(header.replies)} replies, {len(header.structs)} structs and {len(header.calls)} calls"
-    print(f"header: {counts} compared with the source and the theorems")
+    print(f"header: {counts} compared with the source, the theorems and the scheme; {len(header.examples)} examples tried")
 
 
 def main():

@@ -1,12 +1,15 @@
-"""The replies, structs and prototypes of mf4.h, and what a C compiler makes of the structs."""
+"""The replies, structs, prototypes and comments of mf4.h, and what a C compiler makes of the structs."""
 
 import os
 import re
 import subprocess
 from pathlib import Path
 
-REPLIES = re.compile(r"enum mf4_reply \{([^}]*)\}")
-REPLY = re.compile(r"(MF4_\w+) = (\d+)")
+COMMENT = re.compile(r"/\*.*?\*/", re.S)
+EXAMPLE = re.compile(r"(?:^ \*     .*\n)+", re.M)
+VERSION = re.compile(r"#define MF4_VERSION_(MAJOR|MINOR|PATCH) (\d+)")
+ENUM = re.compile(r"enum (\w+) \{([^}]*)\}")
+NUMBERED = re.compile(r"(MF4_\w+) = (\w+)")
 STRUCT = re.compile(r"typedef struct (\w+) \{([^}]*)\} \1;")
 INLINE = re.compile(r"static inline [^{]*\{.*?\n\}\n", re.S)
 PROTOTYPE = re.compile(r"^([\w ]+ \*?(\w+)\([^)]*\));", re.M)
@@ -20,19 +23,31 @@ def spaced(text):
 
 
 class Header:
-    """replies: for each its number. structs: for each its fields as (name, type). calls: for each its prototype."""
+    """enums: for each the names and their numbers; replies: those of the library. structs: for each its fields as
+    (name, type). calls: for each its prototype. comments: all in one line; examples: the code in them, a line in a string."""
 
     def __init__(self, path):
-        text = re.sub(r"/\*.*?\*/", "", Path(path).read_text(encoding="utf-8"), flags=re.S)
-        self.replies = {name: number for name, number in REPLY.findall(REPLIES.search(text)[1])
-                        if int(number) < FIRST_OF_HELPERS}
+        commented = Path(path).read_text(encoding="utf-8")
+        text = COMMENT.sub("", commented)
+        self.enums = {name: dict(NUMBERED.findall(body)) for name, body in ENUM.findall(text)}
+        self.replies = {name: number for name, number in self.enums["mf4_reply"].items() if int(number) < FIRST_OF_HELPERS}
         self.structs = {name: self.fields(body) for name, body in STRUCT.findall(text)}
         self.calls = {name: spaced(prototype) for prototype, name in PROTOTYPE.findall(INLINE.sub("", text))}
+        self.comments = spaced(" ".join(COMMENT.findall(commented)).replace("\n *", " "))
+        self.examples = [[line.removeprefix(" *").strip() for line in example.splitlines()]
+                         for example in EXAMPLE.findall(commented)]
+        self.version = dict(VERSION.findall(text))
 
     @staticmethod
     def fields(body):
         declarations = [declaration.split() for declaration in body.split(";") if declaration.strip()]
         return [(name, kind) for kind, name in declarations]
+
+    def arguments(self, call):
+        """The (type, name) of each, where a pointer's type ends in its star."""
+        given = self.calls[call].partition("(")[2].rstrip(")")
+        names = [] if given == "void" else given.split(", ")
+        return [(re.sub(r" ?\w+$", "", argument), re.search(r"\w+$", argument)[0]) for argument in names]
 
     def measuring_program(self):
         """Prints a line for each struct and each of its fields: its name, then its place and size."""

@@ -3,6 +3,8 @@
 import re
 from pathlib import Path
 
+from scheme import IN_PLACE
+
 NUMBERS = {"u8": "uint8_t", "u16": "uint16_t", "u32": "uint32_t", "u64": "uint64_t", "i64": "int64_t"}
 SIZES = {"uint8_t": 1, "uint16_t": 2, "uint32_t": 4, "uint64_t": 8, "int64_t": 8}
 
@@ -10,6 +12,7 @@ STRUCT = re.compile(r"#\[repr\(C\)\]\s*pub struct (\w+) \{(.*?)\}", re.S)
 CALL = re.compile(r'#\[no_mangle\]\s*pub extern "C" fn (\w+)\((.*?)\) -> (\w+)', re.S)
 MARKED = re.compile(r"#\[(?:repr\(C\)|no_mangle)\]")
 NUMBERED = re.compile(r"pub fn number\(self\) -> u32.*?\n    \}\n", re.S)
+VERSION = re.compile(r"^const (MAJOR|MINOR|PATCH): u32 = (\d+);", re.M)
 REFUSAL = re.compile(r"Refusal::(\w+)(?:\(_\))? => (\d+),")
 
 
@@ -29,13 +32,14 @@ def c_type(name):
     raise Unreadable(f"no type of C is known for {name}")
 
 
-def c_arguments(name, kind):
-    """A slice is a pointer and a count."""
+def c_arguments(call, name, kind):
+    """A slice is a pointer and a count: a length if it is input, also if it is changed in place, and else a room."""
     slice_of = re.fullmatch(r"&(mut )?\[(\w+)\]", kind)
     if not slice_of:
         return [f"{c_type(kind)} {name}"]
     constness = "" if slice_of[1] else "const "
-    return [f"{constness}{c_type(slice_of[2])} *{name}", f"size_t {name}_len"]
+    ending = "room" if slice_of[1] and (call, name) not in IN_PLACE else "len"
+    return [f"{constness}{c_type(slice_of[2])} *{name}", f"size_t {name}_{ending}"]
 
 
 def named(text):
@@ -51,6 +55,11 @@ def replies(path):
     if len(numbered) != 1 or len(refusals) != numbered[0].count("=>"):
         raise Unreadable(f"{path}: the refusals are numbered in another way than this test knows")
     return {"MF4_ANSWER": "0"} | {f"MF4_{snake(name).upper()}": number for name, number in refusals}
+
+
+def version(path):
+    """The three numbers of the version by their names."""
+    return dict(VERSION.findall(Path(path).read_text(encoding="utf-8")))
 
 
 class Source:
@@ -73,8 +82,8 @@ class Source:
 
     @staticmethod
     def prototype(name, given, answer):
-        arguments = [argument for pair in named(given) for argument in c_arguments(*pair)]
-        return f"{c_type(answer)} {name}({', '.join(arguments)})"
+        arguments = [argument for pair in named(given) for argument in c_arguments(name, *pair)]
+        return f"{c_type(answer)} {name}({', '.join(arguments) or 'void'})"
 
     def alignment(self, kind):
         return SIZES.get(kind) or max(self.alignment(field) for _, field in self.structs[kind])

@@ -5,7 +5,7 @@ from pathlib import Path
 
 THEOREM = re.compile(r"^pub ([\w-]+-(?:fields|arguments)) : (.*?)\n\1 ", re.M | re.S)
 FIELDS = re.compile(r"\(s : \w+\) → ([\w-]+)\.struct \.as-values s ≡ (.*)")
-ARGUMENTS = re.compile(r".* → Allows \d+ ([\w-]+)-kinds\.ps \1-kinds\.r \1\.Learnt κs (.*) y \(.*\) ≡ \(.*\)")
+ARGUMENTS = re.compile(r".* → Allows \d+ ([\w-]+)-kinds\.ps \1-kinds\.r \1\.Learnt κs (.*) y (?:tt|\(.*\)) ≡ \(.*\)")
 # The same of a call that is proved by hand.
 BY_HAND = re.compile(r".* → Says ([\w-]+)\.ended \1-clauses κs (.*) y \(.*\) \(y ≡ .*\)")
 

@@ -8,7 +8,7 @@ import random
 import struct
 
 from protocol import LongFile
-from reference import NAN, Channel, ChannelBlock, Header, Number, decode_value
+from reference import NAN, Channel, ChannelBlock, Group, Header, Number, decode_value
 
 U8 = 2**8 - 1
 U16 = 2**16 - 1
@@ -66,6 +66,10 @@ def random_header_case(rng):
     return "write_header", (random_header(rng), out_buffer(rng, length))
 
 
+def version_boundaries(_rng):
+    yield "version", ()
+
+
 def type_boundaries(_rng):
     for code in range(256):
         yield "type_code", (code,)
@@ -78,7 +82,7 @@ def type_boundaries(_rng):
 def list_block(fields):
     """The bytes of a list from its fields, however wrong they are."""
     return (fields["id"] + fields["reserved0"].to_bytes(4, "little") + fields["block_len"].to_bytes(8, "little")
-            + fields["links_nr"].to_bytes(8, "little") + fields["next"].to_bytes(8, "little")
+            + fields["link_count"].to_bytes(8, "little") + fields["next"].to_bytes(8, "little")
             + b"".join(link.to_bytes(8, "little") for link in fields["links"])
             + bytes([fields["flags"]]) + fields["reserved1"].to_bytes(3, "little")
             + fields["count"].to_bytes(4, "little") + b"".join(number.to_bytes(8, "little") for number in fields["rest"]))
@@ -86,7 +90,7 @@ def list_block(fields):
 
 def list_fields(next_list, links, flags, rest):
     """A list in which everything agrees."""
-    return {"id": b"##DL", "reserved0": 0, "block_len": 40 + 8 * len(links) + 8 * len(rest), "links_nr": len(links) + 1,
+    return {"id": b"##DL", "reserved0": 0, "block_len": 40 + 8 * len(links) + 8 * len(rest), "link_count": len(links) + 1,
             "next": next_list, "links": links, "flags": flags, "reserved1": 0, "count": len(links), "rest": rest}
 
 
@@ -122,15 +126,15 @@ def list_id_and_link_boundaries(rng):
         fields["id"] = wrong
         yield "read_list", (list_block(fields),)
         yield "read_list", (list_block(fields)[:23],)  # too few bytes comes before another id
-        fields["links_nr"] = 0
+        fields["link_count"] = 0
         yield "read_list", (list_block(fields),)  # another id comes before no links
     # 8 bytes a link pass 2^64 from 2^61 - 4 links on, and would wrap to small sums.
     around_wrapping = [2**61 + i for i in range(-8, 9)]
     others = [0, 1, 2, 3, 4, 5, 6, 2**32 - 1, 2**32, 2**60, 2**62, 2**62 + 1, 2**63 - 1, 2**63, 2**63 + 1, U64 - 1, U64]
-    for links_nr in around_wrapping + others:
+    for link_count in around_wrapping + others:
         for length in (24, 31, 32, 40, 56):
             fields = random_list_fields(rng, 2)
-            fields["links_nr"] = links_nr
+            fields["link_count"] = link_count
             yield "read_list", (list_block(fields)[:length],)
 
 
@@ -159,7 +163,7 @@ def random_list_case(rng):
     choice = rng.random()
     if choice < 0.5:
         if rng.random() < 0.2:
-            fields[rng.choice(["links_nr", "next"])] = edge_number(rng, U64)
+            fields[rng.choice(["link_count", "next"])] = edge_number(rng, U64)
         if rng.random() < 0.2:
             fields["count"] = rng.choice([0, links_count + 1, edge_number(rng, U32)])
         if rng.random() < 0.1:
@@ -191,18 +195,21 @@ def with_validity(rng, channel, record_size):
     return channel._replace(flags=rng.choice([0, 1, 2, 2, 2, 3, 4, 6, U32 - 1, U32]), pos_invalidation_bit=position)
 
 
-def value_cases(rng, record, id_size, channel, calls=("decode_value", "decode_valid_value", "decode_double")):
+VALUE_CALLS = ("decode_value", "decode_valid_value", "decode_double_bits", "decode_valid_double")
+
+
+def value_cases(rng, record, id_size, channel, calls=VALUE_CALLS):
     for call in calls:
-        if call == "decode_valid_value":
+        if call in ("decode_valid_value", "decode_valid_double"):
             marked = with_validity(rng, channel, len(record))
-            yield call, (record, id_size, rng.choice([0, 1, len(record), edge_number(rng, U32)]), marked)
+            yield call, (record, Group(id_size, rng.choice([0, 1, len(record), edge_number(rng, U32)])), marked)
         else:
             yield call, (record, id_size, channel)
 
 
 def as_payload(rng, channel):
     """The channel as one of variable length: its id size and byte offset then play no part."""
-    return channel._replace(channel_type=1, data=rng.choice([1, 8, U64]), byte_offset=edge_number(rng, U32))
+    return channel._replace(channel_type=1, data_addr=rng.choice([1, 8, U64]), byte_offset=edge_number(rng, U32))
 
 
 def field_boundaries(rng):
@@ -215,7 +222,7 @@ def field_boundaries(rng):
         for case in value_cases(rng, whole, id_size, channel):
             yield case
         other = whole[:-1] if rng.random() < 0.6 else whole + rng.randbytes(1)
-        calls = [rng.choice(["decode_value", "decode_value", "decode_double", "decode_valid_value"])]
+        calls = [rng.choice(["decode_value", *VALUE_CALLS])]
         yield from value_cases(rng, other, id_size, channel, calls)
         payload = rng.randbytes(max(0, span_size(channel) + rng.choice([-1, 0, 0, 1, 7])))
         yield from value_cases(rng, payload, edge_number(rng, U64), as_payload(rng, channel), calls)
@@ -241,7 +248,7 @@ def place_boundaries(rng):
             for byte_offset in {at_end - 1, at_end, at_end + 1, at_end + 2} | past:
                 if 0 <= byte_offset <= U32:
                     record = some_bytes(rng, record_size)
-                    calls = [rng.choice(["decode_value", "decode_valid_value", "decode_double"])]
+                    calls = [rng.choice(VALUE_CALLS)]
                     yield from value_cases(rng, record, id_size, channel._replace(byte_offset=byte_offset), calls)
 
 
@@ -254,7 +261,7 @@ def refusal_boundaries(rng):
         channel = Channel(data_type, rng.choice([0, 2]), bit_offset, byte_offset, bit_count)
         span = span_size(channel)
         needed = id_size + byte_offset + span
-        calls = ["decode_value", rng.choice(["decode_valid_value", "decode_double"])]
+        calls = ["decode_value", rng.choice(VALUE_CALLS[1:])]
         for length in (0, max(0, needed - 1), needed):
             yield from value_cases(rng, some_bytes(rng, length), id_size, channel, calls)
         far = channel._replace(byte_offset=rng.choice([0, byte_offset, U32]))
@@ -268,8 +275,8 @@ def payload_boundaries(rng):
     for data_type, channel_type, data in itertools.product(TYPE_CODES, (0, 1, 2, 255), (0, 1, 2**32, U64)):
         for length in (0, 1, 2, 4, 8, 9):
             channel = Channel(data_type, channel_type, rng.choice([0, 0, 4, 8]), rng.choice([0, 0, 1, U32]),
-                              rng.choice([0, 8, 16, 32, 32, 64, 65]), data=data)
-            calls = [rng.choice(["decode_value", "decode_valid_value", "decode_double"])]
+                              rng.choice([0, 8, 16, 32, 32, 64, 65]), data_addr=data)
+            calls = [rng.choice(VALUE_CALLS)]
             yield from value_cases(rng, some_bytes(rng, length), rng.choice([0, 0, 1, U64]), channel, calls)
 
 
@@ -291,16 +298,17 @@ def validity_boundaries(rng):
         for data_bytes in (0, 1, 2):
             record = some_bytes(rng, rng.randint(0, 6))
             channel = Channel(rng.choice(TYPE_CODES), rng.choice([0, 1]), 0, 0, 8, flags, position, rng.choice([0, 9]))
-            yield "check_validity", (record, id_size, data_bytes, channel)
+            yield "check_validity", (record, Group(id_size, data_bytes), channel)
     for id_size, data_bytes, record_size in itertools.product(HUGE_ID_SIZES, (0, 1, 2, 9, 10, U32), (0, 1, 4, 16)):
         for position in (0, 8, 16, 64, 80, U32):  # sums at 2^64 and a little past it
             record = b"\xff" * record_size
-            yield "check_validity", (record, id_size, data_bytes, Channel(flags=2, pos_invalidation_bit=position))
+            yield "check_validity", (record, Group(id_size, data_bytes), Channel(flags=2, pos_invalidation_bit=position))
     for size in range(1, 5):  # the byte at, one before and one past the record's end
         for position in range(8 * size + 9):
             record = rng.randbytes(size + 1)
-            yield "check_validity", (record, 1, 0, Channel(flags=2, pos_invalidation_bit=position))
-            yield "check_validity", (record, 0, size, Channel(flags=2, pos_invalidation_bit=position - position // 16 * 8))
+            yield "check_validity", (record, Group(1, 0), Channel(flags=2, pos_invalidation_bit=position))
+            lower = Channel(flags=2, pos_invalidation_bit=position - position // 16 * 8)
+            yield "check_validity", (record, Group(0, size), lower)
 
 
 def bits_in_record(rng, field, bit_count, bit_offset, is_big):
@@ -327,7 +335,8 @@ def tie_boundaries(rng):
             if surplus > 0:
                 number = (significand << surplus) + 2**(surplus - 1) + near
                 for field in (number, -number % 2**bit_count) if is_signed else (number,):
-                    yield number_case(rng, data_type, bit_count, rng.randint(0, 7), field % 2**bit_count, "decode_double")
+                    yield number_case(rng, data_type, bit_count, rng.randint(0, 7), field % 2**bit_count,
+                                      "decode_double_bits")
 
 
 def hard_integer(rng, bit_count):
@@ -364,7 +373,7 @@ def number_case(rng, data_type, bit_count, bit_offset, field, call=None):
     record = bits_in_record(rng, field, bit_count, bit_offset, data_type in (1, 3, 5))
     before, behind = rng.choice([(0, 0), (2, 0), (0, 2), (1, 3)])
     channel = Channel(data_type, 0, bit_offset, before, bit_count)
-    call = call or rng.choice(["decode_value", "decode_double", "decode_double"])
+    call = call or rng.choice(["decode_value", "decode_double_bits", "decode_double_bits"])
     return call, (rng.randbytes(before) + record + rng.randbytes(behind), 0, channel)
 
 
@@ -395,7 +404,7 @@ def random_channel(rng, record_size, id_size):
     bit_count = rng.choice([8, 16, 32, 64, rng.randint(0, 70), 8 * rng.randint(0, 12), 8 * record_size,
                             edge_number(rng, U32)])
     channel = Channel(data_type, rng.choice([0, 0, 0, 1, 2, 255]), rng.choice([0, 0, 0, 4, rng.randint(0, 9), 255]), 0,
-                      bit_count, data=rng.choice([0, 0, 0, 1, U64]))
+                      bit_count, data_addr=rng.choice([0, 0, 0, 1, U64]))
     last = max(0, record_size - span_size(channel) - min(id_size, 9))
     byte_offset = rng.choice([0, last, last, rng.randint(0, last), rng.randint(0, last), last + 1, edge_number(rng, U32)])
     return with_validity(rng, channel._replace(byte_offset=byte_offset), record_size)
@@ -408,10 +417,10 @@ def random_value_case(rng):
     id_size = rng.choice([0, 0, 0, 1, 2, 8, rng.choice(ID_SIZES), rng.choice(HUGE_ID_SIZES)])
     channel = random_channel(rng, len(record), id_size)
     data_bytes = rng.choice([0, 1, rng.randint(0, len(record) + 1), edge_number(rng, U32)])
-    call = rng.choice(["decode_value", "check_validity", "decode_valid_value", "decode_double"])
-    if call in ("decode_value", "decode_double"):
+    call = rng.choice(["check_validity", *VALUE_CALLS])
+    if call in ("decode_value", "decode_double_bits"):
         return call, (record, id_size, channel)
-    return call, (record, id_size, data_bytes, channel)
+    return call, (record, Group(id_size, data_bytes), channel)
 
 
 # ---- numbers written into a record -------------------------------------------------------------------------------------
@@ -437,7 +446,7 @@ def placed_channel(rng, data_type, bit_count, bit_offset):
     """With a place in the record, and what plays no part in it."""
     channel = Channel(data_type, rng.choice([0, 0, 2, 255]), bit_offset, rng.choice([0, 0, 1, 2, 5]), bit_count,
                       rng.choice([0, 1, 2, 3, U32]), edge_number(rng, U32), 0)
-    return channel._replace(channel_type=1) if rng.random() < 0.2 else channel._replace(data=rng.choice([0, 0, 9, U64]))
+    return channel._replace(channel_type=1) if rng.random() < 0.2 else channel._replace(data_addr=rng.choice([0, 0, 9, U64]))
 
 
 def border_numbers(data_type, bit_count):
@@ -560,7 +569,7 @@ def write_payload_boundaries(rng):
     for data_type, channel_type, data in itertools.product(TYPE_CODES, (0, 1, 2, 255), (0, 1, 2**32, U64)):
         for length in (0, 1, 4, 8, 9):
             channel = Channel(data_type, channel_type, rng.choice([0, 0, 4, 8]), rng.choice([0, 0, 1, U32]),
-                              rng.choice([0, 8, 16, 32, 32, 64, 65]), data=data)
+                              rng.choice([0, 8, 16, 32, 32, 64, 65]), data_addr=data)
             number = Number(rng.choice([kind_of_type(min(data_type, 5)), rng.choice(NUMBER_KINDS)]), rng.choice([0, 1, U64]))
             yield "write_value", (rng.choice([0, 0, 1, U64]), channel, number, some_bytes(rng, length))
 
@@ -612,7 +621,7 @@ def no_fixed_numbers(rng):
     return [fixed._replace(bit_count=0), floating._replace(bit_count=0), fixed._replace(bit_offset=rng.choice([8, 9, 255])),
             floating._replace(bit_offset=8), fixed._replace(bit_count=65), fixed._replace(bit_count=U32),
             *(floating._replace(bit_count=width) for width in (1, 16, 31, 33, 63, 65, 128, U32)),
-            fixed._replace(channel_type=1, data=rng.choice([1, U64])), floating._replace(channel_type=1, data=8),
+            fixed._replace(channel_type=1, data_addr=rng.choice([1, U64])), floating._replace(channel_type=1, data_addr=8),
             *(fixed._replace(data_type=code, bit_count=rng.choice([8, 32, 64])) for code in TYPE_CODES if code > 5)]
 
 
@@ -711,7 +720,7 @@ TYPE_PLACE, RESERVED_PLACE, ATTACHMENTS_PLACE = 2, 9, 10
 
 def channel_block(fields):
     """The bytes of a channel block from its fields, however wrong they are."""
-    header = struct.pack("<4s I 2Q", fields["id"], fields["reserved0"], fields["block_len"], fields["links_nr"])
+    header = struct.pack("<4s I 2Q", fields["id"], fields["reserved0"], fields["block_len"], fields["link_count"])
     links = struct.pack(f"<{len(fields['links'])}Q", *fields["links"])
     return header + links + CHANNEL_FIELDS.pack(*fields["rest"])
 
@@ -726,7 +735,7 @@ def channel_fields(rng, links_count):
     kinds = [rng.choice([0, 1, edge_number(rng, U8)]), edge_number(rng, U8), rng.choice(TYPE_CODES), edge_number(rng, U8)]
     places = [edge_number(rng, U32) for _ in range(4)]
     behind = [edge_number(rng, U8), 0, links_count - 8]
-    return {"id": b"##CN", "reserved0": 0, "block_len": 96 + 8 * links_count, "links_nr": links_count,
+    return {"id": b"##CN", "reserved0": 0, "block_len": 96 + 8 * links_count, "link_count": links_count,
             "links": [edge_number(rng, U64) for _ in range(links_count)],
             "rest": kinds + places + behind + [hard_limit(rng) for _ in range(6)]}
 
@@ -785,18 +794,18 @@ def channel_read_boundaries(rng):
 def channel_id_and_link_boundaries(rng):
     for wrong in (b"##CG", b"##cn", b"CN##", bytes(4), b"\xff\xff\xff\xff", b"#\xc3CN", b" #CN", b"# CN", b"##DN", b"##CM",
                   b"##DL"):
-        for links_nr in (0, 7, 8, 9, 2**61 + 8, U64):
+        for link_count in (0, 7, 8, 9, 2**61 + 8, U64):
             fields = random_channel_fields(rng, 8)
-            fields.update(id=wrong, links_nr=links_nr)
+            fields.update(id=wrong, link_count=link_count)
             for length in (160, 24, 23):  # too few bytes for a header comes before another id, and that before its links
                 yield "read_channel", (channel_block(fields)[:length],)
     # 8 bytes a link pass 2^64 from 2^61 - 12 links on, and would wrap to the sizes of a few links.
     around_wrapping = [2**61 * turns + i for turns in range(1, 8) for i in range(-14, 13)]
     others = [2**32 - 1, 2**32, 2**32 + 7, 2**32 + 8, 2**32 + 9, 2**60, 2**61 - 100, U64 - 12, U64 - 11, U64 - 1, U64]
-    for links_nr in list(range(20)) + around_wrapping + others:
+    for link_count in list(range(20)) + around_wrapping + others:
         for length in (23, 24, 31, 88, 96, 152, 159, 160, 168, 200):
             fields = random_channel_fields(rng, 13)
-            fields["links_nr"] = links_nr
+            fields["link_count"] = link_count
             yield "read_channel", (channel_block(fields)[:length],)
 
 
@@ -828,12 +837,12 @@ def channel_write_boundaries(rng):
         yield "write_channel", (random_channel_block(rng), out_buffer(rng, size))
     for number in (0, 1, U8, U16, U32, U64):  # what is not looked at
         unseen = counting._replace(header=Header(number % 2**32, number % 2**32, number, number), more_links_at=number,
-                                   more_links=number, reserved1=number % 2**8, attachment_nr=number % 2**16)
+                                   more_link_count=number, reserved1=number % 2**8, attachment_count=number % 2**16)
         for size in out_sizes(160):
             yield "write_channel", (unseen, out_buffer(rng, size))
     for name in ChannelBlock._fields:  # one field alone
         if name not in ("header", "channel"):
-            most = {"sync_type": U8, "precision": U8, "reserved1": U8, "attachment_nr": U16}.get(name, U64)
+            most = {"sync_type": U8, "precision": U8, "reserved1": U8, "attachment_count": U16}.get(name, U64)
             yield "write_channel", (ChannelBlock()._replace(**{name: most}), bytes(160))
     for name, most in zip(Channel._fields, (U8, U8, U8, U32, U32, U32, U32, U64)):
         yield "write_channel", (ChannelBlock(channel=Channel()._replace(**{name: most})), bytes(160))
@@ -845,7 +854,7 @@ def random_channel_block_case(rng):
     links_count = rng.choice([8, 8, 8, 9, 10, 12, rng.randint(0, 30)])
     fields = random_channel_fields(rng, max(8, links_count))
     if rng.random() < 0.2:
-        fields["links_nr"] = rng.choice([links_count, edge_number(rng, U64), rng.randint(0, 30),
+        fields["link_count"] = rng.choice([links_count, edge_number(rng, U64), rng.randint(0, 30),
                                          2**61 * rng.randint(1, 7) + rng.randint(-20, 20)])
     if rng.random() < 0.1:
         fields["id"] = rng.choice([b"##CG", b"##DL", rng.randbytes(4)])
@@ -964,7 +973,7 @@ def random_text_case(rng):
 
 def data_block(fields):
     return (fields["id"] + fields["reserved0"].to_bytes(4, "little") + fields["block_len"].to_bytes(8, "little")
-            + fields["links_nr"].to_bytes(8, "little") + fields["data"])
+            + fields["link_count"].to_bytes(8, "little") + fields["data"])
 
 
 DATA_ID, SIGNAL_ID = b"##DT", b"##SD"
@@ -972,7 +981,7 @@ DATA_ID, SIGNAL_ID = b"##DT", b"##SD"
 
 def data_fields(data, data_id=DATA_ID):
     """A data block in which everything agrees."""
-    return {"id": data_id, "reserved0": 0, "block_len": 24 + len(data), "links_nr": 0, "data": data}
+    return {"id": data_id, "reserved0": 0, "block_len": 24 + len(data), "link_count": 0, "data": data}
 
 
 class Chain:
@@ -1111,7 +1120,7 @@ def edge_lengths(rng, chain, place):
     return [0, 1, 23, 24, 25, left - 1, left, left + 1, rng.randint(0, left + 9)] + wrapping
 
 
-LIST_DAMAGES = ["id", "links_nr", "count", "block_len", "next", "flags", "reserved", "fewer"] + 2 * ["links"] + 3 * ["rest"]
+LIST_DAMAGES = ["id", "link_count", "count", "block_len", "next", "flags", "reserved", "fewer"] + 2 * ["links"] + 3 * ["rest"]
 
 
 def damage_list(rng, chain, index=None, name=None):
@@ -1121,9 +1130,9 @@ def damage_list(rng, chain, index=None, name=None):
     name = name or rng.choice(LIST_DAMAGES)
     if name == "id":
         fields["id"] = rng.choice([b"##DT", b"##dl", b"##HL", rng.randbytes(4)])
-    elif name == "links_nr":
+    elif name == "link_count":
         near = len(fields["links"]) + 1
-        fields["links_nr"] = rng.choice([0, near - 1, near + 1, near + 2, 2**61 - 4, 2**61, 2**61 + near, 2**63, U64])
+        fields["link_count"] = rng.choice([0, near - 1, near + 1, near + 2, 2**61 - 4, 2**61, 2**61 + near, 2**63, U64])
     elif name == "count":
         fields["count"] = rng.choice([0, max(0, fields["count"] - 1), min(U32, fields["count"] + 1), U32, 2**29])
     elif name == "block_len":
@@ -1152,12 +1161,12 @@ def damage_data(rng, chain, index=None):
         return
     index = rng.randrange(len(chain.datas)) if index is None else index
     fields, place = chain.datas[index], chain.data_places[index]
-    name = rng.choice(["id", "links_nr", "block_len", "block_len", "block_len", "reserved0"])
+    name = rng.choice(["id", "link_count", "block_len", "block_len", "block_len", "reserved0"])
     if name == "id":
         other_kind = SIGNAL_ID if fields["id"] == DATA_ID else DATA_ID
         fields["id"] = rng.choice([b"##DL", b"##DZ", b"##dt", other_kind, rng.randbytes(4)])
-    elif name == "links_nr":
-        fields["links_nr"] = rng.choice([1, 2**32, U64])
+    elif name == "link_count":
+        fields["link_count"] = rng.choice([1, 2**32, U64])
     elif name == "block_len":
         near = len(data_block(fields))
         fields["block_len"] = rng.choice([near - 1, near + 1, near + 2**32] + edge_lengths(rng, chain, place))
@@ -1209,7 +1218,7 @@ def chain_query(rng, file, start, joined_size, record_size=None, number=None):
     id_size = rng.choice([0, 0, 0, 1, 2, rng.choice(ID_SIZES), U64])
     channel = random_channel(rng, min(record_size, 40), id_size)
     data_bytes = rng.choice([0, 1, min(record_size, U32), edge_number(rng, U32)])
-    return "record_value", (file, start, number, record_size, id_size, data_bytes, channel, buffer)
+    return "record_value", (file, start, number, record_size, Group(id_size, data_bytes), channel, buffer)
 
 
 def random_chain_case(rng):
@@ -1285,8 +1294,8 @@ def last_bytes_boundaries(rng):
         for length in range(len(file) - 26, len(file) + 1):
             yield "read_record", (file[:length], start, 0, 2, bytes(2))
             yield "read_record", ((file + bytes(3))[:length + 2], start, 1, 2, bytes(2))
-    for links_nr, cut in itertools.product((0, 1, 2, 2**61, U64), (0, 1)):
-        header = list_block(list_fields(0, [], 0, []))[:16] + links_nr.to_bytes(8, "little")
+    for link_count, cut in itertools.product((0, 1, 2, 2**61, U64), (0, 1)):
+        header = list_block(list_fields(0, [], 0, []))[:16] + link_count.to_bytes(8, "little")
         file = rng.randbytes(30) + header
         yield "read_record", (file[:len(file) - cut], 30, 0, 1, bytes(1))
 
@@ -1299,7 +1308,7 @@ def long_file_boundaries(rng):
                 for size, room in ((1, 1), (0, 1), (16384, 16384), (16385, 16385), (2, 1)):
                     yield "read_record", (LongFile(length), start, 0, size, out_buffer(rng, room))
                 channel = Channel(0, 0, 0, 0, 8)
-                yield "record_value", (LongFile(length), start, 0, 1, 0, 0, channel, out_buffer(rng, 1))
+                yield "record_value", (LongFile(length), start, 0, 1, Group(), channel, out_buffer(rng, 1))
 
 
 def loop_boundaries(rng):
@@ -1338,7 +1347,7 @@ def list_limit_boundaries(rng):
             for bad_next in (1, 7, U64, chain.end + 100):  # the 257th list is refused before its address is looked at
                 chain.lists[255]["next"] = bad_next
                 yield first_record(chain)
-            chain.lists[255].update(next=0, links_nr=0)
+            chain.lists[255].update(next=0, link_count=0)
             yield first_record(chain)
         if lists == 257 and is_equal:  # a list that does not fit the first, behind the limit and as the last before it
             for index in (256, 255):
@@ -1433,7 +1442,7 @@ def breaches(rng):
 
 def breach_boundaries(rng):
     """Each breach alone, and beside another fault in its list or in the one before."""
-    for fault in (None, "data", "id", "links_nr", "count", "block_len", "next", "links"):
+    for fault in (None, "data", "id", "link_count", "count", "block_len", "next", "links"):
         for chain, index in breaches(rng):
             at = rng.choice([index, max(0, index - 1)])
             if fault == "data" and chain.plan[at]:
@@ -1451,8 +1460,8 @@ def large_record_boundaries(rng):
                                    (0, 16383, 16390)):
             yield "read_record", (file, chain.start, number, size, bytes(room))
         channel = Channel(0, 0, 4, 16384 - 9, 64, 2, 131071)
-        yield "record_value", (file, chain.start, 0, 16384, 0, 0, channel, bytes(16384))
-        yield "record_value", (file, chain.start, 0, 16384, 1, 0, channel, bytes(16384))
+        yield "record_value", (file, chain.start, 0, 16384, Group(), channel, bytes(16384))
+        yield "record_value", (file, chain.start, 0, 16384, Group(1), channel, bytes(16384))
 
 
 def record_value_boundaries(rng):
@@ -1462,10 +1471,10 @@ def record_value_boundaries(rng):
     for data_type, byte_offset, bit_count in itertools.product(TYPE_CODES, (0, 1, 2, 3, 4, 5, 6), (0, 7, 8, 16, 32, 65)):
         channel = Channel(data_type, 0, 0, byte_offset, bit_count, rng.choice([0, 1, 2, 2, 3]), rng.randint(0, 40))
         number, room = rng.choice([(0, 5), (1, 5), (1, 9), (2, 5), (0, 4)])
-        id_size, data_bytes = rng.choice([0, 1]), rng.choice([2, 3])
-        yield "record_value", (file, chain.start, number, 5, id_size, data_bytes, channel, b"\xee" * room)
+        group = Group(rng.choice([0, 1]), rng.choice([2, 3]))
+        yield "record_value", (file, chain.start, number, 5, group, channel, b"\xee" * room)
         if byte_offset == 0:
-            yield "record_value", (file, chain.start, number, 5, 1, 2, as_payload(rng, channel), b"\xee" * room)
+            yield "record_value", (file, chain.start, number, 5, Group(1, 2), as_payload(rng, channel), b"\xee" * room)
 
 
 def record_refusal_boundaries(rng):
@@ -1477,9 +1486,9 @@ def record_refusal_boundaries(rng):
         for number, id_size in itertools.product((0, 1), (0, 1, rng.choice(HUGE_ID_SIZES))):
             channel = Channel(data_type, 0, bit_offset, rng.choice([0, 0, 1, 5, U32]), bit_count, rng.choice([0, 1, 2]))
             buffer = out_buffer(rng, rng.choice([5, 9]))
-            yield "record_value", (file, chain.start, number, 5, id_size, 4, channel, buffer)
+            yield "record_value", (file, chain.start, number, 5, Group(id_size, 4), channel, buffer)
             if id_size == 0:
-                yield "record_value", (file, chain.start, number, 5, id_size, 4, as_payload(rng, channel), buffer)
+                yield "record_value", (file, chain.start, number, 5, Group(id_size, 4), as_payload(rng, channel), buffer)
 
 
 # ---- files with payloads -----------------------------------------------------------------------------------------------
@@ -1547,7 +1556,7 @@ class PayloadCall:
         self.lay_out(records + rng.randbytes(rng.choice([0, 0, 1, 7])), cut)
         self.long_file = None
         self.start = self.records.start
-        self.channel = Channel(data_type, 1, 0, before, 64, data=self.payloads.start)
+        self.channel = Channel(data_type, 1, 0, before, 64, data_addr=self.payloads.start)
         self.record = self.filled(self.record_size + rng.choice([0, 0, 9]))
         self.ask(0, rng.choice([0, 0, 1, 9]))
 
@@ -1575,8 +1584,8 @@ class PayloadCall:
         return self.long_file or file_of(sorted((self.records, self.payloads), key=lambda chain: chain.end))
 
     def case(self):
-        return "record_payload", (self.file(), self.start, self.number, self.record_size, self.id_size, self.data_bytes,
-                                  self.channel, self.record, self.payload)
+        return "record_payload", (self.file(), self.start, self.number, self.record_size,
+                                  Group(self.id_size, self.data_bytes), self.channel, self.record, self.payload)
 
 
 def payload_cut_boundaries(rng):
@@ -1662,13 +1671,13 @@ def payload_link_boundaries(rng):
         call = PayloadCall(rng, *stream_of([rng.randbytes(4), rng.randbytes(9)]))
         places = {*call.records.places, *call.payloads.places}
         addresses = sorted(places | {place + 1 for place in places} | set(edge_addresses(rng, call.payloads)))
-        start, link = call.start, call.channel.data
+        start, link = call.start, call.channel.data_addr
         for address in addresses:
-            call.start, call.channel = start, call.channel._replace(data=address)
+            call.start, call.channel = start, call.channel._replace(data_addr=address)
             yield call.case()
-            call.start, call.channel = address, call.channel._replace(data=link)
+            call.start, call.channel = address, call.channel._replace(data_addr=link)
             yield call.case()
-        call.start, call.channel = link, call.channel._replace(data=start)
+        call.start, call.channel = link, call.channel._replace(data_addr=start)
         yield call.case()
 
 
@@ -1700,7 +1709,7 @@ SHORT_RECORD, OUTSIDE_RECORDS = 1, (2, 3, 4)
 
 def other_channel(rng, call):
     """Not of variable length, or its field no eight whole bytes."""
-    field, numbers = rng.choice([("channel_type", (0, 2, 255)), ("data", (0,)), ("bit_offset", (1, 7, 8, 255)),
+    field, numbers = rng.choice([("channel_type", (0, 2, 255)), ("data_addr", (0,)), ("bit_offset", (1, 7, 8, 255)),
                                  ("bit_count", (0, 1, 32, 63, 65, 128, 64 + 2**8, 64 + 2**16, U32))])
     call.channel = call.channel._replace(**{field: rng.choice(numbers)})
 
@@ -1720,10 +1729,10 @@ def broken_chain(rng, chain):
     fields = rng.choice([fields for fields in chain.lists if fields["links"]])
     data, last = rng.choice(chain.datas), chain.lists[-1]
     struck, damage = rng.choice([
-        (fields, {"id": rng.choice([DATA_ID, SIGNAL_ID])}), (fields, {"links_nr": rng.choice([0, 2**61, U64])}),
+        (fields, {"id": rng.choice([DATA_ID, SIGNAL_ID])}), (fields, {"link_count": rng.choice([0, 2**61, U64])}),
         (fields, {"count": fields["count"] - 1}), (fields, {"block_len": 47}),
         (fields, {"links": [0, *fields["links"][1:]]}), (last, {"next": U64}),
-        (data, {"id": DATA_ID if data["id"] == SIGNAL_ID else SIGNAL_ID}), (data, {"links_nr": 1}),
+        (data, {"id": DATA_ID if data["id"] == SIGNAL_ID else SIGNAL_ID}), (data, {"link_count": 1}),
         (data, {"block_len": rng.choice([0, 23, 2**63, U64])})])
     struck.update(damage)
 
@@ -1802,11 +1811,11 @@ def with_record_behind(file):
 
 def as_either_chain(file, start, number, record_size, buffer):
     """A chain that was asked for a record, as the first chain of a call for a payload, and as the second one."""
-    channel = Channel(10, 1, bit_count=64, data=start or 1)  # 0 would be no link
-    yield "record_payload", (file, start, number, record_size, 0, 0, channel, buffer, bytes(4))
+    channel = Channel(10, 1, bit_count=64, data_addr=start or 1)  # 0 would be no link
+    yield "record_payload", (file, start, number, record_size, Group(), channel, buffer, bytes(4))
     if not isinstance(file, LongFile):
         both, records = with_record_behind(with_kinds_swapped(file))
-        yield "record_payload", (both, records, 0, 8, 0, 0, channel, b"\xa5" * 8, bytes(4))
+        yield "record_payload", (both, records, 0, 8, Group(), channel, b"\xa5" * 8, bytes(4))
 
 
 def asked_by_every_call(chain_cases):
@@ -1817,7 +1826,7 @@ def asked_by_every_call(chain_cases):
         if call == "read_record" and arguments[:2] != asked:
             asked = arguments[:2]
             yield "data_length", asked
-            yield "record_value", (*arguments[:4], 0, 0, Channel(bit_count=8), arguments[4])
+            yield "record_value", (*arguments[:4], Group(), Channel(bit_count=8), arguments[4])
             yield from as_either_chain(*arguments)
 
 
@@ -1843,14 +1852,15 @@ def random_payload_case(rng):
     for _ in range(rng.choice([0, 0, 0, 0, 1, 1, 2])):
         rng.choice([damage_list, damage_data])(rng, rng.choice([call.records, call.payloads, call.payloads]))
     if rng.random() < 0.1:
-        call.channel = call.channel._replace(data=rng.choice(edge_addresses(rng, call.payloads)))
+        call.channel = call.channel._replace(data_addr=rng.choice(edge_addresses(rng, call.payloads)))
     name, (file, *arguments) = call.case()
     return name, (damaged_file(rng, file) if rng.random() < 0.1 else file, *arguments)
 
 
 # ---- all of them -------------------------------------------------------------------------------------------------------
 
-BOUNDARIES = (header_boundaries, type_boundaries, list_read_boundaries, list_id_and_link_boundaries, list_write_boundaries,
+BOUNDARIES = (version_boundaries,
+              header_boundaries, type_boundaries, list_read_boundaries, list_id_and_link_boundaries, list_write_boundaries,
               channel_read_boundaries, channel_id_and_link_boundaries, channel_type_boundaries, channel_limit_boundaries,
               channel_write_boundaries, field_boundaries, type_field_boundaries, place_boundaries, refusal_boundaries,
               payload_boundaries, text_field_boundaries, validity_boundaries, number_boundaries, text_boundaries,

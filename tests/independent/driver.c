@@ -248,13 +248,13 @@ static slice *next_numbers(void)
 static const uint64_t *numbers_of(const slice *numbers) { return (const uint64_t *)(const void *)numbers->bytes; }
 static size_t count_of_numbers(const slice *numbers) { return numbers->length / sizeof(uint64_t); }
 
-static mf4_block_header next_header(void)
+static mf4_header next_header(void)
 {
-    mf4_block_header header;
+    mf4_header header;
     header.id = next_u32();
     header.reserved0 = next_u32();
     header.block_len = next_u64();
-    header.links_nr = next_u64();
+    header.link_count = next_u64();
     return header;
 }
 
@@ -268,8 +268,16 @@ static mf4_channel next_channel(void)
     channel.bit_count = next_u32();
     channel.flags = next_u32();
     channel.pos_invalidation_bit = next_u32();
-    channel.data = next_u64();
+    channel.data_addr = next_u64();
     return channel;
+}
+
+static mf4_group next_group(void)
+{
+    mf4_group group;
+    group.record_id_size = next_u64();
+    group.data_bytes = next_u32();
+    return group;
 }
 
 static mf4_number next_number_given(void)
@@ -301,7 +309,7 @@ static mf4_channel channel_of_row(const char **word)
     channel.bit_count = (uint32_t)next_of_row(word, UINT32_MAX);
     channel.flags = (uint32_t)next_of_row(word, UINT32_MAX);
     channel.pos_invalidation_bit = (uint32_t)next_of_row(word, UINT32_MAX);
-    channel.data = next_of_row(word, UINT64_MAX);
+    channel.data_addr = next_of_row(word, UINT64_MAX);
     return channel;
 }
 
@@ -341,12 +349,12 @@ static mf4_channel_block next_channel_block(void)
     block.unit_addr = next_u64();
     block.comment_addr = next_u64();
     block.more_links_at = next_u64();
-    block.more_links = next_u64();
+    block.more_link_count = next_u64();
     block.channel = next_channel();
     block.sync_type = next_u8();
     block.precision = next_u8();
     block.reserved1 = next_u8();
-    block.attachment_nr = next_u16();
+    block.attachment_count = next_u16();
     block.min_raw_value = next_u64();
     block.max_raw_value = next_u64();
     block.lower_limit = next_u64();
@@ -372,12 +380,12 @@ static void print_reply(uint32_t reply, uint64_t told)
     print_number("told", told);
 }
 
-static void print_header(mf4_block_header header)
+static void print_header(mf4_header header)
 {
     print_number("id", header.id);
     print_number("reserved0", header.reserved0);
     print_number("block_len", header.block_len);
-    print_number("links_nr", header.links_nr);
+    print_number("link_count", header.link_count);
 }
 
 static void print_channel(mf4_channel channel)
@@ -389,7 +397,7 @@ static void print_channel(mf4_channel channel)
     print_number("bit_count", channel.bit_count);
     print_number("flags", channel.flags);
     print_number("pos_invalidation_bit", channel.pos_invalidation_bit);
-    print_number("data", channel.data);
+    print_number("data_addr", channel.data_addr);
 }
 
 static void print_channel_block(mf4_channel_block block)
@@ -403,12 +411,12 @@ static void print_channel_block(mf4_channel_block block)
     print_number("unit_addr", block.unit_addr);
     print_number("comment_addr", block.comment_addr);
     print_number("more_links_at", block.more_links_at);
-    print_number("more_links", block.more_links);
+    print_number("more_link_count", block.more_link_count);
     print_channel(block.channel);
     print_number("sync_type", block.sync_type);
     print_number("precision", block.precision);
     print_number("reserved1", block.reserved1);
-    print_number("attachment_nr", block.attachment_nr);
+    print_number("attachment_count", block.attachment_count);
     print_number("min_raw_value", block.min_raw_value);
     print_number("max_raw_value", block.max_raw_value);
     print_number("lower_limit", block.lower_limit);
@@ -428,39 +436,45 @@ static void print_out(const slice *out)
     }
 }
 
-static void print_written(mf4_written written, const slice *out)
+static void print_written(mf4_written_reply written, const slice *out)
 {
     print_reply(written.reply, written.told);
     print_number("count", written.count);
     print_out(out);
 }
 
-static void print_value(mf4_value answer)
+static void print_content(uint64_t number, uint64_t at, uint64_t length)
 {
-    print_number("reply", answer.reply);
+    print_number("number", number);
+    print_number("at", at);
+    print_number("length", length);
+}
+
+static void print_value(mf4_value_reply answer)
+{
+    print_reply(answer.reply, answer.told);
     print_number("kind", answer.kind);
-    print_number("told", answer.told);
-    print_number("number", answer.number);
-    print_number("at", answer.at);
-    print_number("length", answer.length);
+    print_content(answer.number, answer.at, answer.length);
 }
 
-static void print_valid_value(mf4_valid_value answer)
+static void print_valid_value(mf4_valid_value_reply answer)
 {
-    mf4_value value = { answer.reply, answer.kind, answer.told, answer.number, answer.at, answer.length };
-    print_value(value);
+    print_reply(answer.reply, answer.told);
+    print_number("kind", answer.kind);
     print_number("is_valid", answer.is_valid);
+    print_content(answer.number, answer.at, answer.length);
 }
 
-static void print_payload(mf4_payload answer)
+static void print_payload(mf4_payload_reply answer)
 {
-    mf4_value value = { answer.reply, answer.kind, answer.told, answer.number, answer.at, answer.length };
-    print_value(value);
+    print_reply(answer.reply, answer.told);
+    print_number("kind", answer.kind);
+    print_number("is_valid", answer.is_valid);
+    print_content(answer.number, answer.at, answer.length);
     print_number("payload_length", answer.payload_length);
-    print_number("is_valid", answer.is_valid);
 }
 
-static void print_text(mf4_text answer, const slice *out)
+static void print_text(mf4_text_reply answer, const slice *out)
 {
     print_reply(answer.reply, answer.told);
     print_number("count", answer.count);
@@ -470,10 +484,15 @@ static void print_text(mf4_text answer, const slice *out)
 
 /* ---- the calls -------------------------------------------------------------------------------------------------- */
 
+static void version(void)
+{
+    print_number("answer", mf4_version());
+}
+
 static void read_header(void)
 {
     slice *bytes = next_input();
-    mf4_header answer;
+    mf4_header_reply answer;
     if (is_malformed)
         return;
     answer = mf4_read_header(bytes->bytes, bytes->length);
@@ -483,7 +502,7 @@ static void read_header(void)
 
 static void write_header(void)
 {
-    mf4_block_header header = next_header();
+    mf4_header header = next_header();
     slice *out = next_output();
     if (is_malformed)
         return;
@@ -509,43 +528,44 @@ static void default_bits(void)
 static void read_list(void)
 {
     slice *bytes = next_input();
-    mf4_list answer;
+    mf4_list_reply answer;
     if (is_malformed)
         return;
     answer = mf4_read_list(bytes->bytes, bytes->length);
     print_reply(answer.reply, answer.told);
     print_header(answer.header);
-    print_number("next", answer.next);
-    print_number("links_at", answer.links_at);
-    print_number("links", answer.links);
+    print_number("next_addr", answer.next_addr);
+    print_number("data_links_at", answer.data_links_at);
+    print_number("data_link_count", answer.data_link_count);
     print_number("flags", answer.flags);
     print_number("reserved1", answer.reserved1);
-    print_number("data_block_nr", answer.data_block_nr);
+    print_number("data_block_count", answer.data_block_count);
     print_number("rest_at", answer.rest_at);
-    print_number("rest", answer.rest);
+    print_number("rest_count", answer.rest_count);
 }
 
 static void write_list_equal(void)
 {
-    uint64_t next = next_u64();
+    uint64_t next_addr = next_u64();
     slice *links = next_numbers();
     uint64_t length = next_u64();
     slice *out = next_output();
     if (is_malformed)
         return;
-    print_written(mf4_write_list_equal(next, numbers_of(links), count_of_numbers(links), length, out->bytes, out->length),
+    print_written(mf4_write_list_equal(next_addr, numbers_of(links), count_of_numbers(links), length, out->bytes,
+                                       out->length),
                   out);
 }
 
 static void write_list_variable(void)
 {
-    uint64_t next = next_u64();
+    uint64_t next_addr = next_u64();
     slice *links = next_numbers();
     slice *offsets = next_numbers();
     slice *out = next_output();
     if (is_malformed)
         return;
-    print_written(mf4_write_list_variable(next, numbers_of(links), count_of_numbers(links), numbers_of(offsets),
+    print_written(mf4_write_list_variable(next_addr, numbers_of(links), count_of_numbers(links), numbers_of(offsets),
                                           count_of_numbers(offsets), out->bytes, out->length),
                   out);
 }
@@ -583,33 +603,41 @@ static void decode_value(void)
 static void check_validity(void)
 {
     slice *record = next_input();
-    uint64_t record_id_size = next_u64();
-    uint32_t data_bytes = next_u32();
+    mf4_group group = next_group();
     mf4_channel channel = next_channel();
     if (is_malformed)
         return;
-    print_number("answer", mf4_check_validity(record->bytes, record->length, record_id_size, data_bytes, channel));
+    print_number("answer", mf4_check_validity(record->bytes, record->length, group, channel));
 }
 
 static void decode_valid_value(void)
 {
     slice *record = next_input();
-    uint64_t record_id_size = next_u64();
-    uint32_t data_bytes = next_u32();
+    mf4_group group = next_group();
     mf4_channel channel = next_channel();
     if (is_malformed)
         return;
-    print_valid_value(mf4_decode_valid_value(record->bytes, record->length, record_id_size, data_bytes, channel));
+    print_valid_value(mf4_decode_valid_value(record->bytes, record->length, group, channel));
 }
 
-static void decode_double(void)
+static void decode_double_bits(void)
 {
     slice *record = next_input();
     uint64_t record_id_size = next_u64();
     mf4_channel channel = next_channel();
     if (is_malformed)
         return;
-    print_number("answer", mf4_decode_double(record->bytes, record->length, record_id_size, channel));
+    print_number("answer", mf4_decode_double_bits(record->bytes, record->length, record_id_size, channel));
+}
+
+static void decode_valid_double(void)
+{
+    slice *record = next_input();
+    mf4_group group = next_group();
+    mf4_channel channel = next_channel();
+    if (is_malformed)
+        return;
+    print_number("answer", mf4_double(mf4_decode_valid_double(record->bytes, record->length, group, channel)).number);
 }
 
 static void write_value(void)
@@ -618,7 +646,7 @@ static void write_value(void)
     mf4_channel channel = next_channel();
     mf4_number value = next_number_given();
     slice *record = next_output();
-    mf4_stored answer;
+    mf4_done_reply answer;
     if (is_malformed)
         return;
     answer = mf4_write_value(record_id_size, channel, value, record->bytes, record->length);
@@ -630,7 +658,7 @@ static void first_overlap(void)
 {
     slice *list = next_channels();
     const mf4_channel *channels = (const mf4_channel *)(const void *)list->bytes;
-    mf4_overlap answer;
+    mf4_overlap_reply answer;
     if (is_malformed)
         return;
     answer = mf4_first_overlap(channels, list->length / sizeof(mf4_channel));
@@ -640,7 +668,7 @@ static void first_overlap(void)
     print_number("second", answer.second);
 }
 
-static void text(mf4_text (*call)(const uint8_t *, size_t, uint8_t *, size_t))
+static void text(mf4_text_reply (*call)(const uint8_t *, size_t, uint8_t *, size_t))
 {
     slice *bytes = next_input();
     slice *out = next_output();
@@ -676,7 +704,7 @@ static void data_length(void)
 {
     slice *file = next_input();
     uint64_t start = next_u64();
-    mf4_length answer;
+    mf4_length_reply answer;
     if (is_malformed)
         return;
     answer = mf4_data_length(file->bytes, file->length, start);
@@ -691,7 +719,7 @@ static void read_record(void)
     uint64_t number = next_u64();
     uint64_t record_size = next_u64();
     slice *buffer = next_output();
-    mf4_fetched answer;
+    mf4_done_reply answer;
     if (is_malformed)
         return;
     answer = mf4_read_record(file->bytes, file->length, start, number, record_size, buffer->bytes, buffer->length);
@@ -705,14 +733,13 @@ static void record_value(void)
     uint64_t start = next_u64();
     uint64_t number = next_u64();
     uint64_t record_size = next_u64();
-    uint64_t record_id_size = next_u64();
-    uint32_t data_bytes = next_u32();
+    mf4_group group = next_group();
     mf4_channel channel = next_channel();
     slice *buffer = next_output();
     if (is_malformed)
         return;
-    print_valid_value(mf4_record_value(file->bytes, file->length, start, number, record_size, record_id_size, data_bytes,
-                                       channel, buffer->bytes, buffer->length));
+    print_valid_value(mf4_record_value(file->bytes, file->length, start, number, record_size, group, channel, buffer->bytes,
+                                       buffer->length));
     print_out(buffer);
 }
 
@@ -722,15 +749,14 @@ static void record_payload(void)
     uint64_t start = next_u64();
     uint64_t number = next_u64();
     uint64_t record_size = next_u64();
-    uint64_t record_id_size = next_u64();
-    uint32_t data_bytes = next_u32();
+    mf4_group group = next_group();
     mf4_channel channel = next_channel();
     slice *record = next_output();
     slice *payload = next_output();
     if (is_malformed)
         return;
-    print_payload(mf4_record_payload(file->bytes, file->length, start, number, record_size, record_id_size, data_bytes,
-                                     channel, record->bytes, record->length, payload->bytes, payload->length));
+    print_payload(mf4_record_payload(file->bytes, file->length, start, number, record_size, group, channel, record->bytes,
+                                     record->length, payload->bytes, payload->length));
     print_out(record);
     print_out(payload);
 }
@@ -739,6 +765,7 @@ static const struct {
     const char *name;
     void (*answer)(void);
 } calls[] = {
+    {"version", version},
     {"read_header", read_header},
     {"write_header", write_header},
     {"type_code", type_code},
@@ -751,7 +778,8 @@ static const struct {
     {"decode_value", decode_value},
     {"check_validity", check_validity},
     {"decode_valid_value", decode_valid_value},
-    {"decode_double", decode_double},
+    {"decode_double_bits", decode_double_bits},
+    {"decode_valid_double", decode_valid_double},
     {"write_value", write_value},
     {"first_overlap", first_overlap},
     {"text_latin1", text_latin1},

@@ -7,8 +7,8 @@ A case is a call's name and its arguments in the order of reference.py. As words
                 an empty slice is "x", or "-" for a NULL pointer with the count 0
     long file   z and a length: a file of that length, of which no byte may be looked at
     numbers     u and decimals with commas between:  u1,2,3   (empty: "u", or "-" for NULL)
-    header      4 numbers, channel: 8 numbers, number to be written: 2 numbers, channel block: 31 numbers, in the order of
-                their C structs
+    header      4 numbers, channel: 8 numbers, group: 2 numbers, number to be written: 2 numbers, channel block: 31
+                numbers, in the order of their C structs
     channels    c and the numbers of each channel, with commas between; channels with "/" between  (empty: "c", or "-")
 
 A result is the fields of the C struct as name=number words in the order of mf4.h, a plain answer as answer=number, and
@@ -16,7 +16,7 @@ each output buffer afterwards, in turn, as out=x and hex digits.
 """
 
 import reference
-from reference import Channel, ChannelBlock, Header, Number
+from reference import Channel, ChannelBlock, Group, Header, Number
 
 SHORTEST_REPEAT = 16
 
@@ -37,13 +37,14 @@ class LongFile:
 NUMBER, BYTES, NUMBERS, CHANNELS = "number", "bytes", "numbers", "channels"
 
 # The form of a struct is an empty one, whose fields tell how many numbers it takes.
-HEADER, CHANNEL, CHANNEL_BLOCK, NUMBER_GIVEN = Header(), Channel(), ChannelBlock(), Number()
+HEADER, CHANNEL, GROUP, CHANNEL_BLOCK, NUMBER_GIVEN = Header(), Channel(), Group(), ChannelBlock(), Number()
 
 ON_RECORD = (BYTES, NUMBER, CHANNEL)
-ON_RECORD_WITH_VALIDITY = (BYTES, NUMBER, NUMBER, CHANNEL)
+ON_RECORD_WITH_VALIDITY = (BYTES, GROUP, CHANNEL)
 ON_TEXT = (BYTES, BYTES)
 
 CALLS = {
+    "version": (reference.version, ()),
     "read_header": (reference.read_header, (BYTES,)),
     "write_header": (reference.write_header, (HEADER, BYTES)),
     "type_code": (reference.type_code, (NUMBER,)),
@@ -56,7 +57,8 @@ CALLS = {
     "decode_value": (reference.decode_value, ON_RECORD),
     "check_validity": (reference.check_validity, ON_RECORD_WITH_VALIDITY),
     "decode_valid_value": (reference.decode_valid_value, ON_RECORD_WITH_VALIDITY),
-    "decode_double": (reference.decode_double, ON_RECORD),
+    "decode_double_bits": (reference.decode_double_bits, ON_RECORD),
+    "decode_valid_double": (reference.decode_valid_double, ON_RECORD_WITH_VALIDITY),
     "write_value": (reference.write_value, (NUMBER, CHANNEL, NUMBER_GIVEN, BYTES)),
     "first_overlap": (reference.first_overlap, (CHANNELS,)),
     "text_latin1": (reference.text_latin1, ON_TEXT),
@@ -67,10 +69,8 @@ CALLS = {
     "text_room": (reference.text_room, (NUMBER,)),
     "data_length": (reference.data_length, (BYTES, NUMBER)),
     "read_record": (reference.read_record, (BYTES, NUMBER, NUMBER, NUMBER, BYTES)),
-    "record_value": (reference.record_value,
-                     (BYTES, NUMBER, NUMBER, NUMBER, NUMBER, NUMBER, CHANNEL, BYTES)),
-    "record_payload": (reference.record_payload,
-                       (BYTES, NUMBER, NUMBER, NUMBER, NUMBER, NUMBER, CHANNEL, BYTES, BYTES)),
+    "record_value": (reference.record_value, (BYTES, NUMBER, NUMBER, NUMBER, GROUP, CHANNEL, BYTES)),
+    "record_payload": (reference.record_payload, (BYTES, NUMBER, NUMBER, NUMBER, GROUP, CHANNEL, BYTES, BYTES)),
 }
 
 # ---- cases -------------------------------------------------------------------------------------------------------------

@@ -80,7 +80,7 @@ class Header(NamedTuple):
     id: int = 0
     reserved0: int = 0
     block_len: int = 0
-    links_nr: int = 0
+    link_count: int = 0
 
 
 class HeaderReply(NamedTuple):
@@ -95,18 +95,24 @@ class Written(NamedTuple):
     count: int = 0
 
 
+class Done(NamedTuple):
+    """Of a call that answers nothing else."""
+    reply: int = ANSWER
+    told: int = 0
+
+
 class ListReply(NamedTuple):
     reply: int = ANSWER
     told: int = 0
     header: Header = Header()
-    next: int = 0
-    links_at: int = 0
-    links: int = 0
+    next_addr: int = 0
+    data_links_at: int = 0
+    data_link_count: int = 0
     flags: int = 0
     reserved1: int = 0
-    data_block_nr: int = 0
+    data_block_count: int = 0
     rest_at: int = 0
-    rest: int = 0
+    rest_count: int = 0
 
 
 class Channel(NamedTuple):
@@ -117,7 +123,12 @@ class Channel(NamedTuple):
     bit_count: int = 0
     flags: int = 0
     pos_invalidation_bit: int = 0
-    data: int = 0
+    data_addr: int = 0
+
+
+class Group(NamedTuple):
+    record_id_size: int = 0
+    data_bytes: int = 0
 
 
 class ChannelBlock(NamedTuple):
@@ -131,12 +142,12 @@ class ChannelBlock(NamedTuple):
     unit_addr: int = 0
     comment_addr: int = 0
     more_links_at: int = 0
-    more_links: int = 0
+    more_link_count: int = 0
     channel: Channel = Channel()
     sync_type: int = 0
     precision: int = 0
     reserved1: int = 0
-    attachment_nr: int = 0
+    attachment_count: int = 0
     min_raw_value: int = 0
     max_raw_value: int = 0
     lower_limit: int = 0
@@ -154,8 +165,8 @@ class ChannelReply(NamedTuple):
 class Value(NamedTuple):
     """number: an unsigned integer, the two's complement of a signed one, or a double's bits."""
     reply: int = ANSWER
-    kind: int = 0
     told: int = 0
+    kind: int = 0
     number: int = 0
     at: int = 0
     length: int = 0
@@ -163,23 +174,18 @@ class Value(NamedTuple):
 
 class ValidValue(NamedTuple):
     reply: int = ANSWER
-    kind: int = 0
     told: int = 0
+    kind: int = 0
+    is_valid: int = 0
     number: int = 0
     at: int = 0
     length: int = 0
-    is_valid: int = 0
 
 
 class Number(NamedTuple):
     """What is to be written, as Value has it."""
     kind: int = 0
     number: int = 0
-
-
-class Stored(NamedTuple):
-    reply: int = ANSWER
-    told: int = 0
 
 
 class Overlap(NamedTuple):
@@ -193,13 +199,13 @@ class Overlap(NamedTuple):
 class Payload(NamedTuple):
     """at: a place in the payload's own buffer."""
     reply: int = ANSWER
-    kind: int = 0
     told: int = 0
+    kind: int = 0
+    is_valid: int = 0
     number: int = 0
     at: int = 0
     length: int = 0
     payload_length: int = 0
-    is_valid: int = 0
 
 
 class Text(NamedTuple):
@@ -215,9 +221,13 @@ class Length(NamedTuple):
     length: int = 0
 
 
-class Fetched(NamedTuple):
-    reply: int = ANSWER
-    told: int = 0
+# ---- the version -------------------------------------------------------------------------------------------------------
+
+MAJOR, MINOR, PATCH = 0, 4, 0
+
+
+def version():
+    return MAJOR * 10000 + MINOR * 100 + PATCH
 
 
 # ---- bytes -------------------------------------------------------------------------------------------------------------
@@ -247,7 +257,7 @@ def header_of(block):
 
 def header_bytes(header):
     return (little_bytes(header.id, 4) + little_bytes(header.reserved0, 4)
-            + little_bytes(header.block_len, 8) + little_bytes(header.links_nr, 8))
+            + little_bytes(header.block_len, 8) + little_bytes(header.link_count, 8))
 
 
 def read_header(block):
@@ -298,24 +308,24 @@ def default_bits(code):
 def list_of(block):
     header = header_of(block)
     refuse_if(little_bytes(header.id, 4) != LIST_ID, OTHER_ID)
-    refuse_if(header.links_nr == 0, NO_LINKS)
-    after_links = HEADER_SIZE + 8 * header.links_nr
+    refuse_if(header.link_count == 0, NO_LINKS)
+    after_links = HEADER_SIZE + 8 * header.link_count
     rest_at = after_links + 8
     refuse_if(len(block) < rest_at, TOO_FEW_BYTES, rest_at)
     flags = block[after_links]
-    data_block_nr = little(block, after_links + 4, 4)
-    rest = 1 if flags & 1 else data_block_nr
-    refuse_if(len(block) < rest_at + 8 * rest, TOO_FEW_BYTES, rest_at + 8 * rest)
+    data_block_count = little(block, after_links + 4, 4)
+    rest_count = 1 if flags & 1 else data_block_count
+    refuse_if(len(block) < rest_at + 8 * rest_count, TOO_FEW_BYTES, rest_at + 8 * rest_count)
     return ListReply(
         header=header,
-        next=little(block, HEADER_SIZE, 8),
-        links_at=HEADER_SIZE + 8,
-        links=header.links_nr - 1,  # the first link of the block is the next list
+        next_addr=little(block, HEADER_SIZE, 8),
+        data_links_at=HEADER_SIZE + 8,
+        data_link_count=header.link_count - 1,  # the first link of the block is the next list
         flags=flags,
         reserved1=little(block, after_links + 1, 3),
-        data_block_nr=data_block_nr,
+        data_block_count=data_block_count,
         rest_at=rest_at,
-        rest=rest)
+        rest_count=rest_count)
 
 
 def read_list(block):
@@ -355,11 +365,12 @@ def write_list_variable(next_list, links, offsets, out):
 
 # What stands behind the header, and behind the last link, in turn: the name in the C struct and the bytes.
 CHANNEL_LINKS = tuple((name, 8) for name in (
-    "next_ch_addr", "component_addr", "name_addr", "source_addr", "conversion_addr", "data", "unit_addr", "comment_addr"))
+    "next_ch_addr", "component_addr", "name_addr", "source_addr", "conversion_addr", "data_addr", "unit_addr",
+    "comment_addr"))
 CHANNEL_FIELDS = (
     ("channel_type", 1), ("sync_type", 1), ("data_type", 1), ("bit_offset", 1),
     ("byte_offset", 4), ("bit_count", 4), ("flags", 4), ("pos_invalidation_bit", 4),
-    ("precision", 1), ("reserved1", 1), ("attachment_nr", 2),
+    ("precision", 1), ("reserved1", 1), ("attachment_count", 2),
     ("min_raw_value", 8), ("max_raw_value", 8), ("lower_limit", 8), ("upper_limit", 8),
     ("lower_ext_limit", 8), ("upper_ext_limit", 8))
 
@@ -384,8 +395,8 @@ def row_bytes(numbers, row):
 def channel_block_of(block):
     header = header_of(block)
     refuse_if(little_bytes(header.id, 4) != CHANNEL_ID, OTHER_ID)
-    refuse_if(header.links_nr < len(CHANNEL_LINKS), TOO_FEW_LINKS)
-    fields_at = HEADER_SIZE + 8 * header.links_nr
+    refuse_if(header.link_count < len(CHANNEL_LINKS), TOO_FEW_LINKS)
+    fields_at = HEADER_SIZE + 8 * header.link_count
     size = fields_at + size_of(CHANNEL_FIELDS)
     refuse_if(len(block) < size, TOO_FEW_BYTES, size)
     numbers = row_at(block, HEADER_SIZE, CHANNEL_LINKS) | row_at(block, fields_at, CHANNEL_FIELDS)
@@ -393,7 +404,7 @@ def channel_block_of(block):
     return ChannelBlock(
         header=header,
         more_links_at=HEADER_SIZE + size_of(CHANNEL_LINKS),
-        more_links=header.links_nr - len(CHANNEL_LINKS),
+        more_link_count=header.link_count - len(CHANNEL_LINKS),
         channel=channel,
         **numbers)
 
@@ -407,7 +418,7 @@ def read_channel(block):
 
 def channel_block_bytes(block):
     numbers = block._asdict() | block.channel._asdict()
-    numbers.update(reserved1=0, attachment_nr=0)
+    numbers.update(reserved1=0, attachment_count=0)
     behind_header = row_bytes(numbers, CHANNEL_LINKS) + row_bytes(numbers, CHANNEL_FIELDS)
     size = HEADER_SIZE + len(behind_header)
     return header_bytes(Header(int.from_bytes(CHANNEL_ID, "little"), 0, size, len(CHANNEL_LINKS))) + behind_header
@@ -477,7 +488,7 @@ KIND_OF_PLAIN_BYTES = {BYTE_ARRAY: BYTES_KIND, MIME_SAMPLE: SAMPLE_KIND, MIME_ST
 
 
 def is_variable_length(channel):
-    return channel.channel_type == 1 and channel.data != 0
+    return channel.channel_type == 1 and channel.data_addr != 0
 
 
 def span_of(channel):
@@ -551,24 +562,24 @@ def decode_value(record, id_size, channel):
         return Value(refusal.number, told=refusal.told)
 
 
-def check_validity(record, id_size, data_bytes, channel):
+def check_validity(record, group, channel):
     if channel.flags & 1:
         return 0
     if not channel.flags & 2:
         return 1
-    place = id_size + data_bytes + channel.pos_invalidation_bit // 8
+    place = group.record_id_size + group.data_bytes + channel.pos_invalidation_bit // 8
     if place >= len(record):
         return 1
     return 0 if record[place] >> channel.pos_invalidation_bit % 8 & 1 else 1
 
 
-def decode_valid_value(record, id_size, data_bytes, channel):
-    value = decode_value(record, id_size, channel)
-    is_valid = check_validity(record, id_size, data_bytes, channel) if value.reply == ANSWER else 0
-    return ValidValue(*value, is_valid)
+def decode_valid_value(record, group, channel):
+    value = decode_value(record, group.record_id_size, channel)
+    is_valid = check_validity(record, group, channel) if value.reply == ANSWER else 0
+    return ValidValue(**value._asdict(), is_valid=is_valid)
 
 
-def decode_double(record, id_size, channel):
+def decode_double_bits(record, id_size, channel):
     if is_variable_length(channel):
         return NAN  # even where the payload holds a number
     value = decode_value(record, id_size, channel)
@@ -579,6 +590,11 @@ def decode_double(record, id_size, channel):
     if value.kind == DOUBLE_KIND:
         return value.number
     return NAN
+
+
+def decode_valid_double(record, group, channel):
+    """The bits of what mf4.h's own function gives."""
+    return decode_double_bits(record, group.record_id_size, channel) if check_validity(record, group, channel) else NAN
 
 
 # ---- a number written into a record ------------------------------------------------------------------------------------
@@ -628,9 +644,9 @@ def record_with(record, id_size, channel, field):
 def write_value(id_size, channel, number, record):
     try:
         value_of(record, id_size, channel)  # whatever decoding refuses is refused here
-        return Stored(), record_with(record, id_size, channel, field_given(channel, number))
+        return Done(), record_with(record, id_size, channel, field_given(channel, number))
     except Refusal as refusal:
-        return Stored(refusal.number, refusal.told), record
+        return Done(refusal.number, refusal.told), record
 
 
 # ---- fields that overlap -----------------------------------------------------------------------------------------------
@@ -817,13 +833,13 @@ def chain_list_at(file, address):
     refuse_if(is_no_block_address(file, address), NO_BLOCK_THERE)
     block = file[address:]
     read = list_of(block)
-    fields_take = read.rest_at + 8 * read.rest
-    refuse_if(read.data_block_nr != read.links or read.header.block_len < fields_take, LIST_DISAGREES)
+    fields_take = read.rest_at + 8 * read.rest_count
+    refuse_if(read.data_block_count != read.data_link_count or read.header.block_len < fields_take, LIST_DISAGREES)
     return ChainList(
-        next=read.next,
-        links=numbers_at(block, read.links_at, read.links),
+        next=read.next_addr,
+        links=numbers_at(block, read.data_links_at, read.data_link_count),
         has_one_length=bool(read.flags & 1),  # the other bits play no part
-        declared=numbers_at(block, read.rest_at, read.rest))
+        declared=numbers_at(block, read.rest_at, read.rest_count))
 
 
 def is_last_of_chain(chain_list):
@@ -846,7 +862,7 @@ def fragment_at(file, address, data_id):
     refuse_if(is_no_block_address(file, address), NO_BLOCK_THERE)
     header = header_of(file[address:address + HEADER_SIZE])
     end = address + header.block_len
-    is_sound = (little_bytes(header.id, 4) == data_id and header.links_nr == 0
+    is_sound = (little_bytes(header.id, 4) == data_id and header.link_count == 0
                 and header.block_len >= HEADER_SIZE and end <= len(file))
     refuse_if(not is_sound, BAD_DATA_BLOCK)
     return file[address + HEADER_SIZE:end]
@@ -904,17 +920,17 @@ def record_of(file, start, number, record_size, buffer_size):
 
 def read_record(file, start, number, record_size, buffer):
     try:
-        return Fetched(), placed(record_of(file, start, number, record_size, len(buffer)), buffer)
+        return Done(), placed(record_of(file, start, number, record_size, len(buffer)), buffer)
     except Refusal as refusal:
-        return Fetched(refusal.number, refusal.told), buffer
+        return Done(refusal.number, refusal.told), buffer
 
 
-def record_value(file, start, number, record_size, id_size, data_bytes, channel, buffer):
+def record_value(file, start, number, record_size, group, channel, buffer):
     fetched, after = read_record(file, start, number, record_size, buffer)
     if fetched.reply != ANSWER:
         return ValidValue(fetched.reply, told=fetched.told), after
     # The field is read from the record's bytes alone, and the record stays even if its field is refused.
-    return decode_valid_value(after[:record_size], id_size, data_bytes, channel), after
+    return decode_valid_value(after[:record_size], group, channel), after
 
 
 # ---- from record to payload --------------------------------------------------------------------------------------------
@@ -943,17 +959,17 @@ def payload_at(joined, position):
     return joined[begin:end]
 
 
-def record_payload(file, start, number, record_size, id_size, data_bytes, channel, record, payload):
+def record_payload(file, start, number, record_size, group, channel, record, payload):
     """The two buffers change in turn, so that what was fetched before a refusal stays."""
     try:
         refuse_if(not holds_position(channel), NO_POSITION)
         fetched = record_of(file, start, number, record_size, len(record))
         record = placed(fetched, record)
-        position = position_of(fetched, id_size, channel)
-        content = payload_at(joined_data(file, channel.data, SIGNAL_ID), position)
+        position = position_of(fetched, group.record_id_size, channel)
+        content = payload_at(joined_data(file, channel.data_addr, SIGNAL_ID), position)
         payload = placed(content, payload)
-        value = value_of(content, id_size, channel)
-        is_valid = check_validity(fetched, id_size, data_bytes, channel)
-        return Payload(*value, payload_length=len(content), is_valid=is_valid), record, payload
+        value = value_of(content, group.record_id_size, channel)
+        is_valid = check_validity(fetched, group, channel)
+        return Payload(**value._asdict(), payload_length=len(content), is_valid=is_valid), record, payload
     except Refusal as refusal:
         return Payload(refusal.number, told=refusal.told), record, payload

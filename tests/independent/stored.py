@@ -41,6 +41,9 @@ class Words:
     def channel(self):
         return reference.Channel(*(self.number() for _ in reference.Channel._fields))
 
+    def group(self):
+        return reference.Group(*(self.number() for _ in reference.Group._fields))
+
     def given_number(self):
         return reference.Number(*(self.number() for _ in reference.Number._fields))
 
@@ -95,7 +98,8 @@ def header_write_answer(words):
 
 def list_read_answer(words):
     def fields(r):
-        return number_words(*r.header, r.next, r.links_at, r.links, r.flags, r.reserved1, r.data_block_nr, r.rest_at, r.rest)
+        return number_words(*r.header, r.next_addr, r.data_links_at, r.data_link_count, r.flags, r.reserved1,
+                            r.data_block_count, r.rest_at, r.rest_count)
 
     return reply_words(reference.read_list(words.bytes()), fields)
 
@@ -123,12 +127,12 @@ def channel_write_answer(words):
 
 
 def field(words):
-    return words.bytes(), words.number(), words.number(), words.channel()
+    return words.bytes(), words.group(), words.channel()
 
 
 def value_answer(words):
-    record, id_size, _, channel = field(words)
-    return reply_words(reference.decode_value(record, id_size, channel), value_words)
+    record, group, channel = field(words)
+    return reply_words(reference.decode_value(record, group.record_id_size, channel), value_words)
 
 
 def validity_answer(words):
@@ -140,8 +144,8 @@ def both_answer(words):
 
 
 def double_answer(words):
-    record, id_size, _, channel = field(words)
-    return number_words(reference.decode_double(record, id_size, channel))
+    record, group, channel = field(words)
+    return number_words(reference.decode_double_bits(record, group.record_id_size, channel))
 
 
 def write_answer(words):
@@ -173,16 +177,15 @@ def record_answer(words):
 
 def record_value_answer(words):
     file, start, number, size = words.bytes(), words.number(), words.number(), words.number()
-    before, id_size, data_bytes = words.buffer(), words.number(), words.number()
-    reply, buffer = reference.record_value(file, start, number, size, id_size, data_bytes, words.channel(), before)
+    before, group = words.buffer(), words.group()
+    reply, buffer = reference.record_value(file, start, number, size, group, words.channel(), before)
     return valid_value_words(reply) + fetched_word(buffer, size, buffer != before)
 
 
 def record_payload_answer(words):
     file, start, number, size = words.bytes(), words.number(), words.number(), words.number()
-    record, payload, id_size, data_bytes = words.buffer(), words.buffer(), words.number(), words.number()
-    reply, left, kept = reference.record_payload(file, start, number, size, id_size, data_bytes, words.channel(), record,
-                                                 payload)
+    record, payload, group = words.buffer(), words.buffer(), words.group()
+    reply, left, kept = reference.record_payload(file, start, number, size, group, words.channel(), record, payload)
     return (reply_words(reply, lambda r: value_words(r) + number_words(r.is_valid, r.payload_length))
             + fetched_word(left, size, left != record) + written_word(kept, payload))
 

@@ -11,7 +11,7 @@ from fractions import Fraction
 import cases
 import protocol
 import reference as r
-from reference import Channel, Header, Number, Value
+from reference import Channel, Group, Header, Number, Value
 
 failures = 0
 
@@ -92,7 +92,7 @@ def example_floats():
 
 def example_doubles():
     for number, wanted in ((9007199254740993, 9007199254740992), (9007199254740995, 9007199254740996)):
-        bits = r.decode_double(number.to_bytes(8, "little"), 0, field(r.UNSIGNED_LE, 64))
+        bits = r.decode_double_bits(number.to_bytes(8, "little"), 0, field(r.UNSIGNED_LE, 64))
         check(f"{number} as a double", double_of(bits), float(wanted))
 
 
@@ -111,7 +111,7 @@ def example_refusals():
     check("a float of 65 bits in nothing", r.decode_value(b"", 0, field(r.FLOAT_LE, 65)), refused(21, 9))
     check("a float of 65 bits", r.decode_value(bytes(9), 0, field(r.FLOAT_LE, 65)), refused(22))
     check("behind an id of 2", r.decode_value(bytes(6), 2, field(r.UNSIGNED_LE, 16, 0, 3)), refused(21, 7))
-    check("24 bits of a payload of 2 bytes", r.decode_value(bytes(2), 9, Channel(r.SIGNED_BE, 1, 0, 5, 24, data=7)),
+    check("24 bits of a payload of 2 bytes", r.decode_value(bytes(2), 9, Channel(r.SIGNED_BE, 1, 0, 5, 24, data_addr=7)),
           refused(21, 3))
     date = field(r.CANOPEN_DATE, 0, 9)
     check("a date of no bits in 2 bytes", r.decode_value(bytes(2), 0, date), Value(kind=r.UNKNOWN_KIND))
@@ -125,19 +125,20 @@ def example_validity():
     record = hexed("34 12 00 02")
     for flags, position, wanted in ((2, 9, 0), (2, 16, 1), (3, 9, 0), (3, 16, 0), (0, 9, 1), (1, 16, 0)):
         channel = field(r.UNSIGNED_LE, 16, flags=flags, pos_invalidation_bit=position)
-        check(f"validity, flags {flags}, position {position}", r.check_validity(record, 0, 2, channel), wanted)
-        check("both", r.decode_valid_value(record, 0, 2, channel),
+        check(f"validity, flags {flags}, position {position}", r.check_validity(record, Group(0, 2), channel), wanted)
+        check("both", r.decode_valid_value(record, Group(0, 2), channel),
               r.ValidValue(kind=r.UNSIGNED_KIND, number=4660, is_valid=wanted))
 
 
 def example_lists():
-    def one_link(flags, links_nr=1):
-        sizes = (40).to_bytes(8, "little") + links_nr.to_bytes(8, "little")
+    def one_link(flags, link_count=1):
+        sizes = (40).to_bytes(8, "little") + link_count.to_bytes(8, "little")
         return b"##DL" + bytes(4) + sizes + bytes(8) + bytes([flags]) + bytes(7)
 
     id_number = int.from_bytes(b"##DL", "little")
     check("one link, no blocks", r.read_list(one_link(0)),
-          r.ListReply(header=Header(id_number, 0, 40, 1), links_at=32, links=0, rest_at=40, rest=0))
+          r.ListReply(header=Header(id_number, 0, 40, 1), data_links_at=32, data_link_count=0, rest_at=40,
+                      rest_count=0))
     check("one length", r.read_list(one_link(1)), r.ListReply(2, 48))
     check("very many links", r.read_list(one_link(0, 2**64 - 1)), r.ListReply(2, 18446744073709551615))
     equal, equal_bytes = r.write_list_equal(0, [100, 200], 5, bytes(100))
@@ -158,15 +159,15 @@ FIELDS_IN_HEX = ("01 02 03 04 05000000 06000000 07000000 08000000 09 0a 0b0c"
                  "0d00000000000000 0e00000000000000 0f00000000000000 000000000000f07f 000000000000f8ff 010000000000f07f")
 CHANNEL_IN_NUMBERS = r.ChannelBlock(
     header=Header(int.from_bytes(b"##CN", "little"), 0x99, 1, 8), next_ch_addr=0x10, component_addr=0x20, name_addr=0x30,
-    source_addr=0x40, conversion_addr=0x50, unit_addr=0x70, comment_addr=0x80, more_links_at=88, more_links=0,
+    source_addr=0x40, conversion_addr=0x50, unit_addr=0x70, comment_addr=0x80, more_links_at=88, more_link_count=0,
     channel=Channel(data_type=3, channel_type=1, bit_offset=4, byte_offset=5, bit_count=6, flags=7, pos_invalidation_bit=8,
-                    data=0x60),
-    sync_type=2, precision=9, reserved1=10, attachment_nr=0x0C0B, min_raw_value=13, max_raw_value=14, lower_limit=15,
+                    data_addr=0x60),
+    sync_type=2, precision=9, reserved1=10, attachment_count=0x0C0B, min_raw_value=13, max_raw_value=14, lower_limit=15,
     upper_limit=0x7FF0000000000000, lower_ext_limit=0xFFF8000000000000, upper_ext_limit=0x7FF0000000000001)
 
 
-def channel_in_hex(links_nr=8, more_links="", start="23 23 43 4e 99000000 0100000000000000"):
-    return hexed(start) + links_nr.to_bytes(8, "little") + hexed(LINKS_IN_HEX + more_links + FIELDS_IN_HEX)
+def channel_in_hex(link_count=8, more_links="", start="23 23 43 4e 99000000 0100000000000000"):
+    return hexed(start) + link_count.to_bytes(8, "little") + hexed(LINKS_IN_HEX + more_links + FIELDS_IN_HEX)
 
 
 def example_channels():
@@ -174,7 +175,7 @@ def example_channels():
     check("a block of 160 bytes", len(block), 160)
     check("block length 1 in 160 bytes", r.read_channel(block), r.ChannelReply(block=CHANNEL_IN_NUMBERS))
     check("bytes behind", r.read_channel(block + b"\7"), r.ChannelReply(block=CHANNEL_IN_NUMBERS))
-    nine = CHANNEL_IN_NUMBERS._replace(header=CHANNEL_IN_NUMBERS.header._replace(links_nr=9), more_links=1)
+    nine = CHANNEL_IN_NUMBERS._replace(header=CHANNEL_IN_NUMBERS.header._replace(link_count=9), more_link_count=1)
     check("9 links in 168 bytes", r.read_channel(channel_in_hex(9, "ffffffffffffffff")), r.ChannelReply(block=nine))
     check("9 links in 160 bytes", r.read_channel(channel_in_hex(9)), r.ChannelReply(2, 168))
     check("8 links in 159 bytes", r.read_channel(block[:159]), r.ChannelReply(2, 160))
@@ -192,11 +193,12 @@ def example_chain():
     cut = cases.Chain(rng, [data[:3], b"", data[3:]], [[0, 1, 2]])
     uncut = cases.Chain(rng, [data], [[0]], is_equal=True)
     for chain in (cut, uncut):
-        check("record 1", r.read_record(chain.file(), chain.start, 1, 2, b"..."), (r.Fetched(), hexed("03 04") + b"."))
-        check("record 3", r.read_record(chain.file(), chain.start, 3, 2, b".."), (r.Fetched(16), b".."))
-        check("field of record 1", r.record_value(chain.file(), chain.start, 1, 2, 0, 2, field(r.UNSIGNED_LE, 16), b".."),
+        check("record 1", r.read_record(chain.file(), chain.start, 1, 2, b"..."), (r.Done(), hexed("03 04") + b"."))
+        check("record 3", r.read_record(chain.file(), chain.start, 3, 2, b".."), (r.Done(16), b".."))
+        check("field of record 1",
+              r.record_value(chain.file(), chain.start, 1, 2, Group(0, 2), field(r.UNSIGNED_LE, 16), b".."),
               (r.ValidValue(kind=r.UNSIGNED_KIND, number=0x0403, is_valid=1), hexed("03 04")))
-        check("refused field of record 1", r.record_value(chain.file(), chain.start, 1, 2, 1, 2, field(0, 16), b".."),
+        check("refused field of record 1", r.record_value(chain.file(), chain.start, 1, 2, Group(1, 2), field(0, 16), b".."),
               (r.ValidValue(21, told=3), hexed("03 04")))
 
 
@@ -213,7 +215,7 @@ PAYLOAD_FILE = hexed(
     "23 23 53 44 00000000 1d00000000000000 0000000000000000 03000000 61"
     "23 23 53 44 00000000 2a00000000000000 0000000000000000 6263 00000000 08000000 0201000000000000")
 FIRST_POSITION_AT, LAST_LENGTH_AT = 88, 246
-POSITION = Channel(r.UTF8, 1, 0, 0, 64, flags=2, data=115)
+POSITION = Channel(r.UTF8, 1, 0, 0, 64, flags=2, data_addr=115)
 
 
 def changed(place, digits):
@@ -223,7 +225,7 @@ def changed(place, digits):
 
 
 def payload(number, channel=POSITION, record=b"." * 9, room=b"." * 9, file=PAYLOAD_FILE):
-    return r.record_payload(file, 8, number, 9, 0, 8, channel, record, room)
+    return r.record_payload(file, 8, number, 9, Group(0, 8), channel, record, room)
 
 
 def example_payloads():
@@ -244,8 +246,8 @@ def example_payloads():
     check("a payload outside", payload(2, file=changed(LAST_LENGTH_AT, "09")), (r.Payload(23), records[2], b"." * 9))
     check("a position outside", payload(0, POSITION._replace(byte_offset=2)),
           (r.Payload(21, told=10), records[0], b"." * 9))
-    check("a single block", payload(0, POSITION._replace(data=187)), (r.Payload(3), records[0], b"." * 9))
-    check("the other chain", payload(0, POSITION._replace(data=8)), (r.Payload(12), records[0], b"." * 9))
+    check("a single block", payload(0, POSITION._replace(data_addr=187)), (r.Payload(3), records[0], b"." * 9))
+    check("the other chain", payload(0, POSITION._replace(data_addr=8)), (r.Payload(12), records[0], b"." * 9))
     check("no such record", payload(3), (r.Payload(16), b"." * 9, b"." * 9))
     check("no room for the record", payload(0, record=b"." * 8), (r.Payload(15), b"." * 8, b"." * 9))
     check("no position", payload(0, POSITION._replace(bit_count=32)), (r.Payload(35), b"." * 9, b"." * 9))
@@ -254,12 +256,12 @@ def example_payloads():
 def written(number, record, channel, id_size=0):
     """The record after a write, which is answered."""
     reply, after = r.write_value(id_size, channel, number, record)
-    check(f"{channel} is written", reply, r.Stored())
+    check(f"{channel} is written", reply, r.Done())
     return after
 
 
 def unwritten(reply, number, record, channel, told=0, id_size=0):
-    check(f"{number} in {channel}", r.write_value(id_size, channel, number, record), (r.Stored(reply, told), record))
+    check(f"{number} in {channel}", r.write_value(id_size, channel, number, record), (r.Done(reply, told), record))
 
 
 UNSIGNED, SIGNED, DOUBLE = (lambda number, kind=kind: Number(kind, number % 2**64) for kind in (1, 2, 3))
@@ -289,8 +291,8 @@ def example_written():
     unwritten(22, UNSIGNED(1), bytes(4), field(r.FLOAT_LE, 16))
     unwritten(21, Number(0), b"..", field(r.UTF8, 24), told=3)
     unwritten(25, Number(1), b"...", field(r.UTF8, 24))
-    unwritten(25, UNSIGNED(1), b".", Channel(r.UNSIGNED_LE, 1, 0, 99, 8, data=7), id_size=5)
-    unwritten(21, UNSIGNED(1), b"", Channel(r.UNSIGNED_LE, 1, 0, 99, 8, data=7), told=1, id_size=5)
+    unwritten(25, UNSIGNED(1), b".", Channel(r.UNSIGNED_LE, 1, 0, 99, 8, data_addr=7), id_size=5)
+    unwritten(21, UNSIGNED(1), b"", Channel(r.UNSIGNED_LE, 1, 0, 99, 8, data_addr=7), told=1, id_size=5)
     check("no data link", written(UNSIGNED(7), b".", Channel(r.UNSIGNED_LE, 1, 0, 0, 8)), b"\7")
 
 
@@ -312,7 +314,7 @@ def example_overlaps():
     check("behind 2^32", overlap(field(0, 64, 0, 2**32 - 1), field(0, 8)), r.Overlap())
     check("256", overlap(*(field(0, 1, k % 8, k // 8) for k in range(256))), r.Overlap())
     check("257", overlap(*[field(0, 0)] * 257), r.Overlap(26))
-    for bad in (field(0, 0), field(0, 8, 8), field(2, 65), field(4, 16), field(r.UTF8, 8), Channel(0, 1, 0, 0, 8, data=1)):
+    for bad in (field(0, 0), field(0, 8, 8), field(2, 65), field(4, 16), field(r.UTF8, 8), Channel(0, 1, 0, 0, 8, data_addr=1)):
         check(f"{bad} is no fixed number", overlap(byte, byte, bad, bad), r.Overlap(27, 2))
 
 
@@ -341,8 +343,8 @@ def cases_of_types():
             first = protocol.result_line(call, arguments).split()[0]
             if first == "reply=0" or first.startswith("answer="):
                 reached[call].add(code_given(call, arguments))
-    calls = ("type_code", "default_bits", "decode_value", "decode_valid_value", "decode_double", "read_channel",
-             "write_channel")
+    calls = ("type_code", "default_bits", "decode_value", "decode_valid_value", "decode_double_bits", "decode_valid_double",
+             "read_channel", "write_channel")
     check("codes reached", {call: len(codes) for call, codes in reached.items()}, dict.fromkeys(calls, 256))
 
 
@@ -367,20 +369,21 @@ def rules_of_writing():
         next_list = rng.getrandbits(64)
         written, out = r.write_list_variable(next_list, links, offsets, bytes(200))
         read = r.read_list(out[:written.count])
-        check("what was written reads back", (read.reply, read.next, read.flags, read.data_block_nr, read.header.block_len),
+        check("what was written reads back",
+              (read.reply, read.next_addr, read.flags, read.data_block_count, read.header.block_len),
               (0, next_list, 0, len(links), written.count))
-        check("its links", r.numbers_at(out, read.links_at, read.links), links)
-        check("its offsets", r.numbers_at(out, read.rest_at, read.rest), offsets)
+        check("its links", r.numbers_at(out, read.data_links_at, read.data_link_count), links)
+        check("its offsets", r.numbers_at(out, read.rest_at, read.rest_count), offsets)
 
 
 def rules_of_channels():
     block = channel_in_hex()
     for length in range(160):
         check(f"{length} bytes", r.read_channel(block[:length]), r.ChannelReply(2, 24 if length < 24 else 160))
-    for links_nr in range(8):
-        check("too few links", r.read_channel(channel_in_hex(links_nr)[:24]), r.ChannelReply(17))
-    for links_nr, told in ((9, 168), (2**61 - 13, 2**64 - 8), (2**61 - 12, 2**64 - 1), (2**61 + 8, 2**64 - 1)):
-        check(f"{links_nr} links", r.read_channel(channel_in_hex(links_nr)), r.ChannelReply(2, told))
+    for link_count in range(8):
+        check("too few links", r.read_channel(channel_in_hex(link_count)[:24]), r.ChannelReply(17))
+    for link_count, told in ((9, 168), (2**61 - 13, 2**64 - 8), (2**61 - 12, 2**64 - 1), (2**61 + 8, 2**64 - 1)):
+        check(f"{link_count} links", r.read_channel(channel_in_hex(link_count)), r.ChannelReply(2, told))
     other = "23 23 43 47 99000000 0100000000000000"
     check("another id before too few links", r.read_channel(channel_in_hex(0, start=other)), r.ChannelReply(3))
     check("too few bytes before another id", r.read_channel(channel_in_hex(0, start=other)[:23]), r.ChannelReply(2, 24))
@@ -395,31 +398,31 @@ def rules_of_channels():
 
 
 def rules_of_values():
-    payload = Channel(r.UNSIGNED_LE, 1, 4, 99, 8, data=7)
+    payload = Channel(r.UNSIGNED_LE, 1, 4, 99, 8, data_addr=7)
     check("payload number", r.decode_value(hexed("34 12"), 2**64 - 1, payload),
           Value(kind=r.UNSIGNED_KIND, number=0x23))
     check("payload number too short", r.decode_value(hexed("34"), 0, payload), refused(21, 2))
-    check("payload as a double", r.decode_double(hexed("34 12"), 0, payload), r.NAN)
+    check("payload as a double", r.decode_double_bits(hexed("34 12"), 0, payload), r.NAN)
     check("payload text", r.decode_value(b"abc", 5, payload._replace(data_type=r.UTF8, bit_count=0)),
           Value(kind=r.TEXT_KIND, at=0, length=3))
-    check("no payload without a data link", r.decode_value(b"abc", 5, payload._replace(data=0)), refused(21, 106))
+    check("no payload without a data link", r.decode_value(b"abc", 5, payload._replace(data_addr=0)), refused(21, 106))
     check("unknown type", r.decode_value(b"a", 0, field(99, 0)), Value(kind=r.UNKNOWN_KIND))
     check("unknown type past the end", r.decode_value(b"", 0, field(99, 0)), refused(21, 1))
     check("64-bit NaN keeps its bits", value(hexed("01 00 00 00 00 00 f0 7f"), field(r.FLOAT_LE, 64)).number,
           0x7FF0000000000001)
     check("32-bit NaN", value(hexed("ff ff ff ff"), field(r.FLOAT_LE, 32)).number, r.NAN)
-    check("text as a double", r.decode_double(b"1", 0, field(r.UTF8, 8)), r.NAN)
+    check("text as a double", r.decode_double_bits(b"1", 0, field(r.UTF8, 8)), r.NAN)
 
 
 def rules_of_refusals():
     """The first cause that holds, in the order of the rules; beside it the one NaN, and the validity alone."""
     def asked(wanted, record, id_size, channel):
         check(f"{channel} in {len(record)} bytes", r.decode_value(record, id_size, channel), wanted)
-        both = r.decode_valid_value(record, id_size, 0, channel)
-        check("with validity", both, r.ValidValue(*wanted, int(wanted.reply == 0)))
+        both = r.decode_valid_value(record, Group(id_size), channel)
+        check("with validity", both, r.ValidValue(**wanted._asdict(), is_valid=int(wanted.reply == 0)))
         if wanted.reply != 0:
-            check("as a double", r.decode_double(record, id_size, channel), r.NAN)
-            check("validity alone", r.check_validity(record, id_size, 0, channel), 1)
+            check("as a double", r.decode_double_bits(record, id_size, channel), r.NAN)
+            check("validity alone", r.check_validity(record, Group(id_size), channel), 1)
 
     for data_type in r.NUMBERS:
         for record in (b"", bytes(20)):
@@ -440,7 +443,7 @@ def rules_of_refusals():
         check("no number", r.decode_value(bytes(70), 1, field(data_type, 0, 255)).reply, 0)
         check("no number, wide", r.decode_value(bytes(70), 1, field(data_type, 65, 8)).reply, 0)
         asked(refused(21, 8), bytes(7), 2, field(data_type, 24, 0, 3))
-        check("a payload", r.decode_value(b"", 2**64 - 1, Channel(data_type, 1, 255, 9, 2**32 - 1, data=7)).reply, 0)
+        check("a payload", r.decode_value(b"", 2**64 - 1, Channel(data_type, 1, 255, 9, 2**32 - 1, data_addr=7)).reply, 0)
 
 
 def rules_of_told_bytes():
@@ -462,7 +465,7 @@ def cases_of_refusals():
     reached = collections.Counter()
     for boundaries in (cases.refusal_boundaries, cases.record_refusal_boundaries):
         for call, arguments in boundaries(random.Random(12)):
-            if call != "decode_double":
+            if call not in ("decode_double_bits", "decode_valid_double"):
                 result = protocol.CALLS[call][0](*arguments)
                 value = result[0] if call == "record_value" else result
                 reached[call, value.reply] += 1
@@ -515,15 +518,15 @@ def rules_of_chains():
     check("start 0", asked(no_fault, start=0), (11, 0))
     check("start past 2^63", asked(no_fault, start=2**64 - 1), (11, 0))
     check("list id", asked(in_list(1, id=b"##DT")), (3, 0))
-    check("list without links", asked(in_list(1, links_nr=0)), (4, 0))
-    check("list with too many links", asked(in_list(0, links_nr=2**61)), (2, 2**64 - 1))
+    check("list without links", asked(in_list(1, link_count=0)), (4, 0))
+    check("list with too many links", asked(in_list(0, link_count=2**61)), (2, 2**64 - 1))
     check("count", asked(in_list(0, count=1)), (10, 0))
     check("block length", asked(in_list(0, block_len=71)), (10, 0))
     check("block length may be more", asked(in_list(0, block_len=2**64 - 1)), (0, 0))
     check("next", asked(in_list(1, next=2**64 - 24)), (11, 0))
     check("data link", asked(in_list(0, links=[0, 0])), (11, 0))
     check("data id", asked(in_data(2, id=b"##DL")), (12, 0))
-    check("data links", asked(in_data(0, links_nr=1)), (12, 0))
+    check("data links", asked(in_data(0, link_count=1)), (12, 0))
     check("data length 23", asked(in_data(0, block_len=23)), (12, 0))
     check("data past the file", asked(in_data(0, block_len=2**64 - 1)), (12, 0))
     check("offset", asked(in_list(1, rest=[5])), (13, 0))
@@ -535,8 +538,8 @@ def rules_of_chains():
 
 
 def rules_of_long_files():
-    check("long file", r.read_record(protocol.LongFile(2**40 + 1), 0, 0, 1, bytes(1))[0], r.Fetched(7))
-    check("longest file", r.read_record(protocol.LongFile(2**40), 0, 0, 1, bytes(1))[0], r.Fetched(11))
+    check("long file", r.read_record(protocol.LongFile(2**40 + 1), 0, 0, 1, bytes(1))[0], r.Done(7))
+    check("longest file", r.read_record(protocol.LongFile(2**40), 0, 0, 1, bytes(1))[0], r.Done(11))
     check("length of a long file", r.data_length(protocol.LongFile(2**40 + 1), 0), r.Length(7))
     check("length of the longest file", r.data_length(protocol.LongFile(2**40), 0), r.Length(11))
 
@@ -647,11 +650,11 @@ def cases_of_forms():
 
 def rules_of_positions():
     """Which channels hold a position, and where it stands."""
-    for other in ({"channel_type": 0}, {"channel_type": 2}, {"data": 0}, {"bit_offset": 1}, {"bit_offset": 8},
+    for other in ({"channel_type": 0}, {"channel_type": 2}, {"data_addr": 0}, {"bit_offset": 1}, {"bit_offset": 8},
                   {"bit_count": 0}, {"bit_count": 63}, {"bit_count": 65}, {"bit_count": 320}):
         channel = POSITION._replace(**other)
         check(f"no position with {other}", payload(0, channel), (r.Payload(35), b"." * 9, b"." * 9))
-        check(f"{other} before all else", r.record_payload(b"", 0, 9, 0, 9, 0, channel, b"", b"")[0], r.Payload(35))
+        check(f"{other} before all else", r.record_payload(b"", 0, 9, 0, Group(9), channel, b"", b"")[0], r.Payload(35))
     record = bytes(range(12))
     for data_type in r.NUMBERS + r.TEXTS + (r.COMPLEX_BE, 99):
         channel = POSITION._replace(data_type=data_type, byte_offset=3)
@@ -660,7 +663,7 @@ def rules_of_positions():
             (2, 3, 13), (5, 0, 13), (0, 5, 13), (12, 0, 20), (0, 2**32 - 1, 2**32 + 7), (2**64 - 9, 0, 2**64 - 1),
             (2**64 - 10, 0, 2**64 - 2), (2**64 - 1, 2**32 - 1, 2**64 - 1)):
         channel = POSITION._replace(byte_offset=byte_offset)
-        asked = r.record_payload(PAYLOAD_FILE, 8, 0, 12, id_size, 0, channel, bytes(12), b"")
+        asked = r.record_payload(PAYLOAD_FILE, 8, 0, 12, Group(id_size), channel, bytes(12), b"")
         check(f"position behind {id_size} and {byte_offset}", asked[0], r.Payload(21, told=told))
 
 
@@ -695,9 +698,9 @@ def rules_of_order():
             answer, record, payload_after = r.record_payload(*arguments)
             first = order.index(faults[0]) if faults else len(order)
             check(f"first of {faults}", answer.reply in (FAULT_REPLIES[faults[0]] if faults else {0}), True)
-            check(f"record left by {faults}", record != arguments[7], first > order.index(cases.no_such_record))
-            check(f"payload left by {faults}", payload_after != arguments[8], first > order.index(cases.no_room))
-            check(f"bytes behind {faults}", record[arguments[3]:], arguments[7][arguments[3]:])
+            check(f"record left by {faults}", record != arguments[6], first > order.index(cases.no_such_record))
+            check(f"payload left by {faults}", payload_after != arguments[7], first > order.index(cases.no_room))
+            check(f"bytes behind {faults}", record[arguments[3]:], arguments[6][arguments[3]:])
 
 
 def cases_of_payloads():
@@ -709,7 +712,7 @@ def cases_of_payloads():
     for call, arguments in itertools.chain(*asked):
         if call == "record_payload":
             answer, record, _payload = r.record_payload(*arguments)
-            reached[record != arguments[7], answer.reply] += 1
+            reached[record != arguments[6], answer.reply] += 1
     for is_fetched, replies in ((False, (15, 16, 35)), (True, (0, 6, 21, 23))):
         for reply in replies:
             check(f"{reply} is reached often", reached[is_fetched, reply] >= 50, True)
@@ -873,12 +876,12 @@ def python_structs():
         fields = cases.random_channel_fields(rng, links_count)
         read = r.read_channel(cases.channel_block(fields)).block
         c = read.channel
-        links = [read.next_ch_addr, read.component_addr, read.name_addr, read.source_addr, read.conversion_addr, c.data,
+        links = [read.next_ch_addr, read.component_addr, read.name_addr, read.source_addr, read.conversion_addr, c.data_addr,
                  read.unit_addr, read.comment_addr]
         check("links", links, fields["links"][:8])
-        check("more links", (read.more_links_at, read.more_links), (88, links_count - 8))
+        check("more links", (read.more_links_at, read.more_link_count), (88, links_count - 8))
         row = [c.channel_type, read.sync_type, c.data_type, c.bit_offset, c.byte_offset, c.bit_count, c.flags,
-               c.pos_invalidation_bit, read.precision, read.reserved1, read.attachment_nr, *read[-6:]]
+               c.pos_invalidation_bit, read.precision, read.reserved1, read.attachment_count, *read[-6:]]
         check("fields", row, fields["rest"])
         again = struct.pack("<4sIQQ8Q4B4I2BH6Q", b"##CN", 0, 160, 8, *links, *row[:9], 0, 0, *row[11:])
         check("written again", r.write_channel(read, bytes(161)), (r.Written(count=160), again + bytes(1)))
@@ -921,7 +924,7 @@ def joined_equal_chains():
         data = rng.randbytes(rng.randint(0, 20))
         number, size = rng.randint(0, 8), rng.randint(1, 6)
         record = data[number * size:(number + 1) * size]
-        wanted = (r.Fetched(), record + b".") if len(record) == size else (r.Fetched(16), b"." * (size + 1))
+        wanted = (r.Done(), record + b".") if len(record) == size else (r.Done(16), b"." * (size + 1))
         for _ in range(3):
             places = sorted(rng.randint(0, len(data)) for _ in range(rng.randint(0, 4)))
             blocks = [data[low:high] for low, high in zip([0] + places, places + [len(data)])]
@@ -942,7 +945,7 @@ def joined_equal_payloads():
         for _ in range(3):
             cut = cases.PayloadCall(rng, call.stream, call.positions, is_equal=rng.random() < 0.5, most=rng.randint(1, 6),
                                     id_size=0, before=0, behind=b"")
-            outcomes.add(r.record_payload(cut.file(), cut.start, call.number, 8, 0, 8, cut.channel, bytes(8), room))
+            outcomes.add(r.record_payload(cut.file(), cut.start, call.number, 8, Group(0, 8), cut.channel, bytes(8), room))
         try:
             (length,) = struct.unpack_from("<I", call.stream, position)
             (content,) = struct.unpack_from(f"<{length}s", call.stream, position + 4)

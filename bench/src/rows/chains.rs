@@ -86,7 +86,8 @@ fn value_fetched(chain: &Chain, number: u64, buffer: &mut [u8]) -> u64 {
     let (file, len, size) = (chain.file.as_ptr(), chain.file.len(), SIZE as u64);
     let (out, room) = (buffer.as_mut_ptr(), buffer.len());
     let field = c::Channel { flags: 2, pos_invalidation_bit: 3, ..channel(UNSIGNED_LE, 4, 32) };
-    let answer = unsafe { c::mf4_record_value(file, len, chain.start, number, size, 0, 23, field, out, room) };
+    let group = c::Group { record_id_size: 0, data_bytes: 23 };
+    let answer = unsafe { c::mf4_record_value(file, len, chain.start, number, size, group, field, out, room) };
     answer.number
 }
 
@@ -133,7 +134,7 @@ pub fn add_chain(file: &mut Vec<u8>, id: &[u8; 4], joined: &[u8], lists: usize, 
 fn add_block(file: &mut Vec<u8>, id: &[u8; 4], data: &[u8]) -> u64 {
     let address = file.len() as u64;
     let block_len = (HEADER_SIZE + data.len()) as u64;
-    let header = c::BlockHeader { id: u32::from_le_bytes(*id), reserved0: 0, block_len, links_nr: 0 };
+    let header = c::Header { id: u32::from_le_bytes(*id), reserved0: 0, block_len, link_count: 0 };
     file.extend(header_bytes(&header));
     file.extend(data);
     address

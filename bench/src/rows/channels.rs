@@ -42,7 +42,7 @@ fn blocks(count: usize) -> Vec<c::ChannelBlock> {
 }
 
 fn block(dice: &mut Dice) -> c::ChannelBlock {
-    let header = c::BlockHeader { id: u32::from_le_bytes(*b"##CN"), reserved0: 0, block_len: SIZE as u64, links_nr: 8 };
+    let header = c::Header { id: u32::from_le_bytes(*b"##CN"), reserved0: 0, block_len: SIZE as u64, link_count: 8 };
     let mut link = || dice.below(1 << 40);
     c::ChannelBlock {
         header,
@@ -54,15 +54,15 @@ fn block(dice: &mut Dice) -> c::ChannelBlock {
         unit_addr: link(),
         comment_addr: link(),
         more_links_at: 0,
-        more_links: 0,
+        more_link_count: 0,
         channel: c::Channel {
-            data: link(),
+            data_addr: link(),
             ..channel(dice.below(17) as u8, dice.below(256) as u32, dice.between(1, 64) as u32)
         },
         sync_type: dice.below(5) as u8,
         precision: dice.below(8) as u8,
         reserved1: 0,
-        attachment_nr: 0,
+        attachment_count: 0,
         min_raw_value: limit(dice),
         max_raw_value: limit(dice),
         lower_limit: limit(dice),

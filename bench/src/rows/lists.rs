@@ -35,7 +35,7 @@ fn headers_read(count: usize) -> Row {
 }
 
 fn headers_written(count: usize) -> Row {
-    let sides: [fn(&Vec<c::BlockHeader>, usize) -> u64; 3] = [
+    let sides: [fn(&Vec<c::Header>, usize) -> u64; 3] = [
         |headers, count| library::headers_written(headers, count),
         |headers, count| border::headers_written(headers, count),
         |headers, count| inlined::headers_written(headers, count),
@@ -54,19 +54,19 @@ pub fn writing<T: 'static>(given: T, sides: [fn(&T, usize) -> u64; 3], copy: Pas
     Row { ours, border: Some(border), inlined: Some(inlined), plain: None, copy }
 }
 
-fn headers(count: usize) -> Vec<c::BlockHeader> {
+fn headers(count: usize) -> Vec<c::Header> {
     let mut dice = Dice::new(1);
     let ids = [*b"##DT", *b"##DL", *b"##CN", *b"##TX"].map(u32::from_le_bytes);
-    let header = |_| c::BlockHeader {
+    let header = |_| c::Header {
         id: dice.pick(&ids),
         reserved0: 0,
         block_len: dice.between(24, 100_000),
-        links_nr: dice.below(8),
+        link_count: dice.below(8),
     };
     (0..count).map(header).collect()
 }
 
-pub fn header_bytes(header: &c::BlockHeader) -> Vec<u8> {
+pub fn header_bytes(header: &c::Header) -> Vec<u8> {
     let mut out = vec![0; HEADER_SIZE];
     unsafe { c::mf4_write_header(*header, out.as_mut_ptr(), out.len()) };
     out

@@ -44,10 +44,10 @@ fn row(size: usize, fragments: usize) -> Row {
 fn fetched(log: &Log, item: usize, buffer: &mut [u8]) -> u64 {
     let (record, payload) = buffer.split_at_mut(RECORD_SIZE);
     let (file, len, number) = (log.file.as_ptr(), log.file.len(), (item % RECORDS) as u64);
-    let (size, data_bytes) = (RECORD_SIZE as u64, RECORD_SIZE as u32);
+    let (size, group) = (RECORD_SIZE as u64, c::Group { record_id_size: 0, data_bytes: RECORD_SIZE as u32 });
     let (out, room, to, to_room) = (record.as_mut_ptr(), record.len(), payload.as_mut_ptr(), payload.len());
     let answer = unsafe {
-        c::mf4_record_payload(file, len, log.start, number, size, 0, data_bytes, log.channel, out, room, to, to_room)
+        c::mf4_record_payload(file, len, log.start, number, size, group, log.channel, out, room, to, to_room)
     };
     digest::of_bytes(&payload[answer.at as usize..][..answer.length as usize])
 }
@@ -70,7 +70,7 @@ fn log(size: usize, fragments: usize) -> Log {
     record[POSITION_AT..][..8].copy_from_slice(&(position as u64).to_le_bytes());
     let mut file = vec![0; 64];
     let start = add_chain(&mut file, b"##DT", &record.repeat(RECORDS), 1, 1);
-    let data = add_chain(&mut file, b"##SD", &joined, 1, fragments);
-    let channel = c::Channel { channel_type: 1, data, ..channel(LATIN1, POSITION_AT as u32, 64) };
+    let data_addr = add_chain(&mut file, b"##SD", &joined, 1, fragments);
+    let channel = c::Channel { channel_type: 1, data_addr, ..channel(LATIN1, POSITION_AT as u32, 64) };
     Log { file, start, channel, remark }
 }
