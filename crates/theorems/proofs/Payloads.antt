@@ -5,3 +5,4 @@ pub mod PayloadsByCalls
 pub mod PayloadsToC
 pub mod TwoFilesPayloads
 pub mod PayloadCauses
+pub mod PayloadCausesByCalls

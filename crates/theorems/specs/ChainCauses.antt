@@ -1,19 +1,15 @@
--- Why a chain of data lists is not read, or a record or a payload not fetched: each refusal with its condition, in the order of
--- the tests. f is the file, and id the id of its data blocks.
+-- Why a chain of data lists is not read: each refusal with its condition, in the order of the tests. f is the file, and id the id
+-- of its data blocks.
 use mathlib.Core.Path.{_≡_}
 use mathlib.Core.Logic.{_⊎_}
 use mathlib.Core.List.{List, [], _∷_, _++_}
 use mathlib.Core.Bool.{false}
 use Prim.Native.Nat.{ℕ, zero, suc, _+_, _-_, _*_, _<_}
 use lib.ListN.{length, drop}
-use Rattle.definitions.specs.Reply.{told}
-use Rattle.definitions.specs.Bytes.{u32At, u64At, idAt, bit}
+use Rattle.definitions.specs.Bytes.{u64At, idAt, bit}
 use Rattle.definitions.specs.Header.{headerIn}
 use Rattle.definitions.specs.DataList.{DataList, listIn}
-use Rattle.definitions.specs.Chain.{Block, idDT, total, joined, fileLimit, dataLimit, listLimit, fragmentLimit, recordLimit}
-use Rattle.definitions.specs.Accepted.{Accepted}
-use Rattle.definitions.specs.Channel.{Channel}
-use Rattle.definitions.specs.Payload.{idSD}
+use Rattle.definitions.specs.Chain.{Block, total, dataLimit, listLimit, fragmentLimit}
 use Rattle.theorems.specs.Causes.{Not}
 use Rattle.theorems.specs.Refused.{Cause, refused, _orElse_, firstOf, provided}
 use Rattle.theorems.specs.BlockCauses.{listRefused}
@@ -131,39 +127,3 @@ abbrev pub chainRefused : List ℕ → List ℕ → ℕ → Cause
 chainRefused id f start =
     firstOf listLimit (λ k. provided (HasList f start k) (partRefused id f start (addressOf f start k) (blocksBefore f start k)))
     orElse refused 8 0 (HasList f start listLimit)
-
--- ---- the joined data, and a record of it
-
-abbrev pub lengthRefused : List ℕ → ℕ → Cause
-lengthRefused f start = refused 7 0 (fileLimit < length f) orElse chainRefused idDT f start
-
--- not from 1 to 16,384, or more than the buffer holds
-abbrev pub BadSize : ℕ → ℕ → Type 0
-BadSize size room = (size ≡ 0) ⊎ (recordLimit < size) ⊎ (room < size)
-
--- P holds of the joined data of an accepted chain
-abbrev pub JoinedSo : List ℕ → List ℕ → ℕ → (List ℕ → Type 0) → Type 0
-JoinedSo id f start P = (blocks : List Block) × (Accepted id f start blocks × P (joined f blocks))
-
-abbrev pub recordRefused : List ℕ → ℕ → ℕ → ℕ → List ℕ → Cause
-recordRefused f start k size out =
-    refused 15 0 (BadSize size (length out))
-    orElse lengthRefused f start  -- 7, and the chain's own
-    orElse refused 16 0 (JoinedSo idDT f start (λ j. length j < k * size + size))  -- the data ends before record k does
-
--- ---- the payload of a record
-
--- where the record s says that it is
-abbrev pub positionIn : List ℕ → ℕ → Channel → ℕ
-positionIn s idSize c = u64At s (idSize + c .byteOffset)
-
--- the data of the chain at the data link ends before so many bytes
-abbrev pub EndsBefore : List ℕ → Channel → (List ℕ → ℕ) → Type 0
-EndsBefore f c end = JoinedSo idSD f (c .dataLink) (λ j. length j < end j)
-
-abbrev pub payloadRefused : List ℕ → List ℕ → ℕ → Channel → Cause
-payloadRefused f s idSize c =
-    refused 21 (told (idSize + c .byteOffset + 8)) (length s < idSize + c .byteOffset + 8)  -- the record ends before the position does
-    orElse chainRefused idSD f (c .dataLink)
-    orElse refused 23 0 (EndsBefore f c (λ j. positionIn s idSize c + 4))  -- the data before the length
-    orElse refused 23 0 (EndsBefore f c (λ j. positionIn s idSize c + 4 + u32At j (positionIn s idSize c)))  -- or before the payload

@@ -7,6 +7,7 @@ pub mod Causes
 pub mod Refused
 pub mod BlockCauses
 pub mod ChainCauses
+pub mod RecordCauses
 pub mod PayloadEnds
 pub mod OverlapEnds
 pub mod WrittenValue

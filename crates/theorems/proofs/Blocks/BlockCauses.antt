@@ -57,7 +57,7 @@ module _ (s : List ℕ) where
 
 module _ (out : List ℕ) where
   -- n bytes are written
-  room-refused : {A : Type 0} (n : ℕ) (bytes : List ℕ) (a : A) → length bytes ≡ n → RefusedExactly (noRoom out n) (writing out bytes a .reply)
+  pub room-refused : {A : Type 0} (n : ℕ) (bytes : List ℕ) (a : A) → length bytes ≡ n → RefusedExactly (noRoom out n) (writing out bytes a .reply)
   room-refused n bytes a e =
       subst (λ (k : ℕ). RefusedExactly (noRoom out k) (writing out bytes a .reply)) e
       (tested-lent (ltb (length out) (length bytes)) 6 (told (length bytes)) out _

@@ -76,19 +76,23 @@ module _ {A : Type 0} where
   pub as-is : {c : Cause} {r q : Reply A} → r ≡ q → RefusedExactly c q → RefusedExactly c r
   as-is {c = c} e h = subst (RefusedExactly c) (sym e) h
 
-  -- a test, and what comes behind it
-  pub tested : {P : Type 0} {c : Cause} (b : Bool) (n t : ℕ) (r : Reply A) → Tests P b → RefusedExactly c r
+  -- a test, and what comes behind it, where it found nothing
+  pub tested-else : {P : Type 0} {c : Cause} (b : Bool) (n t : ℕ) (r : Reply A) → Tests P b → (b ≡ false → RefusedExactly c r)
       → RefusedExactly (refused n t P orElse c) (if b then refusal n t else r)
   unfolding refused _orElse_
-  tested true n t r p h = record {
+  tested-else true n t r p h = record {
     given = λ m u. ⊎-elim (λ x. rw (x .1, x .2)) (λ x. absurd (x .0 n t (p .holds refl, refl, refl)));
     only = λ m u e. inl (p .holds refl, cc, cc);
   }
-  tested false n t r p h =
+  tested-else false n t r p h =
       let none : Absent (refused n t _) = λ m u x. true≢false (sym (p .shows (x .0))) in record {
-        given = λ m u. ⊎-elim (λ x. absurd (none m u x)) (λ x. h .given m u (x .1));
-        only = λ m u e. inr (none, h .only m u e);
+        given = λ m u. ⊎-elim (λ x. absurd (none m u x)) (λ x. h refl .given m u (x .1));
+        only = λ m u e. inr (none, h refl .only m u e);
       }
+
+  pub tested : {P : Type 0} {c : Cause} (b : Bool) (n t : ℕ) (r : Reply A) → Tests P b → RefusedExactly c r
+      → RefusedExactly (refused n t P orElse c) (if b then refusal n t else r)
+  tested b n t r p h = tested-else b n t r p (λ none. h)
 
   -- the last test
   pub last-tested : {P : Type 0} (b : Bool) (n t : ℕ) (a : A) → Tests P b → RefusedExactly (refused n t P) (if b then refusal n t else answer a)
@@ -199,11 +203,14 @@ module _ (W c : ℕ → Cause) (count : ℕ) (step : (i : ℕ) → i < count →
 
 -- ---- beside a buffer
 
-module _ {A : Type 0} where
-  pub tested-lent : {c : Cause} (b : Bool) (n t : ℕ) (out : List ℕ) (o : Outcome A) → RefusedExactly c (if b then refusal n t else o .reply)
-      → RefusedExactly c (if_then_else_ {A = Outcome A} b (record { reply = refusal n t; buffer = out }) o .reply)
-  tested-lent true n t out o h = h
-  tested-lent false n t out o h = h
+-- a part of what is chosen is chosen from the parts
+pub chosen : {A B : Type 0} (part : A → B) (b : Bool) (x y : A) → part (if b then x else y) ≡ (if b then part x else part y)
+chosen part true x y = refl
+chosen part false x y = refl
+
+pub tested-lent : {A : Type 0} {c : Cause} (b : Bool) (n t : ℕ) (out : List ℕ) (o : Outcome A) → RefusedExactly c (if b then refusal n t else o .reply)
+    → RefusedExactly c (if_then_else_ {A = Outcome A} b (record { reply = refusal n t; buffer = out }) o .reply)
+tested-lent {A} b n t out o h = as-is (chosen (λ (x : Outcome A). x .reply) b _ o) h
 
 pub going-on-lent : {A B : Type 0} {c : Cause} (r : Reply A) (g : A → Outcome B) (out : List ℕ) → RefusedExactly c (andThen r (λ a. g a .reply))
     → RefusedExactly c (onAnswer r g out .reply)
