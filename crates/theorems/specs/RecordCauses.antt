@@ -73,10 +73,14 @@ ofPayload f s idSize c d n t = (payload : List ℕ) × ((payloadOf (joinedOf idS
 abbrev pub TooFewBytes : Channel → List ℕ → Type 0
 TooFewBytes c payload = (isNumber (kindOf (c .dataType)) ≡ true) × (length payload < 8)
 
+-- in the record s: its payload; then the room for that, and the bytes of a number
+abbrev pub payloadValueRefused : List ℕ → List ℕ → ℕ → Channel → List ℕ → Cause
+payloadValueRefused f s idSize c room =
+    payloadRefused f s idSize c
+    orElse ofPayload f s idSize c (λ payload. noRoom room (length payload) orElse refused 21 8 (TooFewBytes c payload))
+
 abbrev pub recordPayloadRefused : List ℕ → ℕ → ℕ → ℕ → List ℕ → ℕ → Channel → List ℕ → Cause
 recordPayloadRefused f start k size out idSize c room =
     refused 35 0 (Not (Positioned c))  -- no channel whose field is a position
     orElse recordRefused f start k size out
-    orElse ofRecord f start k size out (λ s.
-    payloadRefused f s idSize c
-    orElse ofPayload f s idSize c (λ payload. noRoom room (length payload) orElse refused 21 8 (TooFewBytes c payload)))
+    orElse ofRecord f start k size out (λ s. payloadValueRefused f s idSize c room)

@@ -19,7 +19,7 @@ use Rattle.theorems.specs.Causes.{Not}
 use Rattle.theorems.specs.Refused.{Cause, refused, _orElse_, RefusedExactly}
 use Rattle.theorems.specs.BlockCauses.{noRoom}
 use Rattle.theorems.specs.ChainCauses.{chainRefused}
-use Rattle.theorems.specs.RecordCauses.{recordRefused, ofRecord, positionIn, payloadRefused, ofPayload, TooFewBytes, recordPayloadRefused}
+use Rattle.theorems.specs.RecordCauses.{recordRefused, ofRecord, positionIn, payloadRefused, ofPayload, TooFewBytes, payloadValueRefused, recordPayloadRefused}
 use Rattle.theorems.proofs.Chains.ChainCauses.{chain-refused}
 use Rattle.theorems.proofs.Records.RecordCauses.{tests-joined, in-record}
 use Rattle.theorems.proofs.Blocks.BlockCauses.{room-refused}
@@ -92,7 +92,7 @@ module _ (f : List ℕ) (g : Group) (c : Channel) (room : List ℕ) (p : Positio
   stored-then s (answer payload) = refl
   stored-then s (refusal n t) = refl
 
-  found-refused : (s : List ℕ) → RefusedExactly (payloadRefused f s (g .idSize) c orElse ofPayload f s (g .idSize) c storedCause) (valueIn s)
+  found-refused : (s : List ℕ) → RefusedExactly (payloadValueRefused f s (g .idSize) c room) (valueIn s)
   unfolding ofPayload
   found-refused s =
       as-is (stored-then s (toldIn s))
@@ -108,7 +108,7 @@ module _ (f : List ℕ) (g : Group) (c : Channel) (room : List ℕ) (p : Positio
   fetch-then s (refusal n t) = refl
 
   behind-refused : (start k size : ℕ) (out : List ℕ)
-      → RefusedExactly (recordRefused f start k size out orElse ofRecord f start k size out (λ s. payloadRefused f s (g .idSize) c orElse ofPayload f s (g .idSize) c storedCause))
+      → RefusedExactly (recordRefused f start k size out orElse ofRecord f start k size out (λ s. payloadValueRefused f s (g .idSize) c room))
       (payloadBehind (joinedOf idSD f (c .dataLink)) size g c (fetched f start k size out) room .reply)
   behind-refused start k size out =
       as-is (fetch-then (take size (fetched f start k size out .buffer)) (fetched f start k size out .reply))
