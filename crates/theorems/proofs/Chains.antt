@@ -2,6 +2,6 @@
 pub mod BlocksStand
 pub mod ListsAlike
 pub mod AcceptedChains
-pub mod FoundByLength
 pub mod ListCauses
 pub mod ChainCauses
+pub mod FoundByLength
