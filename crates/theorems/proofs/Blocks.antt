@@ -1,4 +1,4 @@
--- Headers, data lists and channel blocks: when they are read, and both round trips.
+-- Headers, data lists and channel blocks: when they are read, why they are refused, and both round trips.
 pub mod HeaderAnswers
 pub mod HeaderRoundTrip
 pub mod ListAnswers
@@ -11,3 +11,5 @@ pub mod ChannelReadWritten
 pub mod RoundTripsInBuffers
 pub mod RoundTripsByCalls
 pub mod RoundTripsToC
+pub mod BlockCauses
+pub mod BlockCausesByCalls

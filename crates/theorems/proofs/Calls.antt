@@ -1,4 +1,5 @@
--- About every call: no second reply, what is left of a lent buffer, when it answers, which numbers its refusals have, what C is told.
+-- About every call: no second reply, what is left of a lent buffer, when it answers, which numbers its refusals have, what C is told,
+-- and what tests in turn refuse.
 pub mod NoSecondReply
 pub mod NoSecondReplyToC
 pub mod LeftAlone
@@ -9,3 +10,4 @@ pub mod AnswersByCalls
 pub mod AnswersToC
 pub mod RefusalNumbers
 pub mod ToldToC
+pub mod TestsInTurn

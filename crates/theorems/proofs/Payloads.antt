@@ -4,3 +4,5 @@ pub mod PayloadAnswers
 pub mod PayloadsByCalls
 pub mod PayloadsToC
 pub mod TwoFilesPayloads
+pub mod PayloadCauses
+pub mod PayloadCausesByCalls

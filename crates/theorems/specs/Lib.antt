@@ -3,6 +3,10 @@ pub mod Sole
 pub mod Clauses
 pub mod ClausesToC
 pub mod Exactly
+pub mod Refused
+pub mod BlockCauses
+pub mod ChainCauses
+pub mod RecordCauses
 pub mod Causes
 pub mod PayloadEnds
 pub mod OverlapEnds

@@ -25,7 +25,7 @@ use Rattle.replies.proofs.ToldToC.{valueReplyAgain, validValueAgain}
 use Rattle.mf4.specs.Clauses.{Slice}
 use Rattle.theorems.specs.Clauses.{ReadsValue, ReadsValidValue, ChecksValidity, ReadsDouble}
 use Rattle.theorems.specs.ClausesToC.{ReadsValueC, ReadsValidValueC, ChecksValidityC, ReadsDoubleC}
-use Rattle.theorems.proofs.Fields.Causes.{refused-made, made-refused}
+use Rattle.theorems.proofs.Calls.TestsInTurn.{refused-made, made-refused}
 use Rattle.theorems.proofs.Calls.ToldToC.{mf4-decode-value-told, mf4-decode-valid-value-told}
 use Rattle.replies.specs.Replies.{flagC}
 use Rattle.replies.specs.Values.{channelGiven, groupGiven, valueC, validValueC}
