@@ -81,7 +81,7 @@ shown-again type count kind number l = one (eqb kind 1) refl
     one false e h = two (eqb kind 2) refl h
 
 -- and a number that is shown is given again
-given-again : (kind number at n : ℕ) → 0 < kind → kind ≤ 3 → valueAgain kind number at n ≡ valueGiven (givenBy kind number)
+given-again : (kind number at n : ℕ) → 0 < kind → kind ≤ 3 → valueAgain kind number at n ≡ answer (valueGiven (givenBy kind number))
 given-again zero number at n some few = let no-kind : ⊥ = omega arith in absurd no-kind
 given-again (suc zero) number at n some few = refl
 given-again (suc (suc zero)) number at n some few = refl
@@ -181,11 +181,11 @@ module _ (κs : Lfts 1) (idSize : ℕ) (channel : Mf4Channel) (value : Mf4Number
         → (ρs : Lfts 1) (z : Mf4ValueReply) → ReadsValueC ρs bytes idSize channel z → z .reply ≡ 0 → 0 < z .kind → z .kind ≤ 3
         → value .kind ≡ z .kind → value .number ≡ z .number → (y .reply ≡ 0) × (after ≡ bytes .now)
     decode-then-write b fixed comes ρs z q answered some few ek en =
-        let told : valueOf (bytes .now) idSize (channelGiven channel) ≡ answer (valueAgain (z .kind) (z .number) (z .at) (z .length)) =
+        let told : valueOf (bytes .now) idSize (channelGiven channel) ≡ valueAgain (z .kind) (z .number) (z .at) (z .length) =
         sym (mf4-decode-value-told ρs bytes idSize channel z q)
-        ∙ ap (λ (r : ℕ). if eqb r 0 then answer (valueAgain (z .kind) (z .number) (z .at) (z .length)) else refusal r (z .told)) answered in
+        ∙ ap (λ (r : ℕ). if eqb r 0 then valueAgain (z .kind) (z .number) (z .at) (z .length) else refusal r (z .told)) answered in
         let is-number : IsNumber (numberGiven value) = subst (λ (k : ℕ). IsNumber (givenBy k (value .number))) (sym ek) (given-number (z .kind) (value .number) some few) in
         let same = decoded-written (bytes .now) idSize (channelGiven channel) (numberGiven value) b fixed is-number
-        (told ∙ ap answer (given-again (z .kind) (z .number) (z .at) (z .length) some few) ∙ ap₂ (λ (k n : ℕ). answer (valueGiven (givenBy k n))) (sym ek) (sym en)) comes in
+        (told ∙ given-again (z .kind) (z .number) (z .at) (z .length) some few ∙ ap₂ (λ (k n : ℕ). answer (valueGiven (givenBy k n))) (sym ek) (sym en)) comes in
         let after-is : returned y after ≡ returned (doneC (answer tt)) (bytes .now) = p ∙ ap (returnedBy doneC) same in
         (ap (λ (x : Returned Mf4DoneReply). x .result .reply) after-is, ap (λ (x : Returned Mf4DoneReply). x .buffer) after-is)
