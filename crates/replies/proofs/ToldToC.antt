@@ -1,15 +1,15 @@
 -- What C is told is all that the definition gives: from each struct the definition's reply comes back.
-use mathlib.Core.Path.{_≡_, refl, sym, ap, ap₂}
+use mathlib.Core.Path.{_≡_, refl, sym, ap, ap₂, subst, _∙_}
 use mathlib.Core.Bool.{Bool, true, false}
 use mathlib.Core.List.{[], _∷_}
 use Prim.Native.Nat.{ℕ, suc, _-_, _^_, _≤_, _<_}
 use native.Mathlib.Omega.{arith}
 use lib.IntN.{pos, negsuc}
 use lib.ListN.{getD}
-use lib.Dec.{eqb}
+use lib.Dec.{eqb, ltb}
 use lib.Ieee.{binary64, ofBits}
 use borrow.Author.Tests.{lt-ltb, le-ltb, ne-eqb}
-use Rattle.definitions.specs.Reply.{Reply, answer, refusal, if_then_else_, andThen}
+use Rattle.definitions.specs.Reply.{Reply, answer, refusal, if_then_else_}
 use Rattle.definitions.specs.Bytes.{twosComplement}
 use Rattle.definitions.specs.Unicode.{TextWritten}
 use Rattle.definitions.specs.Header.{Header}
@@ -188,15 +188,15 @@ Reversible (sample at n) = Unit {0}
 Reversible (stream at n) = Unit {0}
 Reversible unknownValue = Unit {0}
 
--- no call replies this: a refusal has a number above 0
-abbrev noReply : {A : Type 0} → Reply A
-noReply = refusal 0 0
-
--- the value that a struct's fields say, by its kind: 1 to 8, and no other is told
-abbrev pub valueAgain : ℕ → ℕ → ℕ → ℕ → Reply Value
+-- the value of a struct's fields, by its kind
+abbrev pub valueAgain : ℕ → ℕ → ℕ → ℕ → Value
 valueAgain kind number at n =
-    getD (noReply ∷ answer (unsigned number) ∷ answer (signed (twosComplement 64 number)) ∷ answer (doubleValue number)
-    ∷ answer (text at n) ∷ answer (bytes at n) ∷ answer (sample at n) ∷ answer (stream at n) ∷ answer unknownValue ∷ []) kind noReply
+    getD (unknownValue ∷ unsigned number ∷ signed (twosComplement 64 number) ∷ doubleValue number ∷ text at n
+    ∷ bytes at n ∷ sample at n ∷ stream at n ∷ []) kind unknownValue
+
+-- where the kind is one of them, 1 to 8; else nothing comes back, since no call refuses with the number 0
+abbrev pub ofKind : {A : Type 0} → ℕ → A → Reply A
+ofKind kind a = if ltb 0 kind then (if ltb kind 9 then answer a else refusal 0 0) else refusal 0 0
 
 word-back-pos : (n : ℕ) → n < 2 ^ 63 → twosComplement 64 (wordOf (pos n)) ≡ pos n
 word-back-pos n h = rw (lt-ltb n (2 ^ 63) h)
@@ -208,32 +208,57 @@ word-back-neg k h =
     rw (le-ltb (18446744073709551615 - k) (2 ^ 63) high, same)
 
 pub value-back : (v : Value) → Reversible v
-    → valueAgain (decodedC v .kind) (decodedC v .number) (decodedC v .at) (decodedC v .length) ≡ answer v
+    → valueAgain (decodedC v .kind) (decodedC v .number) (decodedC v .at) (decodedC v .length) ≡ v
 value-back (unsigned n) h = refl
-value-back (signed (pos n)) h = ap (λ z. answer (signed z)) (word-back-pos n h)
-value-back (signed (negsuc n)) h = ap (λ z. answer (signed z)) (word-back-neg n h)
-value-back (double x pattern) h = ap (λ y. answer (double y pattern)) (sym h)
+value-back (signed (pos n)) h = ap signed (word-back-pos n h)
+value-back (signed (negsuc n)) h = ap signed (word-back-neg n h)
+value-back (double x pattern) h = ap (λ y. double y pattern) (sym h)
 value-back (text at n) h = refl
 value-back (bytes at n) h = refl
 value-back (sample at n) h = refl
 value-back (stream at n) h = refl
 value-back unknownValue h = refl
 
+kind-told : {A : Type 0} (v : Value) (a : A) → ofKind (decodedC v .kind) a ≡ answer a
+kind-told (unsigned n) a = refl
+kind-told (signed z) a = refl
+kind-told (double x pattern) a = refl
+kind-told (text at n) a = refl
+kind-told (bytes at n) a = refl
+kind-told (sample at n) a = refl
+kind-told (stream at n) a = refl
+kind-told unknownValue a = refl
+
+-- what a call replied is of a kind
+pub of-kind-told : {A : Type 0} (P : A → Type 0) (n t kind : ℕ) (a : A) (r : Reply A) → Tellable P r
+    → again n t (ofKind kind a) ≡ r → again n t (answer a) ≡ r
+of-kind-told P n t kind a r h q = go (eqb n 0) (ltb 0 kind) (ltb kind 9) q
+  where
+    nothing : refusal 0 0 ≡ r → answer a ≡ r
+    nothing e = let no : 0 < 0 = subst (Tellable P) (sym e) h in let none : ⊥ = omega (arith, no) in absurd none
+
+    go : (zero some few : Bool) → (if zero then (if some then (if few then answer a else refusal 0 0) else refusal 0 0) else refusal n t) ≡ r
+        → (if zero then answer a else refusal n t) ≡ r
+    go true true true e = e
+    go true true false e = nothing e
+    go true false few e = nothing e
+    go false some few e = e
+
 abbrev pub valueReplyAgain : Mf4ValueReply → Reply Value
-valueReplyAgain s = again (s .reply) (s .told) (valueAgain (s .kind) (s .number) (s .at) (s .length))
+valueReplyAgain s = again (s .reply) (s .told) (ofKind (s .kind) (valueAgain (s .kind) (s .number) (s .at) (s .length)))
 
 pub value-told : (r : Reply Value) → Tellable Reversible r → valueReplyAgain (valueC r) ≡ r
-value-told = told-by Reversible valueC valueReplyAgain value-back (again-refused _)
+value-told = told-by Reversible valueC valueReplyAgain (λ v h. kind-told v _ ∙ ap answer (value-back v h)) (again-refused _)
 
 abbrev pub validValueAgain : Mf4ValidValueReply → Reply ValidValue
 validValueAgain s =
     again (s .reply) (s .told)
-    (andThen (valueAgain (s .kind) (s .number) (s .at) (s .length)) (λ v. answer (record { value = v; valid = eqb (s .«is_valid») 1 })))
+    (ofKind (s .kind) (record { value = valueAgain (s .kind) (s .number) (s .at) (s .length); valid = eqb (s .«is_valid») 1 }))
 
 pub valid-value-told : (r : Reply ValidValue) → Tellable (λ v. Reversible (v .value)) r → validValueAgain (validValueC r) ≡ r
 valid-value-told =
     told-by (λ v. Reversible (v .value)) validValueC validValueAgain
-    (λ v h. ap₂ (λ (r : Reply Value) (b : Bool). andThen r (λ x. answer (record { value = x; valid = b }))) (value-back (v .value) h) (flag-back (v .valid)))
+    (λ v h. kind-told (v .value) _ ∙ ap₂ (λ (x : Value) (b : Bool). answer (record { value = x; valid = b })) (value-back (v .value) h) (flag-back (v .valid)))
     (again-refused _)
 
 -- ---- payloads
@@ -241,12 +266,14 @@ valid-value-told =
 abbrev pub payloadAgain : Mf4PayloadReply → Reply PayloadValue
 payloadAgain s =
     again (s .reply) (s .told)
-    (andThen (valueAgain (s .kind) (s .number) (s .at) (s .length)) (λ v. answer (record { value = v; valid = eqb (s .«is_valid») 1; size = s .«payload_length» })))
+    (ofKind (s .kind)
+    (record { value = valueAgain (s .kind) (s .number) (s .at) (s .length); valid = eqb (s .«is_valid») 1; size = s .«payload_length» }))
 
 pub payload-told : (r : Reply PayloadValue) → Tellable (λ v. Reversible (v .value)) r → payloadAgain (payloadC r) ≡ r
 payload-told =
     told-by (λ v. Reversible (v .value)) payloadC payloadAgain
-    (λ v h. ap₂ (λ (r : Reply Value) (b : Bool). andThen r (λ x. answer (record { value = x; valid = b; size = v .size }))) (value-back (v .value) h) (flag-back (v .valid)))
+    (λ v h. kind-told (v .value) _
+    ∙ ap₂ (λ (x : Value) (b : Bool). answer (record { value = x; valid = b; size = v .size })) (value-back (v .value) h) (flag-back (v .valid)))
     (again-refused _)
 
 -- ---- overlaps
