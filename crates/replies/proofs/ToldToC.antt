@@ -1,12 +1,12 @@
 -- What C is told is all that the definition gives: from each struct the definition's reply comes back.
-use mathlib.Core.Path.{_≡_, refl, sym, ap, ap₂}
+use mathlib.Core.Path.{_≡_, refl, sym, ap, ap₂, subst, _∙_}
 use mathlib.Core.Bool.{Bool, true, false}
 use mathlib.Core.List.{[], _∷_}
 use Prim.Native.Nat.{ℕ, suc, _-_, _^_, _≤_, _<_}
 use native.Mathlib.Omega.{arith}
 use lib.IntN.{pos, negsuc}
 use lib.ListN.{getD}
-use lib.Dec.{eqb}
+use lib.Dec.{eqb, ltb}
 use lib.Ieee.{binary64, ofBits}
 use borrow.Author.Tests.{lt-ltb, le-ltb, ne-eqb}
 use Rattle.definitions.specs.Reply.{Reply, answer, refusal, if_then_else_}
@@ -45,12 +45,12 @@ Tellable P (refusal n t) = 0 < n
 abbrev pub Any : {A : Type 0} → A → Type 0
 Any a = Unit {0}
 
--- a reply of 0 is an answer
-abbrev again : {A : Type 0} → ℕ → ℕ → A → Reply A
-again reply told a = if eqb reply 0 then answer a else refusal reply told
+-- a reply of 0 is what the other fields say
+abbrev again : {A : Type 0} → ℕ → ℕ → Reply A → Reply A
+again reply told fields = if eqb reply 0 then fields else refusal reply told
 
-again-refused : {A : Type 0} (a : A) (n t : ℕ) → 0 < n → again n t a ≡ refusal n t
-again-refused a n t h =
+again-refused : {A : Type 0} (fields : Reply A) (n t : ℕ) → 0 < n → again n t fields ≡ refusal n t
+again-refused fields n t h =
     let no : n ≡ 0 → ⊥ = λ e. omega arith in
     rw (ne-eqb _ _ no)
 
@@ -63,19 +63,19 @@ told-by P toC back answered refused (refusal n t) h = refused n t h
 -- ---- bytes written, and data
 
 abbrev pub writtenAgain : Mf4WrittenReply → Reply ℕ
-writtenAgain s = again (s .reply) (s .told) (s .count)
+writtenAgain s = again (s .reply) (s .told) (answer (s .count))
 
 pub written-told : (r : Reply ℕ) → Tellable Any r → writtenAgain (writtenC r) ≡ r
 written-told = told-by Any writtenC writtenAgain (λ a h. refl) (again-refused _)
 
 abbrev pub lengthAgain : Mf4LengthReply → Reply ℕ
-lengthAgain s = again (s .reply) (s .told) (s .length)
+lengthAgain s = again (s .reply) (s .told) (answer (s .length))
 
 pub length-told : (r : Reply ℕ) → Tellable Any r → lengthAgain (lengthC r) ≡ r
 length-told = told-by Any lengthC lengthAgain (λ a h. refl) (again-refused _)
 
 abbrev pub doneAgain : Mf4DoneReply → Reply (Unit {0})
-doneAgain s = again (s .reply) (s .told) tt
+doneAgain s = again (s .reply) (s .told) (answer tt)
 
 pub done-told : (r : Reply (Unit {0})) → Tellable Any r → doneAgain (doneC r) ≡ r
 done-told = told-by Any doneC doneAgain (λ a h. refl) (again-refused _)
@@ -83,7 +83,7 @@ done-told = told-by Any doneC doneAgain (λ a h. refl) (again-refused _)
 -- ---- blocks
 
 abbrev pub headerAgain : Mf4HeaderReply → Reply Header
-headerAgain s = again (s .reply) (s .told) (headerGiven (s .header))
+headerAgain s = again (s .reply) (s .told) (answer (headerGiven (s .header)))
 
 pub header-told : (r : Reply Header) → Tellable Any r → headerAgain (headerC r) ≡ r
 header-told = told-by Any headerC headerAgain (λ a h. refl) (again-refused _)
@@ -91,7 +91,7 @@ header-told = told-by Any headerC headerAgain (λ a h. refl) (again-refused _)
 abbrev pub listAgain : Mf4ListReply → Reply DataList
 listAgain s =
     again (s .reply) (s .told)
-    (record {
+    (answer (record {
       header = headerGiven (s .header);
       next = s .«next_addr»;
       linksAt = s .«data_links_at»;
@@ -101,7 +101,7 @@ listAgain s =
       count = s .«data_block_count»;
       restAt = s .«rest_at»;
       rest = s .«rest_count»;
-    })
+    }))
 
 pub list-told : (r : Reply DataList) → Tellable Any r → listAgain (listC r) ≡ r
 list-told = told-by Any listC listAgain (λ a h. refl) (again-refused _)
@@ -156,7 +156,7 @@ block-back b own = λ i. record {
 }
 
 abbrev pub channelAgain : Mf4ChannelReply → Reply ChannelBlock
-channelAgain s = again (s .reply) (s .told) (blockGiven (s .block))
+channelAgain s = again (s .reply) (s .told) (answer (blockGiven (s .block)))
 
 pub channel-told : (r : Reply ChannelBlock) → Tellable OwnType r → channelAgain (channelC r) ≡ r
 channel-told = told-by OwnType channelC channelAgain (λ b h. ap answer (block-back b h)) (again-refused _)
@@ -168,7 +168,7 @@ flag-back true = refl
 flag-back false = refl
 
 abbrev pub textAgain : Mf4TextReply → Reply TextWritten
-textAgain s = again (s .reply) (s .told) (record { count = s .count; damaged = eqb (s .damaged) 1 })
+textAgain s = again (s .reply) (s .told) (answer (record { count = s .count; damaged = eqb (s .damaged) 1 }))
 
 pub text-told : (r : Reply TextWritten) → Tellable Any r → textAgain (textC r) ≡ r
 text-told =
@@ -194,6 +194,10 @@ valueAgain kind number at n =
     getD (unknownValue ∷ unsigned number ∷ signed (twosComplement 64 number) ∷ doubleValue number ∷ text at n
     ∷ bytes at n ∷ sample at n ∷ stream at n ∷ []) kind unknownValue
 
+-- where the kind is one of them, 1 to 8; else nothing comes back, since no call refuses with the number 0
+abbrev pub ofKind : {A : Type 0} → ℕ → A → Reply A
+ofKind kind a = if ltb 0 kind then (if ltb kind 9 then answer a else refusal 0 0) else refusal 0 0
+
 word-back-pos : (n : ℕ) → n < 2 ^ 63 → twosComplement 64 (wordOf (pos n)) ≡ pos n
 word-back-pos n h = rw (lt-ltb n (2 ^ 63) h)
 
@@ -215,21 +219,46 @@ value-back (sample at n) h = refl
 value-back (stream at n) h = refl
 value-back unknownValue h = refl
 
+kind-told : {A : Type 0} (v : Value) (a : A) → ofKind (decodedC v .kind) a ≡ answer a
+kind-told (unsigned n) a = refl
+kind-told (signed z) a = refl
+kind-told (double x pattern) a = refl
+kind-told (text at n) a = refl
+kind-told (bytes at n) a = refl
+kind-told (sample at n) a = refl
+kind-told (stream at n) a = refl
+kind-told unknownValue a = refl
+
+-- what a call replied is of a kind
+pub of-kind-told : {A : Type 0} (P : A → Type 0) (n t kind : ℕ) (a : A) (r : Reply A) → Tellable P r
+    → again n t (ofKind kind a) ≡ r → again n t (answer a) ≡ r
+of-kind-told P n t kind a r h q = go (eqb n 0) (ltb 0 kind) (ltb kind 9) q
+  where
+    nothing : refusal 0 0 ≡ r → answer a ≡ r
+    nothing e = let no : 0 < 0 = subst (Tellable P) (sym e) h in let none : ⊥ = omega (arith, no) in absurd none
+
+    go : (zero some few : Bool) → (if zero then (if some then (if few then answer a else refusal 0 0) else refusal 0 0) else refusal n t) ≡ r
+        → (if zero then answer a else refusal n t) ≡ r
+    go true true true e = e
+    go true true false e = nothing e
+    go true false few e = nothing e
+    go false some few e = e
+
 abbrev pub valueReplyAgain : Mf4ValueReply → Reply Value
-valueReplyAgain s = again (s .reply) (s .told) (valueAgain (s .kind) (s .number) (s .at) (s .length))
+valueReplyAgain s = again (s .reply) (s .told) (ofKind (s .kind) (valueAgain (s .kind) (s .number) (s .at) (s .length)))
 
 pub value-told : (r : Reply Value) → Tellable Reversible r → valueReplyAgain (valueC r) ≡ r
-value-told = told-by Reversible valueC valueReplyAgain (λ v h. ap answer (value-back v h)) (again-refused _)
+value-told = told-by Reversible valueC valueReplyAgain (λ v h. kind-told v _ ∙ ap answer (value-back v h)) (again-refused _)
 
 abbrev pub validValueAgain : Mf4ValidValueReply → Reply ValidValue
 validValueAgain s =
     again (s .reply) (s .told)
-    (record { value = valueAgain (s .kind) (s .number) (s .at) (s .length); valid = eqb (s .«is_valid») 1 })
+    (ofKind (s .kind) (record { value = valueAgain (s .kind) (s .number) (s .at) (s .length); valid = eqb (s .«is_valid») 1 }))
 
 pub valid-value-told : (r : Reply ValidValue) → Tellable (λ v. Reversible (v .value)) r → validValueAgain (validValueC r) ≡ r
 valid-value-told =
     told-by (λ v. Reversible (v .value)) validValueC validValueAgain
-    (λ v h. ap₂ (λ (x : Value) (b : Bool). answer (record { value = x; valid = b })) (value-back (v .value) h) (flag-back (v .valid)))
+    (λ v h. kind-told (v .value) _ ∙ ap₂ (λ (x : Value) (b : Bool). answer (record { value = x; valid = b })) (value-back (v .value) h) (flag-back (v .valid)))
     (again-refused _)
 
 -- ---- payloads
@@ -237,18 +266,20 @@ valid-value-told =
 abbrev pub payloadAgain : Mf4PayloadReply → Reply PayloadValue
 payloadAgain s =
     again (s .reply) (s .told)
-    (record { value = valueAgain (s .kind) (s .number) (s .at) (s .length); valid = eqb (s .«is_valid») 1; size = s .«payload_length» })
+    (ofKind (s .kind)
+    (record { value = valueAgain (s .kind) (s .number) (s .at) (s .length); valid = eqb (s .«is_valid») 1; size = s .«payload_length» }))
 
 pub payload-told : (r : Reply PayloadValue) → Tellable (λ v. Reversible (v .value)) r → payloadAgain (payloadC r) ≡ r
 payload-told =
     told-by (λ v. Reversible (v .value)) payloadC payloadAgain
-    (λ v h. ap₂ (λ (x : Value) (b : Bool). answer (record { value = x; valid = b; size = v .size })) (value-back (v .value) h) (flag-back (v .valid)))
+    (λ v h. kind-told (v .value) _
+    ∙ ap₂ (λ (x : Value) (b : Bool). answer (record { value = x; valid = b; size = v .size })) (value-back (v .value) h) (flag-back (v .valid)))
     (again-refused _)
 
 -- ---- overlaps
 
 abbrev pub overlapAgain : Mf4OverlapReply → Reply Overlap
-overlapAgain s = again (s .reply) (s .told) (if eqb (s .found) 1 then pair (s .first) (s .second) else none)
+overlapAgain s = again (s .reply) (s .told) (answer (if eqb (s .found) 1 then pair (s .first) (s .second) else none))
 
 overlap-back : (o : Overlap) → Any o → overlapAgain (overlapC (answer o)) ≡ answer o
 overlap-back (pair i j) h = refl

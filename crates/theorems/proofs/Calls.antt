@@ -2,6 +2,7 @@
 -- and what tests in turn refuse.
 pub mod NoSecondReply
 pub mod NoSecondReplyToC
+pub mod NoSecondReplyOfReplies
 pub mod LeftAlone
 pub mod LeftAloneByCalls
 pub mod LeftAloneToC

@@ -102,7 +102,7 @@ pub value-tellable : (s : List ℕ) (idSize : ℕ) (c : Channel) → Tellable Re
 unfolding valueOf
 value-tellable s idSize c = by-tests s (startOf idSize c) (spanOf s c) c
 
-abbrev Judged : ValidValue → Type 0
+abbrev pub Judged : ValidValue → Type 0
 Judged v = Reversible (v .value)
 
 pub valid-value-tellable : (s : List ℕ) (g : Group) (c : Channel) → Tellable Judged (validValueOf s g c)
@@ -207,7 +207,7 @@ pub mf4-read-record-told : (κs : Lfts 2) (file : Slice) (start number size : �
 mf4-read-record-told κs file start number size out y after p =
     by-result doneC doneAgain p (done-told _ (of-blocks _ (fetched-numbered (file .now) start number size (out .now))))
 
-value-fetched-tellable : (f : List ℕ) (start k size : ℕ) (g : Group) (c : Channel) (out : List ℕ)
+pub value-fetched-tellable : (f : List ℕ) (start k size : ℕ) (g : Group) (c : Channel) (out : List ℕ)
     → Tellable Judged (valueFetched f start k size g c out .reply)
 unfolding valueFetched
 value-fetched-tellable f start k size g c out = go (fetched f start k size out .reply) (fetched-numbered f start k size out)

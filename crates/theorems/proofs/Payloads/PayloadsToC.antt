@@ -13,7 +13,7 @@ use Rattle.replies.specs.Values.{channelGiven, groupGiven, ReturnedBoth}
 use Rattle.replies.specs.declared.channel.Mf4Channel.{Mf4Channel}
 use Rattle.replies.specs.declared.group.Mf4Group.{Mf4Group}
 use Rattle.replies.specs.declared.payload.Mf4PayloadReply.{Mf4PayloadReply}
-use Rattle.replies.proofs.ToldToC.{Tellable, Reversible, payloadAgain, payload-told}
+use Rattle.replies.proofs.ToldToC.{Tellable, Reversible, of-kind-told, payloadAgain, payload-told}
 use Rattle.theorems.specs.ClausesToC.{ReadsPayloadC}
 use Rattle.theorems.specs.Exactly.{ExactlyZero, PayloadFetchable}
 use Rattle.theorems.specs.PayloadEnds.{PayloadEnds}
@@ -67,5 +67,7 @@ module _ (κs : Lfts 3) (file : Slice) (start number size : ℕ) (group : Mf4Gro
 
   pub record-payload-zero : ExactlyZero (PayloadFetchable (file .now) start number size (groupGiven group .idSize) (channelGiven channel) (out .now) (room .now)) (y .reply)
   record-payload-zero =
-      zero-exactly (y .reply) (y .told) _ _ mf4-record-payload-told
+      let told = of-kind-told Told (y .reply) (y .told) (y .kind) _ _
+      (payload-tellable (file .now) start number size (groupGiven group) (channelGiven channel) (out .now) (room .now)) mf4-record-payload-told in
+      zero-exactly (y .reply) (y .told) _ _ told
       (payload-exactly (file .now) start number size (groupGiven group) (channelGiven channel) (out .now) (room .now))

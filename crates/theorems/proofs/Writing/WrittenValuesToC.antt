@@ -21,7 +21,7 @@ use Rattle.encoder.specs.Meaning.{valueGiven}
 use Rattle.replies.specs.Replies.{Returned, returned, returnedBy, flagC, doneC}
 use Rattle.replies.specs.Values.{channelGiven, groupGiven, wordOf, numberC, decodedC, answerC, valueC}
 use Rattle.replies.specs.Stored.{givenBy, numberGiven}
-use Rattle.replies.proofs.ToldToC.{valueAgain}
+use Rattle.replies.proofs.ToldToC.{Reversible, valueAgain, of-kind-told}
 use Rattle.replies.specs.declared.channel.Mf4Channel.{Mf4Channel}
 use Rattle.replies.specs.declared.group.Mf4Group.{Mf4Group}
 use Rattle.replies.specs.declared.values.Mf4ValueReply.{Mf4ValueReply}
@@ -33,7 +33,7 @@ use Rattle.theorems.specs.Exactly.{ExactlyZero, Takes, Writable}
 use Rattle.theorems.specs.WrittenValue.{WrittenEnds, IsNumber, Sized, DecodesTo, SameOutside}
 use Rattle.theorems.proofs.Writing.WrittenEnds.{value-ends, written-exactly}
 use Rattle.theorems.proofs.Writing.WrittenValues.{written-decoded, outside-kept, decoded-written}
-use Rattle.theorems.proofs.Calls.ToldToC.{mf4-decode-value-told, mf4-write-value-told}
+use Rattle.theorems.proofs.Calls.ToldToC.{value-tellable, mf4-decode-value-told, mf4-write-value-told}
 use Rattle.theorems.proofs.Calls.AnswersToC.{zero-exactly}
 
 -- ---- what C gives, and what it is told
@@ -182,7 +182,7 @@ module _ (κs : Lfts 1) (idSize : ℕ) (channel : Mf4Channel) (value : Mf4Number
         → value .kind ≡ z .kind → value .number ≡ z .number → (y .reply ≡ 0) × (after ≡ bytes .now)
     decode-then-write b fixed comes ρs z q answered some few ek en =
         let told : valueOf (bytes .now) idSize (channelGiven channel) ≡ answer (valueAgain (z .kind) (z .number) (z .at) (z .length)) =
-        sym (mf4-decode-value-told ρs bytes idSize channel z q)
+        sym (of-kind-told Reversible (z .reply) (z .told) (z .kind) _ _ (value-tellable (bytes .now) idSize (channelGiven channel)) (mf4-decode-value-told ρs bytes idSize channel z q))
         ∙ ap (λ (r : ℕ). if eqb r 0 then answer (valueAgain (z .kind) (z .number) (z .at) (z .length)) else refusal r (z .told)) answered in
         let is-number : IsNumber (numberGiven value) = subst (λ (k : ℕ). IsNumber (givenBy k (value .number))) (sym ek) (given-number (z .kind) (value .number) some few) in
         let same = decoded-written (bytes .now) idSize (channelGiven channel) (numberGiven value) b fixed is-number
