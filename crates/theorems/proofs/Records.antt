@@ -1,3 +1,4 @@
--- Records of two files that join to the same bytes.
+-- Records of two files: such as join to the same bytes, and any two that hold a field alike.
 pub mod TwoFiles
 pub mod TwoFilesRead
+pub mod RecordsAlike
