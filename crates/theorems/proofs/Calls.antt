@@ -8,4 +8,6 @@ pub mod Answers
 pub mod AnswersByCalls
 pub mod AnswersToC
 pub mod RefusalNumbers
+pub mod RefusalNumbersByCalls
+pub mod RefusalNumbersToC
 pub mod ToldToC

@@ -1,4 +1,5 @@
 -- Records of two files: such as join to the same bytes, and any two that hold a field alike.
+pub mod FetchEnds
 pub mod TwoFiles
 pub mod TwoFilesRead
 pub mod RecordsAlike

@@ -4,6 +4,7 @@ pub mod Clauses
 pub mod ClausesToC
 pub mod Exactly
 pub mod Causes
+pub mod FetchEnds
 pub mod PayloadEnds
 pub mod OverlapEnds
 pub mod WrittenValue

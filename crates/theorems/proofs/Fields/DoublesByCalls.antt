@@ -2,13 +2,13 @@
 -- exactly, and of two fields the value no greater has a double no greater. Of the value and the double that the calls give of one
 -- field, about their own clauses.
 use mathlib.Core.Path.{_≡_, sym, ap, _∙_, subst}
-use mathlib.Core.Bool.{Bool, true, false}
+use mathlib.Core.Bool.{true, false}
 use mathlib.Core.List.{List}
 use Prim.Native.Nat.{ℕ, suc, _^_, _≤_}
 use contract.Lifetimes.{Lfts}
 use lib.IntN.{ℤ, pos, negsuc, natAbs}
 use lib.Signed.{_≤ℤ_}
-use lib.Ieee.{Float, binary64, le, ofBits}
+use lib.Ieee.{binary64, le, ofBits}
 use lib.Ieee.Exact.{HasValue}
 use Rattle.definitions.specs.Reply.{answer}
 use Rattle.definitions.specs.Ieee754.{doubleOf, Nearest}
