@@ -86,15 +86,22 @@ module _ (s : List ℕ) (at n : ℕ) (c : Channel) where
   unfolding decoded
   as-double = integer-types (λ d. doubleOf (integerIn (decoded d s at n c)) ≡ doubleIn (answer (decoded d s at n c))) (λ o. refl) (λ o. refl)
 
-pub nearest-double : (s : List ℕ) (idSize : ℕ) (c : Channel) (v : Value) → variableLength c ≡ false → isInteger (kindOf (c .dataType)) ≡ true
-    → valueOf s idSize c ≡ answer v → Nearest (isNegative (integerIn v)) (natAbs (integerIn v)) (recordDouble s idSize c)
-unfolding valueOf
-nearest-double s idSize c v fixed number e =
-    let at : ℕ = startOf idSize c in
-    let n : ℕ = spanOf s c in
-    let told = answered (kindOf (c .dataType)) at n s c v e in
-    let d : doubleOf (integerIn v) ≡ recordDouble s idSize c =
-    ap (λ (x : Value). doubleOf (integerIn x)) (sym (told .0)) ∙ as-double s at n c (c .dataType) number ∙ ap (λ (x : Value). doubleIn (answer x)) (told .0)
-    ∙ ap doubleIn (sym e) ∙ double-fixed s idSize c fixed in
-    let small : natAbs (integerIn v) < 2 ^ 64 = subst (λ (x : Value). natAbs (integerIn x) < 2 ^ 64) (told .0) (below s at n c (c .dataType) number (told .1)) in
-    subst (Nearest (isNegative (integerIn v)) (natAbs (integerIn v))) d (nearest-to (integerIn v) small)
+-- a fixed integer field with a value: its double is that of the integer, which a word holds
+module _ (s : List ℕ) (idSize : ℕ) (c : Channel) (v : Value) (fixed : variableLength c ≡ false) (number : isInteger (kindOf (c .dataType)) ≡ true)
+    (e : valueOf s idSize c ≡ answer v)
+  where
+    pub integer-double : doubleOf (integerIn v) ≡ recordDouble s idSize c
+    unfolding valueOf
+    integer-double =
+        let told = answered (kindOf (c .dataType)) (startOf idSize c) (spanOf s c) s c v e in
+        ap (λ (x : Value). doubleOf (integerIn x)) (sym (told .0)) ∙ as-double s (startOf idSize c) (spanOf s c) c (c .dataType) number
+        ∙ ap (λ (x : Value). doubleIn (answer x)) (told .0) ∙ ap doubleIn (sym e) ∙ double-fixed s idSize c fixed
+
+    integer-small : natAbs (integerIn v) < 2 ^ 64
+    unfolding valueOf
+    integer-small =
+        let told = answered (kindOf (c .dataType)) (startOf idSize c) (spanOf s c) s c v e in
+        subst (λ (x : Value). natAbs (integerIn x) < 2 ^ 64) (told .0) (below s (startOf idSize c) (spanOf s c) c (c .dataType) number (told .1))
+
+    pub nearest-double : Nearest (isNegative (integerIn v)) (natAbs (integerIn v)) (recordDouble s idSize c)
+    nearest-double = subst (Nearest (isNegative (integerIn v)) (natAbs (integerIn v))) integer-double (nearest-to (integerIn v) integer-small)

@@ -10,5 +10,7 @@ pub mod Answers
 pub mod AnswersByCalls
 pub mod AnswersToC
 pub mod RefusalNumbers
+pub mod RefusalNumbersByCalls
+pub mod RefusalNumbersToC
 pub mod ToldToC
 pub mod TestsInTurn

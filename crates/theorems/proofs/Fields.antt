@@ -2,3 +2,4 @@
 pub mod Causes
 pub mod CausesByCalls
 pub mod LocalityByCalls
+pub mod DoublesByCalls

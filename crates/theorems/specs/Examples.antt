@@ -8,8 +8,8 @@ use lib.ListN.{length, take}
 use lib.Ieee.{binary64, ofBits, toUnsigned, fin}
 use Rattle.definitions.specs.Reply.{Reply, Outcome, answer, refusal}
 use Rattle.definitions.specs.Bytes.{little, big, le, les}
-use Rattle.definitions.specs.Unicode.{latin1}
-use Rattle.definitions.specs.DataType.{DataType, unsignedInteger, signedInteger, float, complex, string, byteArray, canOpenDate, unknown, typeOf, codeOf}
+use Rattle.definitions.specs.Unicode.{Encoding, latin1, utf8, utf16, Text, textOf}
+use Rattle.definitions.specs.DataType.{DataType, unsignedInteger, signedInteger, float, complex, string, byteArray, mimeSample, mimeStream, canOpenDate, canOpenTime, unknown, typeOf, codeOf, defaultBits}
 use Rattle.definitions.specs.Channel.{Channel, Value, unsigned, signed, double, text, bytes, unknownValue, valueOf, recordDouble, validOf}
 use Rattle.definitions.specs.WrittenValue.{Given, givenUnsigned, givenSigned, givenDouble, givenOther, valueWritten}
 use Rattle.definitions.specs.DataList.{DataList, idDL, listOf, listBytes}
@@ -54,16 +54,16 @@ payload t offset count = record {
 abbrev pub shortList : ℕ → ℕ → List ℕ
 shortList links flags = idDL ++ le 4 0 ++ le 8 40 ++ le 8 links ++ le 8 0 ++ (flags ∷ 0 ∷ 0 ∷ 0 ∷ []) ++ le 4 0
 
--- a channel block with the given block length and link count: the links 1 to 8, and maybe others; then a signed integer of 12
--- bits from bit 4 of byte 5 on, invalid by bit 3, a reserved byte 17, 4,660 attachments and the limits 11 to 16
-abbrev pub channelBlock : ℕ → ℕ → List ℕ → List ℕ
-channelBlock size links others =
+-- a channel block with the given reserved byte, attachment count, block length and link count: the links 1 to 8, and maybe
+-- others; then a signed integer of 12 bits from bit 4 of byte 5 on, invalid by bit 3, and the limits 11 to 16
+abbrev pub channelBlockWith : ℕ → ℕ → ℕ → ℕ → List ℕ → List ℕ
+channelBlockWith reserved attachments size links others =
     idCN ++ le 4 0 ++ le 8 size ++ le 8 links ++ les (1 ∷ 2 ∷ 3 ∷ 4 ∷ 5 ∷ 6 ∷ 7 ∷ 8 ∷ []) ++ les others
-    ++ (0 ∷ 9 ∷ 2 ∷ 4 ∷ []) ++ le 4 5 ++ le 4 12 ++ le 4 2 ++ le 4 3 ++ (10 ∷ 17 ∷ []) ++ le 2 4660
+    ++ (0 ∷ 9 ∷ 2 ∷ 4 ∷ []) ++ le 4 5 ++ le 4 12 ++ le 4 2 ++ le 4 3 ++ (10 ∷ reserved ∷ []) ++ le 2 attachments
     ++ les (11 ∷ 12 ∷ 13 ∷ 14 ∷ 15 ∷ 16 ∷ [])
 
-abbrev pub channelRead : ℕ → ℕ → ChannelBlock
-channelRead size more = record {
+abbrev pub channelReadWith : ℕ → ℕ → ℕ → ℕ → ChannelBlock
+channelReadWith reserved attachments size more = record {
   header = record { id = 1313022755; reserved = 0; blockLength = size; linkCount = 8 + more };
   nextChannel = 1;
   component = 2;
@@ -84,8 +84,8 @@ channelRead size more = record {
   flags = 2;
   invalidationBit = 3;
   precision = 10;
-  reserved = 17;
-  attachments = 4660;
+  reserved = reserved;
+  attachments = attachments;
   minRaw = 11;
   maxRaw = 12;
   lowerLimit = 13;
@@ -93,6 +93,16 @@ channelRead size more = record {
   lowerExtended = 15;
   upperExtended = 16;
 }
+
+-- one with a reserved byte 17 and 4,660 attachments, and one that has neither
+abbrev pub channelBlock : ℕ → ℕ → List ℕ → List ℕ
+channelBlock = channelBlockWith 17 4660
+
+abbrev pub channelRead : ℕ → ℕ → ChannelBlock
+channelRead = channelReadWith 17 4660
+
+abbrev pub plainChannelBlock : List ℕ
+plainChannelBlock = channelBlockWith 0 0 160 8 []
 
 -- a block of data with an id, of records and of payloads
 abbrev pub blockWith : List ℕ → List ℕ → List ℕ
@@ -128,12 +138,21 @@ twoLists flags number a n lastFlags lastNumber b =
     le 8 0 ++ listBytes 64 ((112 + n * 8) ∷ []) flags (number ∷ [])
     ++ listBytes 0 (copies n (136 + n * 8 + length a)) lastFlags (lastNumber ∷ []) ++ dataBlock a ++ dataBlock b
 
--- One record of 9 bytes, from the list at 8 on: a position, and a byte with the invalidation bit. From the list at 97 on, with
--- offsets, two blocks of payloads at 169 and 196: the length 2, cut behind its third byte, the text PX, and a 00
+-- one record of 9 bytes, from the list at 8 on: a position, and a byte with the invalidation bit
+abbrev pub oneRecord : ℕ → ℕ → List ℕ
+oneRecord position invalid = le 8 0 ++ listBytes 0 (64 ∷ []) 0 (0 ∷ []) ++ dataBlock (le 8 position ++ (invalid ∷ []))
+
+-- From the list at 97 on, with offsets, two blocks of its payloads at 169 and 196: the length 2, cut behind its third byte, the
+-- text PX, and a 00
 abbrev pub remarks : ℕ → ℕ → List ℕ
 remarks position invalid =
-    le 8 0 ++ listBytes 0 (64 ∷ []) 0 (0 ∷ []) ++ dataBlock (le 8 position ++ (invalid ∷ []))
+    oneRecord position invalid
     ++ listBytes 0 (169 ∷ 196 ∷ []) 0 (0 ∷ 3 ∷ []) ++ signalBlock (2 ∷ 0 ∷ 0 ∷ []) ++ signalBlock (0 ∷ 0x50 ∷ 0x58 ∷ 0 ∷ [])
+
+-- the same payloads in one block, with its length, from the list at 105 on
+abbrev pub remarksUncut : ℕ → ℕ → List ℕ
+remarksUncut position invalid =
+    oneRecord position invalid ++ le 8 0 ++ listBytes 0 (161 ∷ []) 1 (7 ∷ []) ++ signalBlock (2 ∷ 0 ∷ 0 ∷ 0 ∷ 0x50 ∷ 0x58 ∷ 0 ∷ [])
 
 -- a channel with its position at the given byte, and a link to its payloads
 abbrev pub remark : DataType → ℕ → ℕ → Channel
@@ -166,6 +185,10 @@ refuses n t s = record { reply = refusal n t; buffer = s }
 abbrev pub four : List ℕ
 four = 0 ∷ 0 ∷ 0 ∷ 0 ∷ []
 
+-- <Invalid UTF
+abbrev pub invalidUtf : List ℕ
+invalidUtf = 0x3C ∷ 0x49 ∷ 0x6E ∷ 0x76 ∷ 0x61 ∷ 0x6C ∷ 0x69 ∷ 0x64 ∷ 0x20 ∷ 0x55 ∷ 0x54 ∷ 0x46 ∷ []
+
 -- a call, and what it replies
 pub data Row : Type 0 where
   value : List ℕ → Channel → Reply Value → Row
@@ -178,9 +201,12 @@ pub data Row : Type 0 where
   list : List ℕ → Reply DataList → Row
   block : List ℕ → Reply ChannelBlock → Row
   description : ChannelBlock → Channel → Row
-  -- the type that a code stands for, and a type's code
-  type : ℕ → DataType → Row
+  -- the type that a code stands for, which has that code, and its default bits
+  type : ℕ → DataType → ℕ → Row
+  -- a type's code
   code : DataType → ℕ → Row
+  -- a text as UTF-8, and whether it was damaged
+  rendered : Encoding → List ℕ → List ℕ → Bool → Row
   -- record k of size 2 from the chain at 8, into a buffer of 2 bytes FF
   fetch : List ℕ → ℕ → Outcome (Unit {0}) → Row
   -- a number written into a record, and the record then
@@ -197,7 +223,8 @@ pub data Said : Type 0 where
   aList : Reply DataList → Said
   aBlock : Reply ChannelBlock → Said
   aChannel : Channel → Said
-  aType : DataType → Said
+  aType : DataType → ℕ → ℕ → Said
+  aText : Text → Said
   aRecord : Outcome (Unit {0}) → Said
   aPayload : Outcomes PayloadValue → Said
 
@@ -210,8 +237,9 @@ given (validity s c r) = aTest (validOf s (record { idSize = 0; dataBytes = 2 })
 given (list s r) = aList (listOf s)
 given (block s r) = aBlock (channelBlockOf s)
 given (description b r) = aChannel (described b)
-given (type n r) = aType (typeOf n)
+given (type n t r) = aType (typeOf n) (codeOf t) (defaultBits t)
 given (code t r) = aNumber (codeOf t)
+given (rendered e s out damaged) = aText (textOf e s)
 given (fetch f k r) = aRecord (fetched f 8 k 2 (255 ∷ 255 ∷ []))
 given (write s c v o) = aRecord (valueWritten s 0 c v)
 given (follow f c n r a b) = aPayload (payloadFetched f 8 0 9 (record { idSize = 0; dataBytes = 8 }) c untouched (copies n 255))
@@ -224,8 +252,9 @@ stated (validity s c r) = aTest r
 stated (list s r) = aList r
 stated (block s r) = aBlock r
 stated (description b r) = aChannel r
-stated (type n r) = aType r
+stated (type n t r) = aType t n r
 stated (code t r) = aNumber r
+stated (rendered e s out damaged) = aText (record { bytes = out; damaged = damaged })
 stated (fetch f k r) = aRecord r
 stated (write s c v o) = aRecord o
 stated (follow f c n r a b) = aPayload (record { reply = r; recordBuffer = a; payloadBuffer = b })
@@ -263,11 +292,35 @@ table =
     ∷ value [] (channel (signedInteger big) 8 65) (refusal 19 0)
     ∷ value [] (channel (unsignedInteger big) 7 65) (refusal 20 0)
     ∷ value [] (channel (string latin1) 9 0) (answer (text 0 0))
-    -- the last type that is known, and the first code that is not; an unknown type made with the code of another keeps it too
-    ∷ type 16 (complex big)
-    ∷ type 17 (unknown 17)
-    ∷ code (unknown 17) 17
+    -- every type by its code, and its default bits; the first code that is not known; an unknown type made with the code of
+    -- another keeps it too
+    ∷ type 0 (unsignedInteger little) 32
+    ∷ type 1 (unsignedInteger big) 32
+    ∷ type 2 (signedInteger little) 32
+    ∷ type 3 (signedInteger big) 32
+    ∷ type 4 (float little) 32
+    ∷ type 5 (float big) 32
+    ∷ type 6 (string latin1) 8
+    ∷ type 7 (string utf8) 8
+    ∷ type 8 (string (utf16 little)) 8
+    ∷ type 9 (string (utf16 big)) 8
+    ∷ type 10 byteArray 8
+    ∷ type 11 mimeSample 8
+    ∷ type 12 mimeStream 8
+    ∷ type 13 canOpenDate 64
+    ∷ type 14 canOpenTime 64
+    ∷ type 15 (complex little) 64
+    ∷ type 16 (complex big) 64
+    ∷ type 17 (unknown 17) 8
     ∷ code (unknown 2) 2
+    -- texts: a letter, one of Latin-1, an odd last byte; damage, and what stands for it: <Invalid UTF8>, <Invalid UTF16LE> and
+    -- <Invalid UTF16BE>
+    ∷ rendered latin1 (0xE9 ∷ []) (0xC3 ∷ 0xA9 ∷ []) false
+    ∷ rendered (utf16 little) (0x41 ∷ 0x00 ∷ 0x42 ∷ []) (0x41 ∷ []) false
+    ∷ rendered utf8 (0xC3 ∷ 0xA9 ∷ 0x00 ∷ 0xFF ∷ []) (0xC3 ∷ 0xA9 ∷ []) false
+    ∷ rendered utf8 (0xFF ∷ []) (invalidUtf ++ (0x38 ∷ 0x3E ∷ [])) true
+    ∷ rendered (utf16 little) (0x00 ∷ 0xD8 ∷ []) (invalidUtf ++ (0x31 ∷ 0x36 ∷ 0x4C ∷ 0x45 ∷ 0x3E ∷ [])) true
+    ∷ rendered (utf16 big) (0xD8 ∷ 0x00 ∷ []) (invalidUtf ++ (0x31 ∷ 0x36 ∷ 0x42 ∷ 0x45 ∷ 0x3E ∷ [])) true
     ∷ validity (0x34 ∷ 0x12 ∷ 0x00 ∷ 0x02 ∷ []) (flagged 2 9) false
     ∷ validity (0x34 ∷ 0x12 ∷ 0x00 ∷ 0x02 ∷ []) (flagged 2 16) true
     ∷ validity (0x34 ∷ 0x12 ∷ 0x00 ∷ 0x02 ∷ []) (flagged 3 16) false
@@ -295,6 +348,7 @@ table =
       invalidationBit = 3;
       dataLink = 6;
     })
+    ∷ block plainChannelBlock (answer (channelReadWith 0 0 160 0))
     -- neither the block length nor a ninth link misleads; the bytes may be too few, and the links too few or countless
     ∷ block (channelBlock 1 8 []) (answer (channelRead 1 0))
     ∷ block (channelBlock 168 9 (99 ∷ [])) (answer (channelRead 168 1))
@@ -352,8 +406,9 @@ table =
     ∷ write (0 ∷ []) (payload (unsignedInteger little) 0 8) (givenUnsigned 1) (refuses 25 0 (0 ∷ []))
     ∷ write [] (payload (unsignedInteger little) 0 8) (givenUnsigned 1) (refuses 21 1 [])
     ∷ write four (channel (float little) 0 16) (givenUnsigned 1) (refuses 22 0 four)
-    -- a payload whose length is cut by a block's end, and its validity by the record
+    -- a payload whose length is cut by a block's end, and one that is not cut; validity by the record
     ∷ follow (remarks 0 0) (remark (string latin1) 0 97) 3 (answer (record { value = text 0 2; valid = true; size = 2 })) (remarkLeft 0 0) (0x50 ∷ 0x58 ∷ 255 ∷ [])
+    ∷ follow (remarksUncut 0 0) (remark (string latin1) 0 105) 3 (answer (record { value = text 0 2; valid = true; size = 2 })) (remarkLeft 0 0) (0x50 ∷ 0x58 ∷ 255 ∷ [])
     ∷ follow (remarks 0 1) (remark byteArray 0 97) 2 (answer (record { value = bytes 0 2; valid = false; size = 2 })) (remarkLeft 0 1) (0x50 ∷ 0x58 ∷ [])
     -- the refusals in their order, and what each leaves
     ∷ follow (remarks 0 0) (channel (string latin1) 0 64) 3 (refusal 35 0) untouched (255 ∷ 255 ∷ 255 ∷ [])

@@ -8,6 +8,7 @@ pub mod BlockCauses
 pub mod ChainCauses
 pub mod RecordCauses
 pub mod Causes
+pub mod FetchEnds
 pub mod PayloadEnds
 pub mod OverlapEnds
 pub mod WrittenValue

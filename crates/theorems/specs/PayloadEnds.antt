@@ -11,16 +11,13 @@ use Rattle.definitions.specs.Chain.{fetched}
 use Rattle.definitions.specs.Payload.{idSD, joinedOf, payloadOf, PayloadValue, Outcomes}
 use Rattle.theorems.specs.Exactly.{Fetchable, Positioned, recordBytes}
 use Rattle.theorems.specs.Causes.{Not}
+use Rattle.theorems.specs.FetchEnds.{recordLeft}
 
 -- a row of the table: the reply, the record's buffer, the payload's
 abbrev pub EndsSo : Outcomes PayloadValue → Reply PayloadValue → List ℕ → List ℕ → Type 0
 EndsSo o reply left later = o ≡ record { reply = reply; recordBuffer = left; payloadBuffer = later }
 
--- a record that was fetched, in the front of its buffer
-abbrev pub recordLeft : (f : List ℕ) (start k size : ℕ) (out : List ℕ) → Fetchable f start k size out → List ℕ
-recordLeft f start k size out h = recordBytes f start k size out h ++ drop size out
-
--- and a payload
+-- a payload that was fetched, in the front of its buffer
 abbrev pub payloadLeft : List ℕ → List ℕ → List ℕ
 payloadLeft payload room = payload ++ drop (length payload) room
 

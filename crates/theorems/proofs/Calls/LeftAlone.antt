@@ -1,10 +1,10 @@
--- What a call leaves of the buffer that it is lent. Where it refuses: every byte, but for a record that was fetched before its
--- field was refused. Where it answers: every byte behind those that it reports as written. Of payloads `PayloadEnds` says it, of a
--- number that is written `WrittenEnds` and `WrittenValues`.
+-- What a call leaves of the buffer that it is lent. Where it refuses: every byte. Where it answers: every byte behind those that it
+-- reports as written. Of a fetched record's field `FetchEnds` says it, of payloads `PayloadEnds`, of a number that is written
+-- `WrittenEnds` and `WrittenValues`.
 use mathlib.Core.Path.{_≡_, refl, sym, ap, _∙_, subst}
 use mathlib.Core.Bool.{Bool, true, false}
 use mathlib.Core.List.{List, _++_}
-use Prim.Native.Nat.{ℕ, _+_, _*_, _≤_, _<_}
+use Prim.Native.Nat.{ℕ, _+_, _*_, _≤_}
 use native.Mathlib.Omega.{arith}
 use lib.ListN.{length, drop, length-append, length-drop}
 use lib.Seq.{drop-append-seam}
@@ -16,8 +16,7 @@ use Rattle.definitions.specs.Unicode.{Encoding, TextWritten, textOf, writtenTex
 use Rattle.definitions.specs.Header.{Header, headerBytes, headerWritten}
 use Rattle.definitions.specs.DataList.{Lengths, listBytes, listSize, flagsFor, restFor, unwritable, listWritten}
 use Rattle.definitions.specs.ChannelBlock.{ChannelBlock, channelBytes, channelWritten}
-use Rattle.definitions.specs.Channel.{Channel, Group}
-use Rattle.definitions.specs.Chain.{Block, idDT, fileLimit, joined, chainOf, badSize, recordOf, fetched, valueFetched}
+use Rattle.definitions.specs.Chain.{Block, idDT, fileLimit, joined, chainOf, badSize, recordOf, fetched}
 use Rattle.definitions.proofs.Replies.{not-answered}
 use Rattle.words.proofs.Spans.{length-span}
 use Rattle.blocks.proofs.Headers.{length-header}
@@ -37,7 +36,7 @@ pub untouched : (n : ℕ) (before after : List ℕ) → after ≡ before → Sam
 untouched n before after e = record { long = ap length e; behind = ap (drop n) e }
 
 -- bytes at the front, and the rest as before
-front-laid : (front out : List ℕ) (n : ℕ) → length front ≡ n → n ≤ length out → SameBehind n out (front ++ drop n out)
+pub front-laid : (front out : List ℕ) (n : ℕ) → length front ≡ n → n ≤ length out → SameBehind n out (front ++ drop n out)
 front-laid front out n e l = record {
   long = omega (arith, length-append front (drop n out), length-drop n out);
   behind = ap (λ (k : ℕ). drop k (front ++ drop n out)) (sym e) ∙ drop-append-seam front (drop n out);
@@ -116,29 +115,3 @@ module _ (out : List ℕ) where
       tested (λ u. size) out (badSize size (length out)) _ 15 0 _ refl
       (λ h. tested (λ u. size) out (ltb fileLimit (length f)) _ 7 0 _ refl
       (λ g. on-blocks size (chainOf idDT f start) _ (λ bs. record-leaves (joined f bs) k size (size-fits size (length out) h .2))))
-
--- a value leaves what the fetch did, whatever the field's reply
-module _ (out f : List ℕ) (start k size : ℕ) (g : Group) (c : Channel) where
-  as-fetched : valueFetched f start k size g c out .buffer ≡ fetched f start k size out .buffer
-  unfolding valueFetched
-  as-fetched = refl
-
-  -- so where its refusal is not about the field, all of the buffer, and else what is behind the record
-  pub value-spares : (n t : ℕ) → valueFetched f start k size g c out .reply ≡ refusal n t → n < 18
-      → valueFetched f start k size g c out .buffer ≡ out
-  value-spares n t e other =
-      as-fetched ∙ fetch-leaves out f start k size .refused n t (other-of-fetch f start k size out g c n t e other)
-
-  pub value-behind : SameBehind size out (valueFetched f start k size g c out .buffer)
-  value-behind = go (fetched f start k size out .reply) refl
-    where
-      go : (r : Reply (Unit {0})) → fetched f start k size out .reply ≡ r → SameBehind size out (valueFetched f start k size g c out .buffer)
-      go (answer u) e = subst (SameBehind size out) (sym as-fetched) (fetch-leaves out f start k size .answers u e)
-      go (refusal n t) e = untouched size out _ (as-fetched ∙ fetch-leaves out f start k size .refused n t e)
-
-  -- a reply about the field leaves the record in the buffer's front
-  pub value-holds : OfField (valueFetched f start k size g c out .reply)
-      → (h : Fetchable f start k size out) × (valueFetched f start k size g c out .buffer ≡ span (joined f (h .blocks)) (k * size) size ++ drop size out)
-  value-holds e =
-      let h : Fetchable f start k size out = fetched-exactly f start k size out .only tt (field-of-fetched f start k size out g c e) in
-      (h, as-fetched ∙ ap (λ (o : Outcome (Unit {0})). o .buffer) (fetched-record f start k size out h))

@@ -1,20 +1,15 @@
 -- What each call that is lent a buffer leaves there: where it refuses, every byte; where it answers, every byte behind those that
--- it reports. A field that is refused leaves the record that was fetched. Each theorem is about the call's own clause. Of payloads
--- `PayloadsByCalls` has it, of a number that is written `WrittenValuesByCalls`.
+-- it reports. Each theorem is about the call's own clause. Of a fetched record's field `FetchEnds` has it, of payloads
+-- `PayloadsByCalls`, of a number that is written `WrittenValuesByCalls`.
 use mathlib.Core.Path.{_≡_, sym, ap, _∙_, subst}
-use mathlib.Core.List.{List, _++_}
-use Prim.Native.Nat.{ℕ, _*_, _<_}
-use lib.ListN.{drop}
+use mathlib.Core.List.{List}
+use Prim.Native.Nat.{ℕ}
 use contract.Lifetimes.{Lfts}
 use Rattle.definitions.specs.Reply.{Reply, Outcome, answer, refusal}
 use Rattle.definitions.specs.DataList.{equal, variable}
-use Rattle.definitions.specs.Bytes.{span}
-use Rattle.definitions.specs.Chain.{joined}
 use Rattle.mf4.specs.Clauses.{Slice}
-use Rattle.theorems.specs.Exactly.{Fetchable}
-use Rattle.theorems.specs.Clauses.{WritesHeader, WritesChannel, WritesEqual, WritesVariable, WritesText, ReadsRecord, ReadsRecordValue}
-use Rattle.theorems.proofs.Calls.LeftAlone.{SameBehind, untouched, Leaves, itself, countOf, header-leaves, channel-leaves, list-leaves, text-leaves, fetch-leaves, value-spares, value-behind, value-holds}
-use Rattle.theorems.proofs.Calls.RefusalNumbers.{OfField}
+use Rattle.theorems.specs.Clauses.{WritesHeader, WritesChannel, WritesEqual, WritesVariable, WritesText, ReadsRecord}
+use Rattle.theorems.proofs.Calls.LeftAlone.{SameBehind, untouched, Leaves, itself, countOf, header-leaves, channel-leaves, list-leaves, text-leaves, fetch-leaves}
 use Rattle.blocks.specs.Meaning.{headerMeant, writtenReply}
 use Rattle.channels.specs.Meaning.{channelBlockMeant}
 use Rattle.blocks.specs.declared.header.BlockHeader.{BlockHeader}
@@ -83,23 +78,3 @@ module _ (κs : Lfts 2) (encoding : Encoding) (bytes out : Slice) where
 module _ (κs : Lfts 2) (file : Slice) (start : FileAddress) (number size : ℕ) (out : Slice) where
   pub record-read-spares : Sparing (ReadsRecord κs file start number size out) (λ y. Refused (recordReply y)) (λ y. reported (λ u. size) (recordReply y)) (out .now)
   record-read-spares = sparing recordReply (λ u. size) _ (out .now) (fetch-leaves (out .now) (file .now) (start .0) number size)
-
--- ---- a value of a record: a refusal with less than 18 leaves every byte, and else the record is in the buffer's front
-
-module _ (κs : Lfts 2) (file : Slice) (start : FileAddress) (number size : ℕ) (group : Group) (channel : Channel) (out : Slice) where
-  pub record-value-spares : Sparing (ReadsRecordValue κs file start number size group channel out)
-      (λ y. (n : ℕ) × (t : ℕ) × (validValueReply y ≡ refusal n t) × (n < 18)) (λ y. size) (out .now)
-  record-value-spares y after p =
-      let same = ap (λ x. x .buffer) p in
-      let replied = sym (ap (λ x. x .reply) p) in
-      record {
-        refused = λ q. same ∙ value-spares (out .now) (file .now) (start .0) number size (groupMeant group) (channelMeant channel) (q .0) (q .1) (replied ∙ q .2) (q .3);
-        behind = subst (SameBehind size (out .now)) (sym same) (value-behind (out .now) (file .now) (start .0) number size (groupMeant group) (channelMeant channel));
-      }
-
-  pub record-value-holds : (y : ValidValueRead) (after : List ℕ) → ReadsRecordValue κs file start number size group channel out y after
-      → OfField (validValueReply y)
-      → (h : Fetchable (file .now) (start .0) number size (out .now)) × (after ≡ span (joined (file .now) (h .blocks)) (number * size) size ++ drop size (out .now))
-  record-value-holds y after p e =
-      let h = value-holds (out .now) (file .now) (start .0) number size (groupMeant group) (channelMeant channel) (subst OfField (ap (λ x. x .reply) p) e) in
-      (h .0, ap (λ x. x .buffer) p ∙ h .1)

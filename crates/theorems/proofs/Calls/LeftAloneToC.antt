@@ -1,36 +1,24 @@
 -- What each call for C leaves in the buffer that it is lent: where its reply is not 0, every byte; where it is 0, every byte
--- behind those that it reports. A value's reply from 18 on leaves the record that was fetched. Each theorem is about the call's own
--- clause. Of payloads `PayloadsToC` has it, of a number that is written `WrittenValuesToC`.
-use mathlib.Core.Path.{_≡_, refl, sym, ap, _∙_, subst}
-use mathlib.Core.Logic.{_⊎_, inl, inr}
-use mathlib.Core.List.{List, _++_}
-use Prim.Native.Nat.{ℕ, _*_, _≤_, _<_}
-use native.Mathlib.Omega.{arith}
+-- behind those that it reports. Each theorem is about the call's own clause. Of a fetched record's field `FetchEnds` has it, of
+-- payloads `PayloadsToC`, of a number that is written `WrittenValuesToC`.
+use mathlib.Core.Path.{_≡_, refl, sym, subst}
+use mathlib.Core.List.{List}
+use Prim.Native.Nat.{ℕ}
 use contract.Lifetimes.{Lfts}
-use lib.ListN.{drop}
 use Rattle.definitions.specs.Reply.{Reply, Outcome, answer, refusal}
-use Rattle.definitions.specs.Bytes.{span}
 use Rattle.definitions.specs.Unicode.{Encoding}
 use Rattle.definitions.specs.DataList.{equal, variable}
-use Rattle.definitions.specs.Channel.{ValidValue}
-use Rattle.definitions.specs.Chain.{joined, valueFetched}
 use Rattle.replies.specs.Replies.{Returned, returned, returnedBy, headerGiven, writtenC, textC, doneC}
 use Rattle.replies.specs.Channels.{blockGiven}
-use Rattle.replies.specs.Values.{channelGiven, groupGiven, validValueC}
 use Rattle.replies.specs.declared.header.Mf4Header.{Mf4Header}
 use Rattle.replies.specs.declared.channel_block.Mf4ChannelBlock.{Mf4ChannelBlock}
 use Rattle.replies.specs.declared.written.Mf4WrittenReply.{Mf4WrittenReply}
 use Rattle.replies.specs.declared.texts.Mf4TextReply.{Mf4TextReply}
-use Rattle.replies.specs.declared.channel.Mf4Channel.{Mf4Channel}
-use Rattle.replies.specs.declared.group.Mf4Group.{Mf4Group}
-use Rattle.replies.specs.declared.valid_values.Mf4ValidValueReply.{Mf4ValidValueReply}
 use Rattle.replies.specs.declared.done.Mf4DoneReply.{Mf4DoneReply}
 use Rattle.mf4.specs.Clauses.{Slice}
-use Rattle.theorems.specs.Exactly.{Fetchable}
-use Rattle.theorems.specs.ClausesToC.{WritesHeaderC, WritesChannelC, WritesEqualC, WritesVariableC, WritesTextC, ReadsRecordC, ReadsRecordValueC}
+use Rattle.theorems.specs.ClausesToC.{WritesHeaderC, WritesChannelC, WritesEqualC, WritesVariableC, WritesTextC, ReadsRecordC}
 use Rattle.theorems.proofs.Texts.TextClausesToC.{text-clause}
-use Rattle.theorems.proofs.Calls.RefusalNumbers.{Numbered, Some, OfField, value-fetched-numbered}
-use Rattle.theorems.proofs.Calls.LeftAlone.{SameBehind, untouched, Leaves, itself, countOf, header-leaves, channel-leaves, list-leaves, text-leaves, fetch-leaves, value-spares, value-behind, value-holds}
+use Rattle.theorems.proofs.Calls.LeftAlone.{SameBehind, untouched, Leaves, itself, countOf, header-leaves, channel-leaves, list-leaves, text-leaves, fetch-leaves}
 use Rattle.theorems.proofs.Calls.LeftAloneByCalls.{Spares, Sparing}
 
 -- from what the definition leaves: `number` is the reply in the struct, and `counted` what it reports
@@ -84,37 +72,3 @@ pub record-read-spares : (κs : Lfts 2) (file : Slice) (start number size : ℕ)
 record-read-spares κs file start number size out =
     sparing doneC (λ (y : Mf4DoneReply). y .reply) (λ y. size) (λ u. size) (λ u. refl) (λ u. refl)
     _ (out .now) (fetch-leaves (out .now) (file .now) start number size)
-
--- ---- a value of a record: a reply from 2 to 17 leaves every byte, and else the record is in the buffer's front
-
-module _ (κs : Lfts 2) (file : Slice) (start number size : ℕ) (group : Mf4Group) (channel : Mf4Channel) (out : Slice) where
-  abbrev given : Outcome ValidValue
-  given = valueFetched (file .now) start number size (groupGiven group) (channelGiven channel) (out .now)
-
-  abbrev Says : Mf4ValidValueReply → List ℕ → Type 0
-  Says = ReadsRecordValueC κs file start number size group channel out
-
-  spared : (r : Reply ValidValue) → given .reply ≡ r → (0 < validValueC r .reply) × (validValueC r .reply < 18) → given .buffer ≡ out .now
-  spared (answer v) e other = let no : ⊥ = omega (arith, other .0) in absurd no
-  spared (refusal n t) e other = value-spares (out .now) (file .now) start number size (groupGiven group) (channelGiven channel) n t e (other .1)
-
-  of-field : (r : Reply ValidValue) → Numbered Some r → (validValueC r .reply ≡ 0) ⊎ (18 ≤ validValueC r .reply) → OfField r
-  of-field (answer v) some e = tt
-  of-field (refusal n t) some (inl z) = let no : ⊥ = omega (arith, some n t refl) in absurd no
-  of-field (refusal n t) some (inr from) = from
-
-  pub record-value-spares : Sparing Says (λ y. (0 < y .reply) × (y .reply < 18)) (λ y. size) (out .now)
-  record-value-spares y after p =
-      subst (λ (x : Returned Mf4ValidValueReply). Spares ((0 < x .result .reply) × (x .result .reply < 18)) size (out .now) (x .buffer)) (sym p)
-      (record {
-        refused = λ other. spared (given .reply) refl other;
-        behind = value-behind (out .now) (file .now) start number size (groupGiven group) (channelGiven channel);
-      })
-
-  pub record-value-holds : (y : Mf4ValidValueReply) (after : List ℕ) → Says y after → (y .reply ≡ 0) ⊎ (18 ≤ y .reply)
-      → (h : Fetchable (file .now) start number size (out .now)) × (after ≡ span (joined (file .now) (h .blocks)) (number * size) size ++ drop size (out .now))
-  record-value-holds y after p e =
-      let told = subst (λ (x : Returned Mf4ValidValueReply). (x .result .reply ≡ 0) ⊎ (18 ≤ x .result .reply)) p e in
-      let some = value-fetched-numbered (file .now) start number size (out .now) (groupGiven group) (channelGiven channel) in
-      let h = value-holds (out .now) (file .now) start number size (groupGiven group) (channelGiven channel) (of-field (given .reply) some told) in
-      (h .0, ap (λ (x : Returned Mf4ValidValueReply). x .buffer) p ∙ h .1)

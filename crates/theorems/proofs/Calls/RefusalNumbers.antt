@@ -1,11 +1,10 @@
 -- Which numbers refusals have: a field's are 18 to 22, those of blocks, chains and records 2 to 17, and a payload's also 21, 23
--- and 35; of a number that is written `WrittenEnds` has them, and of a list of channels `Overlaps`. So a reply of 0 is an answer,
--- and of a value one from 18 on is about a field.
+-- and 35; of a number that is written `WrittenEnds` has them, and of a list of channels `Overlaps`. So a reply of 0 is an answer.
 use mathlib.Core.Path.{_≡_, refl, sym}
+use mathlib.Core.Logic.{_⊎_, inl, inr}
 use mathlib.Core.Bool.{Bool, true, false, not, _&&_, _||_}
 use mathlib.Core.List.{List, [], _∷_, _++_}
-use Prim.Native.Nat.{ℕ, zero, suc, _+_, _*_, _≤_, _<_}
-use native.Mathlib.Omega.{arith}
+use Prim.Native.Nat.{ℕ, zero, suc, _+_, _*_, _≤_}
 use lib.ListN.{length, take, drop}
 use lib.Dec.{ltb, leb, eqb}
 use borrow.Author.Tests.{leb-true, le-leb}
@@ -16,7 +15,7 @@ use Rattle.definitions.specs.Header.{Header, headerOf, headerBytes, headerWritt
 use Rattle.definitions.specs.DataType.{Kind, kindOf}
 use Rattle.definitions.specs.DataList.{DataList, Lengths, idDL, listOf, linksOf, restOf, restIn, flagsAt, listBytes, listSize, flagsFor, restFor, unwritable, listWritten}
 use Rattle.definitions.specs.ChannelBlock.{ChannelBlock, idCN, fieldsAt, fieldsOf, channelBlockOf, channelBytes, channelWritten}
-use Rattle.definitions.specs.Channel.{Channel, Group, ValidValue, startOf, spanOf, isInteger, isFloating, isNumber, valueBy, valueOf, validValueOf}
+use Rattle.definitions.specs.Channel.{Channel, Group, startOf, spanOf, isInteger, isFloating, isNumber, valueBy, valueOf, validValueOf}
 use Rattle.definitions.specs.Chain.{Block, idDT, dataLimit, fileLimit, fragmentLimit, hasHeader, blockAt, declared, judged, fragmentOf, fragments, agrees, admitted, listAt, Declaration, declarationOf, keepsTo, chainedAt, lists, listLimit, chainOf, totalOf, dataLength, joined, badSize, recordOf, fetched, valueFetched}
 use Rattle.definitions.specs.Payload.{idSD, positionOf, payloadAt, joinedOf, payloadOf}
 use Rattle.definitions.proofs.Replies.{not-answered, both}
@@ -24,9 +23,6 @@ use Rattle.definitions.proofs.Replies.{not-answered, both}
 -- P holds of every refusal's number and of what it tells
 abbrev pub Numbered : {A : Type 0} → (ℕ → ℕ → Type 0) → Reply A → Type 0
 Numbered P r = (n t : ℕ) → r ≡ refusal n t → P n t
-
-abbrev pub Some : ℕ → ℕ → Type 0
-Some n t = 0 < n
 
 -- of blocks, buffers, chains and records
 abbrev pub OfBlocks : ℕ → ℕ → Type 0
@@ -233,36 +229,15 @@ pub valid-value-numbered : (s : List ℕ) (g : Group) (c : Channel) → Numbered
 unfolding validValueOf
 valid-value-numbered s g c = of-following OfFields (valueOf s (g .idSize) c) _ (value-numbered s (g .idSize) c) (λ v. of-answer OfFields _)
 
--- a value, or why the record has none
-abbrev pub OfField : Reply ValidValue → Type 0
-OfField (answer v) = Unit {0}
-OfField (refusal n t) = 18 ≤ n
+-- those of a record, or of its field
+abbrev pub OfFetches : ℕ → ℕ → Type 0
+OfFetches n t = OfBlocks n t ⊎ OfFields n t
 
-module _ (f : List ℕ) (start k size : ℕ) (out : List ℕ) (g : Group) (c : Channel) where
-  pub value-fetched-numbered : Numbered Some (valueFetched f start k size g c out .reply)
-  unfolding valueFetched
-  value-fetched-numbered =
-      of-following Some (fetched f start k size out .reply) _ (weaker _ (λ n t p. omega (arith, between 2 17 n p .0)) (fetched-numbered f start k size out))
-      (λ u. weaker _ (λ n t p. omega (arith, between 18 22 n p .0)) (valid-value-numbered (take size (fetched f start k size out .buffer)) g c))
-
-  -- a reply about the field says that the record was fetched
-  pub field-of-fetched : OfField (valueFetched f start k size g c out .reply) → fetched f start k size out .reply ≡ answer tt
-  unfolding valueFetched
-  field-of-fetched h = go (fetched f start k size out .reply) (fetched-numbered f start k size out) h
-    where
-      go : (r : Reply (Unit {0})) → Numbered OfBlocks r
-          → OfField (andThen r (λ u. validValueOf (take size (fetched f start k size out .buffer)) g c)) → r ≡ answer tt
-      go (answer u) g h = refl
-      go (refusal n t) g h = let no : ⊥ = omega (arith, between 2 17 n (g n t refl) .1) in absurd no
-
-  -- and any other one that it was not
-  pub other-of-fetch : (n t : ℕ) → valueFetched f start k size g c out .reply ≡ refusal n t → n < 18 → fetched f start k size out .reply ≡ refusal n t
-  unfolding valueFetched
-  other-of-fetch n t e other = go (fetched f start k size out .reply) e
-    where
-      go : (r : Reply (Unit {0})) → andThen r (λ u. validValueOf (take size (fetched f start k size out .buffer)) g c) ≡ refusal n t → r ≡ refusal n t
-      go (answer u) e = let no : ⊥ = omega (arith, between 18 22 n (valid-value-numbered _ g c n t e) .0) in absurd no
-      go (refusal m s) e = cc
+pub value-fetched-numbered : (f : List ℕ) (start k size : ℕ) (out : List ℕ) (g : Group) (c : Channel) → Numbered OfFetches (valueFetched f start k size g c out .reply)
+unfolding valueFetched
+value-fetched-numbered f start k size out g c =
+    of-following OfFetches (fetched f start k size out .reply) _ (weaker _ (λ n t p. inl p) (fetched-numbered f start k size out))
+    (λ u. weaker _ (λ n t p. inr p) (valid-value-numbered (take size (fetched f start k size out .buffer)) g c))
 
 -- ---- a payload
 

@@ -2,7 +2,7 @@
 use mathlib.Core.Path.{refl}
 use lib.Ieee.{toUnsigned, ofBits, toBits, ofInt}
 use Rattle.definitions.specs.Bytes.{leOf, le, les}
-use Rattle.definitions.specs.Unicode.{stopped, beforeNul}
+use Rattle.definitions.specs.Unicode.{stopped, beforeNul, beforeZeroUnit, isScalar, utf8Of, sixBits, utf8Two, utf8Three, utf8Four, utf8Char, utf16Char, charOf, charAt, chars, placeholder, textOf}
 use Rattle.definitions.specs.Channel.{decoded, valueBy, valueOf, recordDouble, validOf}
 use Rattle.definitions.specs.WrittenValue.{fieldGiven, valueWritten}
 use Rattle.definitions.specs.Header.{headerOf, headerBytes}
@@ -13,5 +13,5 @@ use Rattle.definitions.specs.Payload.{positionOf, payloadAt, joinedOf, payloadO
 use Rattle.theorems.specs.Examples.{copies, Claim}
 
 pub claim : Claim
-unfolding copies toUnsigned ofBits toBits ofInt leOf le les stopped beforeNul decoded valueBy valueOf recordDouble validOf fieldGiven valueWritten headerOf headerBytes listOf linksOf restOf listBytes fieldsOf channelBlockOf joined total blockAt fragmentOf fragments listAt chainedAt lists chainOf recordOf fetched positionOf payloadAt joinedOf payloadOf payloadValueOf payloadFetched
+unfolding copies toUnsigned ofBits toBits ofInt leOf le les stopped beforeNul beforeZeroUnit isScalar utf8Of sixBits utf8Two utf8Three utf8Four utf8Char utf16Char charOf charAt chars placeholder textOf decoded valueBy valueOf recordDouble validOf fieldGiven valueWritten headerOf headerBytes listOf linksOf restOf listBytes fieldsOf channelBlockOf joined total blockAt fragmentOf fragments listAt chainedAt lists chainOf recordOf fetched positionOf payloadAt joinedOf payloadOf payloadValueOf payloadFetched
 claim = refl

@@ -17,12 +17,14 @@ use Rattle.words.proofs.Spans.{length-span}
 use Rattle.places.proofs.Answers.{answered}
 use Rattle.theorems.specs.Exactly.{Fetchable, Positioned, recordBytes}
 use Rattle.theorems.specs.Causes.{Not}
-use Rattle.theorems.specs.PayloadEnds.{recordLeft, payloadTold, PayloadEnds, no-position, no-record, no-payload, no-room, no-value, a-value}
+use Rattle.theorems.specs.FetchEnds.{recordLeft}
+use Rattle.theorems.specs.PayloadEnds.{payloadTold, PayloadEnds, no-position, no-record, no-payload, no-room, no-value, a-value}
 use Rattle.theorems.proofs.Blocks.Rewritten.{front-of}
 use Rattle.theorems.proofs.Blocks.ListAnswers.{above-zero}
 use Rattle.theorems.proofs.Calls.RefusalNumbers.{Numbered, OfPayloads, of-answer, of-refusal, of-blocks-too, fetched-numbered, payload-numbered}
 use Rattle.theorems.proofs.Calls.Answers.{fetched-exactly, fetched-record}
 use Rattle.theorems.proofs.Calls.LeftAlone.{fetch-leaves}
+use Rattle.theorems.proofs.Records.FetchEnds.{outcome-is}
 
 -- ---- the channel
 
@@ -81,9 +83,6 @@ module _ (s : List ℕ) (idSize : ℕ) (c : Channel) (p : Positioned c) where
       go false b ea eb q = not-answered _ n t (sym q)
 
 -- ---- the call
-
-outcome-is : {A : Type 0} (o : Outcome A) {r : Reply A} {b : List ℕ} → o .reply ≡ r → o .buffer ≡ b → o ≡ record { reply = r; buffer = b }
-outcome-is o er eb = rw (sym er, sym eb)
 
 module _ (f : List ℕ) (start k size : ℕ) (g : Group) (c : Channel) (out room : List ℕ) where
   abbrev Ends : Type 0

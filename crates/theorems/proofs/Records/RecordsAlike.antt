@@ -1,0 +1,104 @@
+-- Two records of one size, of whatever files, that hold a fixed field alike: fetched, they give the same value in it, whatever
+-- their other bits; and the same reply, where the invalidation bit is alike too. About each call's own clause.
+use mathlib.Core.Path.{_≡_, refl, sym, ap, _∙_}
+use mathlib.Core.List.{List}
+use Prim.Native.Nat.{ℕ}
+use contract.Lifetimes.{Lfts}
+use Rattle.definitions.specs.Reply.{Reply, answer, refusal, andThen}
+use Rattle.definitions.specs.Channel.{Channel, Group, Value, ValidValue, valueOf, validOf, validValueOf}
+use Rattle.definitions.specs.Chain.{valueFetched}
+use Rattle.fields.proofs.OneBit.{invalidationBitIn}
+use Rattle.fields.proofs.Back.{valid-value-one}
+use Rattle.fields.specs.Meaning.{channelMeant, groupMeant, validValueReply}
+use Rattle.fields.specs.declared.channel.Channel.{Channel as Description}
+use Rattle.fields.specs.declared.group.Group.{Group as Grouped}
+use Rattle.fields.specs.declared.value.ValidValueRead.{ValidValueRead}
+use Rattle.chain.specs.declared.place.FileAddress.{FileAddress}
+use Rattle.replies.specs.Replies.{Returned}
+use Rattle.replies.specs.Values.{channelGiven, groupGiven, validValueC}
+use Rattle.replies.specs.declared.channel.Mf4Channel.{Mf4Channel}
+use Rattle.replies.specs.declared.group.Mf4Group.{Mf4Group}
+use Rattle.replies.specs.declared.valid_values.Mf4ValidValueReply.{Mf4ValidValueReply}
+use Rattle.replies.proofs.ToldToC.{validValueAgain}
+use Rattle.mf4.specs.Clauses.{Slice}
+use Rattle.theorems.specs.Exactly.{Fetchable, recordBytes}
+use Rattle.theorems.specs.Clauses.{ReadsRecordValue}
+use Rattle.theorems.specs.ClausesToC.{ReadsRecordValueC}
+use Rattle.theorems.proofs.Calls.Answers.{value-of-record}
+use Rattle.theorems.proofs.Calls.AnswersByCalls.{of-outcome}
+use Rattle.theorems.proofs.Calls.ToldToC.{mf4-record-value-told}
+use Rattle.theorems.proofs.Fields.LocalityByCalls.{Alike, same-value, same-valid-value}
+
+-- the value of a reply, without its validity
+abbrev pub valueOnly : Reply ValidValue → Reply Value
+valueOnly r = andThen r (λ v. answer (v .value))
+
+only-value : (s : List ℕ) (g : Group) (c : Channel) → valueOnly (validValueOf s g c) ≡ valueOf s (g .idSize) c
+unfolding validValueOf
+only-value s g c = go (valueOf s (g .idSize) c)
+  where
+    go : (r : Reply Value) → valueOnly (andThen r (λ v. answer (record { value = v; valid = validOf s g c }))) ≡ r
+    go (answer v) = refl
+    go (refusal n t) = refl
+
+-- record k of one file, and record l of another, or of the same one
+module _ (f e : List ℕ) (a b k l size : ℕ) (out room : List ℕ) (h : Fetchable f a k size out) (i : Fetchable e b l size room) where
+  abbrev pub FieldAlike : Group → Channel → Type 0
+  FieldAlike g c = Alike (recordBytes f a k size out h) (recordBytes e b l size room i) (g .idSize) c
+
+  abbrev pub BitAlike : Group → Channel → Type 0
+  BitAlike g c = invalidationBitIn (recordBytes f a k size out h) g c ≡ invalidationBitIn (recordBytes e b l size room i) g c
+
+  module _ (g : Group) (c : Channel) (alike : FieldAlike g c) where
+    pub same-fetched-value : valueOnly (valueFetched f a k size g c out .reply) ≡ valueOnly (valueFetched e b l size g c room .reply)
+    same-fetched-value =
+        ap valueOnly (value-of-record f a k size out g c h) ∙ only-value (recordBytes f a k size out h) g c
+        ∙ same-value (recordBytes f a k size out h) (recordBytes e b l size room i) (g .idSize) c alike
+        ∙ sym (ap valueOnly (value-of-record e b l size room g c i) ∙ only-value (recordBytes e b l size room i) g c)
+
+    pub same-fetched : BitAlike g c → valueFetched f a k size g c out .reply ≡ valueFetched e b l size g c room .reply
+    same-fetched bit =
+        value-of-record f a k size out g c h
+        ∙ same-valid-value (recordBytes f a k size out h) (recordBytes e b l size room i) g c alike bit
+        ∙ sym (value-of-record e b l size room g c i)
+
+-- ---- read_value
+
+module _ (κs : Lfts 2) (f e : Slice) (a b : FileAddress) (k l size : ℕ) (group : Grouped) (channel : Description) (out room : Slice)
+    (h : Fetchable (f .now) (a .0) k size (out .now)) (i : Fetchable (e .now) (b .0) l size (room .now))
+    (alike : FieldAlike (f .now) (e .now) (a .0) (b .0) k l size (out .now) (room .now) h i (groupMeant group) (channelMeant channel))
+    (y z : ValidValueRead) (after later : List ℕ)
+    (p : ReadsRecordValue κs f a k size group channel out y after) (q : ReadsRecordValue κs e b l size group channel room z later)
+  where
+    pub record-value-alike : valueOnly (validValueReply y) ≡ valueOnly (validValueReply z)
+    record-value-alike =
+        ap valueOnly (of-outcome p)
+        ∙ same-fetched-value (f .now) (e .now) (a .0) (b .0) k l size (out .now) (room .now) h i (groupMeant group) (channelMeant channel) alike
+        ∙ sym (ap valueOnly (of-outcome q))
+
+    pub record-reply-alike : BitAlike (f .now) (e .now) (a .0) (b .0) k l size (out .now) (room .now) h i (groupMeant group) (channelMeant channel) → y ≡ z
+    record-reply-alike bit =
+        valid-value-one y z
+        (of-outcome p
+        ∙ same-fetched (f .now) (e .now) (a .0) (b .0) k l size (out .now) (room .now) h i (groupMeant group) (channelMeant channel) alike bit
+        ∙ sym (of-outcome q))
+
+-- ---- mf4_record_value: of the reply that the struct tells, and of the struct
+
+module _ (κs : Lfts 2) (f e : Slice) (a b k l size : ℕ) (group : Mf4Group) (channel : Mf4Channel) (out room : Slice)
+    (h : Fetchable (f .now) a k size (out .now)) (i : Fetchable (e .now) b l size (room .now))
+    (alike : FieldAlike (f .now) (e .now) a b k l size (out .now) (room .now) h i (groupGiven group) (channelGiven channel))
+    (y z : Mf4ValidValueReply) (after later : List ℕ)
+    (p : ReadsRecordValueC κs f a k size group channel out y after) (q : ReadsRecordValueC κs e b l size group channel room z later)
+  where
+    pub mf4-record-value-alike : valueOnly (validValueAgain y) ≡ valueOnly (validValueAgain z)
+    mf4-record-value-alike =
+        ap valueOnly (mf4-record-value-told κs f a k size group channel out y after p)
+        ∙ same-fetched-value (f .now) (e .now) a b k l size (out .now) (room .now) h i (groupGiven group) (channelGiven channel) alike
+        ∙ sym (ap valueOnly (mf4-record-value-told κs e b l size group channel room z later q))
+
+    pub mf4-record-reply-alike : BitAlike (f .now) (e .now) a b k l size (out .now) (room .now) h i (groupGiven group) (channelGiven channel) → y ≡ z
+    mf4-record-reply-alike bit =
+        ap (λ (x : Returned Mf4ValidValueReply). x .result) p
+        ∙ ap validValueC (same-fetched (f .now) (e .now) a b k l size (out .now) (room .now) h i (groupGiven group) (channelGiven channel) alike bit)
+        ∙ sym (ap (λ (x : Returned Mf4ValidValueReply). x .result) q)
