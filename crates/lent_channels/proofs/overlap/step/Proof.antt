@@ -5,8 +5,8 @@ use borrow.Author.Needs.{needs}
 use Rattle.definitions.specs.Channel.{Channel}
 use Rattle.overlaps.specs.Meaning.{stepOf, Ready}
 use Rattle.overlaps.specs.declared.search.Search.{Search}
-use Rattle.mf4.proofs.overlap.step.Statement.{statement}
-use Rattle.mf4.proofs.overlap.step.Tie as tie
+use Rattle.lent_channels.proofs.overlap.step.Statement.{statement}
+use Rattle.lent_channels.proofs.overlap.step.Tie as tie
 
 ready-meant : (s : Search) {a b a′ b′ : Channel} → a′ ≡ a → b′ ≡ b → Ready s a b → Ready s a′ b′
 ready-meant s {a} {b} {a′} {b′} ea eb h = subst (Ready s a′) (sym eb) (subst (λ (x : Channel). Ready s x b) (sym ea) h)
