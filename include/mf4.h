@@ -528,16 +528,17 @@ static inline size_t mf4_text_room(size_t bytes_len)
  * each offset is the length of all data before its block. Anything else is MF4_UNTRUE_DECLARATION (13).
  *
  * If the data link is the address of a single ##DT block, the calls refuse with MF4_OTHER_ID (3). Then write a list of that
- * one block behind a copy of the file, which needs 56 bytes of room there, and start at the list, aligned or not. With an
- * `address` inside the file:
+ * one block into a copy of the file, over the ##DG block that links it: that was read already, and has the room of 56 bytes.
+ * The chain starts there. (Behind the file's end a list would be read as the missing bytes of a block that is cut short.)
  *
  *     mf4_header_reply h = mf4_read_header(file + address, file_len - address);
- *     if (h.header.id == id && h.header.block_len <= file_len - address) {
- *         start = file_len;
- *         file_len += mf4_write_list_equal(0, &address, 1, h.header.block_len - 24, file + file_len, 56).count;
+ *     if (h.header.id == id) {
+ *         mf4_write_list_equal(0, &address, 1, h.header.block_len - 24, file + linked_by, file_len - linked_by);
+ *         start = linked_by;
  *     }
  *
- * Here id is MF4_ID_DT; for a single block of payloads it is MF4_ID_SD, and start is then the channel's data_addr.
+ * Here id is MF4_ID_DT, address is the data link and linked_by the ##DG block's address, both inside the file. For a single
+ * block of payloads id is MF4_ID_SD, linked_by is the ##CN block's address, and the list is the channel's new data_addr.
  */
 
 typedef struct mf4_length_reply {

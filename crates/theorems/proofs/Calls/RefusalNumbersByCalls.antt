@@ -26,7 +26,7 @@ use Rattle.encoder.specs.Meaning.{givenMeant, writtenReply as storedReply}
 use Rattle.encoder.specs.declared.number.NumberGiven.{NumberGiven}
 use Rattle.encoder.specs.declared.encode.ValueWritten.{ValueWritten}
 use Rattle.chain.specs.Meaning.{chainReply}
-use Rattle.chain.specs.declared.place.FileAddress.{FileAddress}
+use Rattle.places.specs.declared.place.FileAddress.{FileAddress}
 use Rattle.chain.specs.declared.acceptance.ChainRead.{ChainRead}
 use Rattle.records.specs.Meaning.{recordReply}
 use Rattle.records.specs.declared.record.RecordRead.{RecordRead}

@@ -12,7 +12,7 @@ use Rattle.definitions.specs.Reply.{Reply, answer, refusal, if_then_else_, andT
 use Rattle.definitions.specs.DataList.{DataList}
 use Rattle.definitions.specs.Chain.{Block, total, listLimit, fragmentOf, fragments, listAt, Declaration, declarationOf, chainedAt, lists, chainOf}
 use Rattle.definitions.proofs.Replies.{not-answered, answered}
-use Rattle.chain.proofs.Answers.{followed}
+use Rattle.places.proofs.Answers.{followed}
 use Rattle.theorems.specs.Refused.{Cause, refused, _orElse_, firstOf, provided, RefusedExactly}
 use Rattle.theorems.specs.ChainCauses.{fragmentThere, fragmentRefused, listThere, addressOf, blocksTo, blocksAt, blocksBefore, HasList, partRefused, chainRefused}
 use Rattle.theorems.proofs.Chains.ListCauses.{fragment-refused, fragment-there, list-is-there, chained-refused, chained-is-there}

@@ -13,8 +13,8 @@ use Rattle.definitions.specs.Bytes.{u64At, idAt}
 use Rattle.definitions.specs.DataList.{DataList, oneLength, listOf}
 use Rattle.definitions.specs.Chain.{Block, dataLimit, fragmentLimit, hasHeader, blockAt, isLast, declared, judged, fragmentOf, agrees, admitted, listAt, Declaration, byLength, byOffsets, declarationOf, keepsTo, chainedAt}
 use Rattle.definitions.proofs.Replies.{both, answered}
-use Rattle.chain.proofs.Answers.{passed, followed}
-use Rattle.chain.proofs.Declarations.{chained-answer}
+use Rattle.places.proofs.Answers.{passed, followed}
+use Rattle.steps.proofs.Declarations.{chained-answer}
 use Rattle.theorems.specs.Causes.{Not}
 use Rattle.theorems.specs.Refused.{RefusedExactly}
 use Rattle.theorems.specs.ChainCauses.{NoHeader, blockThere, blockRefused, lengthIn, Untrue, longer, not-full, misplaced, fragmentThere, fragmentRefused, listThere, Disagrees, Unlike, other-form, other-length, other-count, higher-count, listAtRefused, chainedRefused}

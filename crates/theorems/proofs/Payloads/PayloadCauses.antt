@@ -13,7 +13,7 @@ use Rattle.definitions.specs.Channel.{Channel, Group, isNumber, valueOf}
 use Rattle.definitions.specs.Chain.{joined, chainOf, fetched}
 use Rattle.definitions.specs.Payload.{idSD, holdsPosition, positionOf, payloadAt, joinedOf, payloadOf, stored, PayloadValue, Outcomes, payloadValueOf, payloadBehind, payloadFetched}
 use Rattle.definitions.proofs.Replies.{answered}
-use Rattle.chain.proofs.Answers.{passed, followed}
+use Rattle.places.proofs.Answers.{passed, followed}
 use Rattle.theorems.specs.Exactly.{Positioned}
 use Rattle.theorems.specs.Causes.{Not}
 use Rattle.theorems.specs.Refused.{Cause, refused, _orElse_, RefusedExactly}

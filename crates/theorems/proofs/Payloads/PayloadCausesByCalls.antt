@@ -7,7 +7,7 @@ use Rattle.definitions.specs.Payload.{PayloadValue, Outcomes}
 use Rattle.fields.specs.Meaning.{groupMeant, channelMeant}
 use Rattle.fields.specs.declared.channel.Channel.{Channel}
 use Rattle.fields.specs.declared.group.Group.{Group}
-use Rattle.chain.specs.declared.place.FileAddress.{FileAddress}
+use Rattle.places.specs.declared.place.FileAddress.{FileAddress}
 use Rattle.payloads.specs.Meaning.{payloadReply}
 use Rattle.payloads.specs.declared.value.PayloadRead.{PayloadRead}
 use Rattle.replies.specs.Values.{channelGiven, groupGiven}

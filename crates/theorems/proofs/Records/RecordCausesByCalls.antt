@@ -7,7 +7,7 @@ use Rattle.fields.specs.declared.channel.Channel.{Channel}
 use Rattle.fields.specs.declared.group.Group.{Group}
 use Rattle.fields.specs.declared.value.ValidValueRead.{ValidValueRead}
 use Rattle.chain.specs.Meaning.{chainReply}
-use Rattle.chain.specs.declared.place.FileAddress.{FileAddress}
+use Rattle.places.specs.declared.place.FileAddress.{FileAddress}
 use Rattle.chain.specs.declared.acceptance.ChainRead.{ChainRead}
 use Rattle.records.specs.Meaning.{recordReply}
 use Rattle.records.specs.declared.record.RecordRead.{RecordRead}

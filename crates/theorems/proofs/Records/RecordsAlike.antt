@@ -13,7 +13,7 @@ use Rattle.fields.specs.Meaning.{channelMeant, groupMeant, validValueReply}
 use Rattle.fields.specs.declared.channel.Channel.{Channel as Description}
 use Rattle.fields.specs.declared.group.Group.{Group as Grouped}
 use Rattle.fields.specs.declared.value.ValidValueRead.{ValidValueRead}
-use Rattle.chain.specs.declared.place.FileAddress.{FileAddress}
+use Rattle.places.specs.declared.place.FileAddress.{FileAddress}
 use Rattle.replies.specs.Replies.{Returned}
 use Rattle.replies.specs.Values.{channelGiven, groupGiven, validValueC}
 use Rattle.replies.specs.declared.channel.Mf4Channel.{Mf4Channel}
