@@ -523,8 +523,8 @@ static inline size_t mf4_text_room(size_t bytes_len)
 /* `start` is the address of a chain's first ##DL block: the data link of a ##DG block. The chain's joined data is what its
  * ##DT blocks hold behind their headers, end to end.
  *
- * Either all lists of a chain have MF4_LIST_EQUAL_LENGTH or none does. With it, all declare the same length and the same
- * count, and every block has that length; only the last list may count fewer, and its last block may be shorter. Without it,
+ * Either all lists of a chain have MF4_LIST_EQUAL_LENGTH or none does. With it, they have one length and one count between
+ * them, and every block has that length; only the last list may count fewer, and its last block may be shorter. Without it,
  * each offset is the length of all data before its block. Anything else is MF4_UNTRUE_DECLARATION (13).
  *
  * If the data link is the address of a single ##DT block, the calls refuse with MF4_OTHER_ID (3). Then write a list of that
@@ -570,7 +570,7 @@ mf4_valid_value_reply mf4_record_value(const uint8_t *file, size_t file_len, uin
 /* ---- payloads through a second chain ---------------------------------------------------------------------------- */
 
 /* A channel of variable length (channel_type 1 and a data_addr other than 0) has its values outside the record: the 8 bytes
- * at byte_offset are a position, little-endian whatever the data type, in the joined data of the chain of ##SD blocks that
+ * at byte_offset are a position, little-endian whatever the data type, in what the ##SD blocks of a second chain join to, which
  * starts at data_addr. There stand 4 bytes of length, little-endian, and then the payload.
  *
  * kind, number, at and length are as mf4_decode_value gives them for the payload's bytes, so `at` counts from the front of the
