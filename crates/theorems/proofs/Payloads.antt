@@ -1,6 +1,9 @@
--- Values that are kept outside their record.
+-- About values that are kept outside their record.
+
+-- how a call ends, with what it leaves, and when it answers, exactly
 pub mod PayloadEnds
 pub mod PayloadAnswers
 pub mod PayloadsByCalls
 pub mod PayloadsToC
+-- two files whose chains join to the same bytes give the same
 pub mod TwoFilesPayloads
