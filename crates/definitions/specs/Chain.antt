@@ -130,7 +130,7 @@ abbrev pub declarationOf : List ℕ → DataList → Declaration
 declarationOf s d = if oneLength (d .flags) then byLength (u64At s (d .restAt)) (d .count) else byOffsets
 
 -- Whether a list, the last or not, keeps to what the first one declares, by what it declares itself: all lists have flag bit 0
--- or none has, and with it all declare the same length and the same count, but the last may count less
+-- or none has, and with it they have one length and one count between them, but the last may count less
 abbrev pub keepsTo : Declaration → Bool → Declaration → Bool
 keepsTo (byLength n c) last (byLength m k) = eqb m n && (if last then leb k c else eqb k c)
 keepsTo (byLength n c) last byOffsets = false

@@ -15,7 +15,7 @@ use Rattle.payloads.specs.declared.payload.LengthRead.{LengthRead}
 use Rattle.payloads.specs.declared.payload.PayloadFound.{PayloadFound}
 use Rattle.payloads.specs.declared.payload.PayloadFound.the-variants.{Payload, Refused}
 
--- the payload at a position of the joined data of the chain of `##SD` blocks from `start` on
+-- the payload at a position in what the `##SD` blocks of the chain from `start` on join to
 abbrev pub payloadFrom : List ℕ → ℕ → ℕ → Reply (List ℕ)
 payloadFrom f start position = andThen (joinedOf idSD f start) (λ j. payloadAt j position)
 

@@ -1,8 +1,15 @@
--- Which chains are accepted, why others are refused, and what follows of the blocks.
+-- About chains of data lists.
+
+-- where a block is taken, and a list
 pub mod BlocksStand
+-- which lists keep to the first one's declaration
 pub mod ListsAlike
+-- so which chains are accepted, exactly
 pub mod AcceptedChains
+-- and why each other is refused, exactly
 pub mod ListCauses
 pub mod ChainCauses
+-- where blocks and lists stand, by the length and the count that are declared
 pub mod FoundByLength
+-- how much data there is at most, so that no chain of a file that passes 7 is refused with 14
 pub mod WithinLimits

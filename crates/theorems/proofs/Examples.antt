@@ -1,5 +1,8 @@
--- The worked examples.
+-- What the definitions compute.
+
+-- the worked examples of the rules and more, of overlaps, and of the limits
 pub mod WorkedExamples
 pub mod OverlapExamples
 pub mod LimitExamples
+-- what the theorems on two files and on round trips suppose is met
 pub mod Witnesses

@@ -1,5 +1,9 @@
--- Why a field has no value, and which bits of a record it depends on.
+-- About a field of a record.
+
+-- why it has no value: when each of 18 to 22 is given, exactly
 pub mod Causes
 pub mod CausesByCalls
+-- which bits of the record its value, its double and its validity depend on; of the definitions `fields` has it
 pub mod LocalityByCalls
+-- how near the double of an integer is, and in which order; of the definitions first, then of the calls
 pub mod DoublesByCalls

@@ -1,12 +1,25 @@
--- What follows from the definitions and of the calls, by subject, in the order of the table in README.md.
+-- What follows from the definitions and of the calls: a table of contents, in the order of the table in README.md. In each part a
+-- law stands first about the definitions, then about the clauses of the library's calls (`ByCalls`) and of those for C (`ToC`).
+
+-- of every call: no second reply, what it leaves, when it answers, how it refuses, what C is told
 pub mod Calls
-pub mod Types
-pub mod Blocks
+-- why a field has no value, which bits it depends on, and how near its double is
 pub mod Fields
-pub mod Texts
+-- which chains are accepted, and where their blocks stand
 pub mod Chains
+-- how the fetch of a value ends; records of two files
 pub mod Records
+-- the same of values that are kept outside their record
 pub mod Payloads
+-- numbers that are written, and decoded again
 pub mod Writing
+-- channels that share a bit
 pub mod Overlaps
+-- texts, whose laws stand in the crate `text`
+pub mod Texts
+-- types and their codes, both ways
+pub mod Types
+-- blocks: when they are read, and written and read both ways
+pub mod Blocks
+-- the worked examples, and that what the theorems suppose can be met
 pub mod Examples

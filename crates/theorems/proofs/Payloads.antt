@@ -1,8 +1,12 @@
--- Values that are kept outside their record.
+-- About values that are kept outside their record.
+
+-- how a call ends, with what it leaves, and when it answers, exactly
 pub mod PayloadEnds
 pub mod PayloadAnswers
 pub mod PayloadsByCalls
 pub mod PayloadsToC
-pub mod TwoFilesPayloads
+-- why a payload is refused, exactly
 pub mod PayloadCauses
 pub mod PayloadCausesByCalls
+-- two files whose chains join to the same bytes give the same
+pub mod TwoFilesPayloads

@@ -23,7 +23,6 @@ use Rattle.blocks.proofs.Headers.{length-header}
 use Rattle.blocks.proofs.Writes.{length-list}
 use Rattle.channels.proofs.Channels.{length-channel}
 use Rattle.places.proofs.Answers.{answered}
-use Rattle.theorems.proofs.Calls.RefusalNumbers.{OfField, field-of-fetched, other-of-fetch}
 use Rattle.theorems.proofs.Calls.Answers.{size-fits, fetched-exactly, fetched-record}
 use Rattle.theorems.specs.Exactly.{Fetchable}
 

@@ -18,10 +18,6 @@ use Rattle.text.specs.Meaning.{encodingOf, textReply}
 use Rattle.text.specs.declared.encoding.Encoding.{Encoding}
 use Rattle.records.specs.Meaning.{recordReply}
 use Rattle.places.specs.declared.place.FileAddress.{FileAddress}
-use Rattle.fields.specs.Meaning.{channelMeant, groupMeant, validValueReply}
-use Rattle.fields.specs.declared.channel.Channel.{Channel}
-use Rattle.fields.specs.declared.group.Group.{Group}
-use Rattle.fields.specs.declared.value.ValidValueRead.{ValidValueRead}
 
 -- a refused call leaves every byte, and one that answers all behind the n bytes that it reports
 pub record Spares (Refuses : Type 0) (n : ℕ) (before after : List ℕ) : Type 0 where

@@ -71,6 +71,8 @@ use Rattle.fields.proofs.channel.Channel.is_variable_length.Kinds as variable-l
 use Rattle.fields.proofs.channel.Channel.is_variable_length.Reads as variable-length
 use Rattle.fields.proofs.form_of.Kinds as form-of-type-kinds
 use Rattle.fields.proofs.form_of.Reads as form-of-type
+use Rattle.fields.proofs.is_well_described.Kinds as well-described-kinds
+use Rattle.fields.proofs.is_well_described.Reads as well-described
 use Rattle.fields.proofs.is_over_a_word.Kinds as over-a-word-kinds
 use Rattle.fields.proofs.is_over_a_word.Reads as over-a-word
 use Rattle.fields.proofs.is_no_float_width.Kinds as no-float-width-kinds
@@ -209,6 +211,9 @@ variable-length-settled = settled (λ κs a y z b c p q. (p ∙ sym q, refl))
 
 pub form-of-type-settled : Settled 0 form-of-type-kinds.ps form-of-type-kinds.r form-of-type.Asked form-of-type.ensures form-of-type.Learnt
 form-of-type-settled = settled (λ κs a y z b c p q. (p ∙ sym q, refl))
+
+pub well-described-settled : Settled 0 well-described-kinds.ps well-described-kinds.r well-described.Asked well-described.ensures well-described.Learnt
+well-described-settled = settled (λ κs a y z b c p q. (p ∙ sym q, refl))
 
 pub over-a-word-settled : Settled 0 over-a-word-kinds.ps over-a-word-kinds.r over-a-word.Asked over-a-word.ensures over-a-word.Learnt
 over-a-word-settled = settled (λ κs a y z b c p q. (p ∙ sym q, refl))

@@ -21,7 +21,8 @@ use Rattle.theorems.specs.Clauses.{ReadsPayload}
 use Rattle.theorems.specs.ClausesToC.{ReadsPayloadC}
 use Rattle.theorems.proofs.Calls.TestsInTurn.{as-is, told-exactly}
 use Rattle.theorems.proofs.Payloads.PayloadCauses.{payload-fetched-refused}
-use Rattle.theorems.proofs.Payloads.PayloadsToC.{mf4-record-payload-told}
+use Rattle.replies.proofs.ToldToC.{of-kind-told}
+use Rattle.theorems.proofs.Payloads.PayloadsToC.{Told, payload-tellable, mf4-record-payload-told}
 
 pub record-payload-refused : (κs : Lfts 3) (file : Slice) (start : FileAddress) (number size : ℕ) (group : Group) (channel : Channel) (out room : Slice) (y : PayloadRead) (after later : List ℕ)
     → ReadsPayload κs file start number size group channel out room y after later
@@ -35,5 +36,8 @@ pub mf4-record-payload-refused : (κs : Lfts 3) (file : Slice) (start number siz
     → ReadsPayloadC κs file start number size group channel out room y after later
     → ToldExactly (recordPayloadRefused (file .now) start number size (out .now) (groupGiven group .idSize) (channelGiven channel) (room .now)) (y .reply) (y .told)
 mf4-record-payload-refused κs file start number size group channel out room y after later p =
-    told-exactly _ _ _ _ (mf4-record-payload-told κs file start number size group channel out room y after later p)
+    let told = of-kind-told Told (y .reply) (y .told) (y .kind) _ _
+    (payload-tellable (file .now) start number size (groupGiven group) (channelGiven channel) (out .now) (room .now))
+    (mf4-record-payload-told κs file start number size group channel out room y after later p) in
+    told-exactly _ _ _ _ told
     (payload-fetched-refused (file .now) start number size (groupGiven group) (channelGiven channel) (out .now) (room .now))

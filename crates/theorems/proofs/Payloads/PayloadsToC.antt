@@ -25,7 +25,7 @@ use Rattle.theorems.proofs.Payloads.PayloadAnswers.{payload-exactly}
 
 -- ---- the reply can be told
 
-abbrev Told : PayloadValue → Type 0
+abbrev pub Told : PayloadValue → Type 0
 Told v = Reversible (v .value)
 
 none-is-zero : (n t : ℕ) → OfPayloads n t → 0 < n
@@ -42,7 +42,7 @@ module _ (f : List ℕ) (start k size : ℕ) (g : Group) (c : Channel) (out room
       let r = payload-answered f start k size g c out room v e in
       subst (Tellable Reversible) (r .value-is) (value-tellable (r .payload) (g .idSize) c)
 
-  payload-tellable : Tellable Told (payloadFetched f start k size g c out room .reply)
+  pub payload-tellable : Tellable Told (payloadFetched f start k size g c out room .reply)
   payload-tellable = by-reply _ (fetched-payload-numbered f start k size g c out room) told-value
 
 -- ---- the call

@@ -23,7 +23,8 @@ use Rattle.theorems.specs.RecordCauses.{lengthRefused, recordRefused, re
 use Rattle.theorems.specs.Clauses.{ReadsLength, ReadsRecord, ReadsRecordValue}
 use Rattle.theorems.specs.ClausesToC.{ReadsLengthC, ReadsRecordC, ReadsRecordValueC}
 use Rattle.theorems.proofs.Calls.AnswersByCalls.{of-outcome}
-use Rattle.theorems.proofs.Calls.ToldToC.{mf4-data-length-told, mf4-read-record-told, mf4-record-value-told}
+use Rattle.replies.proofs.ToldToC.{of-kind-told}
+use Rattle.theorems.proofs.Calls.ToldToC.{Judged, value-fetched-tellable, mf4-data-length-told, mf4-read-record-told, mf4-record-value-told}
 use Rattle.theorems.proofs.Calls.TestsInTurn.{as-is, told-exactly}
 use Rattle.theorems.proofs.Records.RecordCauses.{length-refused, record-refused, value-fetched-refused}
 
@@ -56,5 +57,8 @@ pub mf4-record-value-refused : (κs : Lfts 2) (file : Slice) (start number size 
     → ReadsRecordValueC κs file start number size group channel out y after
     → ToldExactly (recordValueRefused (file .now) start number size (out .now) (groupGiven group .idSize) (channelGiven channel)) (y .reply) (y .told)
 mf4-record-value-refused κs file start number size group channel out y after p =
-    told-exactly _ _ _ _ (mf4-record-value-told κs file start number size group channel out y after p)
+    let told = of-kind-told Judged (y .reply) (y .told) (y .kind) _ _
+    (value-fetched-tellable (file .now) start number size (groupGiven group) (channelGiven channel) (out .now))
+    (mf4-record-value-told κs file start number size group channel out y after p) in
+    told-exactly _ _ _ _ told
     (value-fetched-refused (file .now) start number size (out .now) (groupGiven group) (channelGiven channel))
