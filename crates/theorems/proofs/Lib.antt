@@ -3,11 +3,17 @@
 
 -- of every call: no second reply, what it leaves, when it answers, how it refuses, what C is told
 pub mod Calls
+-- types and their codes, both ways
+pub mod Types
+-- blocks: when they are read, why they are refused, and written and read both ways
+pub mod Blocks
 -- why a field has no value, which bits it depends on, and how near its double is
 pub mod Fields
--- which chains are accepted, and where their blocks stand
+-- texts, whose laws stand in the crate `text`
+pub mod Texts
+-- which chains are accepted, why others are refused, and where their blocks stand
 pub mod Chains
--- how the fetch of a value ends; records of two files
+-- how the fetch of a value ends, and why; records of two files
 pub mod Records
 -- the same of values that are kept outside their record
 pub mod Payloads
@@ -15,11 +21,5 @@ pub mod Payloads
 pub mod Writing
 -- channels that share a bit
 pub mod Overlaps
--- texts, whose laws stand in the crate `text`
-pub mod Texts
--- types and their codes, both ways
-pub mod Types
--- blocks: when they are read, and written and read both ways
-pub mod Blocks
 -- the worked examples, and that what the theorems suppose can be met
 pub mod Examples
