@@ -15,7 +15,8 @@ use Rattle.text.specs.Meaning.{textReply}
 use Rattle.fields.specs.Meaning.{validValueReply}
 use Rattle.records.specs.Meaning.{recordReply}
 use Rattle.doubles.proofs.Narrowed.{narrow-one}
-use Rattle.blocks.proofs.Back.{written-one, header-one, type-one, list-one}
+use Rattle.data_types.proofs.Back.{type-one}
+use Rattle.blocks.proofs.Back.{written-one, header-one, list-one}
 use Rattle.channels.proofs.Back.{channel-one}
 use Rattle.text.proofs.Back.{text-one}
 use Rattle.fields.proofs.Back.{description-one, field-one, value-one, valid-value-one}
@@ -44,12 +45,12 @@ use Rattle.blocks.proofs.header.BlockHeader.from_bytes.Kinds as header-read-kin
 use Rattle.blocks.proofs.header.BlockHeader.from_bytes.Reads as header-read
 use Rattle.blocks.proofs.header.BlockHeader.to_bytes.Kinds as header-write-kinds
 use Rattle.blocks.proofs.header.BlockHeader.to_bytes.Reads as header-write
-use Rattle.blocks.proofs.data_type.DataType.from_u8.Kinds as type-read-kinds
-use Rattle.blocks.proofs.data_type.DataType.from_u8.Reads as type-read
-use Rattle.blocks.proofs.data_type.DataType.to_u8.Kinds as type-code-kinds
-use Rattle.blocks.proofs.data_type.DataType.to_u8.Reads as type-code
-use Rattle.blocks.proofs.data_type.DataType.default_bits.Kinds as type-bits-kinds
-use Rattle.blocks.proofs.data_type.DataType.default_bits.Reads as type-bits
+use Rattle.data_types.proofs.data_type.DataType.from_u8.Kinds as type-read-kinds
+use Rattle.data_types.proofs.data_type.DataType.from_u8.Reads as type-read
+use Rattle.data_types.proofs.data_type.DataType.to_u8.Kinds as type-code-kinds
+use Rattle.data_types.proofs.data_type.DataType.to_u8.Reads as type-code
+use Rattle.data_types.proofs.data_type.DataType.default_bits.Kinds as type-bits-kinds
+use Rattle.data_types.proofs.data_type.DataType.default_bits.Reads as type-bits
 use Rattle.blocks.proofs.data_list.DataListBlock.from_bytes.Kinds as list-read-kinds
 use Rattle.blocks.proofs.data_list.DataListBlock.from_bytes.Reads as list-read
 use Rattle.blocks.proofs.data_list.DataListBlock.write_equal.Kinds as list-equal-kinds
@@ -60,8 +61,8 @@ use Rattle.channels.proofs.channel_block.ChannelBlock.from_bytes.Kinds as chann
 use Rattle.channels.proofs.channel_block.ChannelBlock.from_bytes.Reads as channel-read
 use Rattle.channels.proofs.channel_block.ChannelBlock.to_bytes.Kinds as channel-write-kinds
 use Rattle.channels.proofs.channel_block.ChannelBlock.to_bytes.Reads as channel-write
-use Rattle.text.proofs.text_end.Kinds as text-end-kinds
-use Rattle.text.proofs.text_end.Reads as text-end
+use Rattle.encodings.proofs.text_end.Kinds as text-end-kinds
+use Rattle.encodings.proofs.text_end.Reads as text-end
 use Rattle.text.proofs.write_text.Kinds as text-write-kinds
 use Rattle.text.proofs.write_text.Reads as text-write
 use Rattle.channels.proofs.channel_block.ChannelBlock.channel.Kinds as channel-describe-kinds
