@@ -29,6 +29,8 @@ use Rattle.refusals.proofs.Refusal.number.Kinds as refusal-number-kinds
 use Rattle.refusals.proofs.Refusal.number.Reads as refusal-number
 use Rattle.refusals.proofs.Refusal.told.Kinds as refusal-told-kinds
 use Rattle.refusals.proofs.Refusal.told.Reads as refusal-told
+use Rattle.words.proofs.swapped.Kinds as word-swapped-kinds
+use Rattle.words.proofs.swapped.Reads as word-swapped
 use Rattle.doubles.proofs.double_of.Kinds as double-unsigned-kinds
 use Rattle.doubles.proofs.double_of.Reads as double-unsigned
 use Rattle.doubles.proofs.double_of_sign.Kinds as double-by-sign-kinds
@@ -134,6 +136,9 @@ refusal-number-settled = settled (λ κs a y z b c p q. (p ∙ sym q, refl))
 
 pub refusal-told-settled : Settled 0 refusal-told-kinds.ps refusal-told-kinds.r refusal-told.Asked refusal-told.ensures refusal-told.Learnt
 refusal-told-settled = settled (λ κs a y z b c p q. (p ∙ sym q, refl))
+
+pub word-swapped-settled : Settled 0 word-swapped-kinds.ps word-swapped-kinds.r word-swapped.Asked word-swapped.ensures word-swapped.Learnt
+word-swapped-settled = settled (λ κs a y z b c p q. (p ∙ sym q, refl))
 
 pub double-unsigned-settled : Settled 0 double-unsigned-kinds.ps double-unsigned-kinds.r double-unsigned.Asked double-unsigned.ensures double-unsigned.Learnt
 double-unsigned-settled = settled (λ κs a y z b c p q. (p ∙ sym q, refl))
