@@ -2,9 +2,6 @@
 use Prim.Native.Nat.{ℕ}
 use mathlib.Core.List.{List}
 use Rattle.definitions.specs.Reply.{Reply, Outcome, answer}
-use Rattle.definitions.specs.Bytes.{little, big}
-use Rattle.definitions.specs.Unicode.{latin1, utf8, utf16}
-use Rattle.definitions.specs.DataType as types
 use Rattle.definitions.specs.Header.{Header}
 use Rattle.definitions.specs.DataList.{DataList}
 use Rattle.refusals.specs.Meaning.{refused}
@@ -13,8 +10,6 @@ use Rattle.blocks.specs.declared.written.Written.the-variants.{Bytes, Re
 use Rattle.blocks.specs.declared.header.BlockHeader.{BlockHeader}
 use Rattle.blocks.specs.declared.header.HeaderRead.{HeaderRead}
 use Rattle.blocks.specs.declared.header.HeaderRead.the-variants.{Header as Headed, Refused as NoHeader}
-use Rattle.blocks.specs.declared.data_type.DataType.{DataType}
-use Rattle.blocks.specs.declared.data_type.DataType.the-variants.{UnsignedIntegerLE, UnsignedIntegerBE, SignedIntegerLE, SignedIntegerBE, FloatLE, FloatBE, StringLatin1, StringUtf8, StringUtf16LE, StringUtf16BE, ByteArray, MimeSample, MimeStream, CanOpenDate, CanOpenTime, ComplexLE, ComplexBE, Unknown}
 use Rattle.blocks.specs.declared.data_list.DataListBlock.{DataListBlock}
 use Rattle.blocks.specs.declared.data_list.ListRead.{ListRead}
 use Rattle.blocks.specs.declared.data_list.ListRead.the-variants.{List as Listed, Refused as NoList}
@@ -37,28 +32,6 @@ headerMeant h = record { id = h .id; reserved = h .reserved0; blockLength = h .�
 abbrev pub headerReply : HeaderRead → Reply Header
 headerReply (Headed h) = answer (headerMeant h)
 headerReply (NoHeader r) = refused r
-
--- ---- data types
-
-abbrev pub typeMeant : DataType → types.DataType
-typeMeant UnsignedIntegerLE = types.unsignedInteger little
-typeMeant UnsignedIntegerBE = types.unsignedInteger big
-typeMeant SignedIntegerLE = types.signedInteger little
-typeMeant SignedIntegerBE = types.signedInteger big
-typeMeant FloatLE = types.float little
-typeMeant FloatBE = types.float big
-typeMeant StringLatin1 = types.string latin1
-typeMeant StringUtf8 = types.string utf8
-typeMeant StringUtf16LE = types.string (utf16 little)
-typeMeant StringUtf16BE = types.string (utf16 big)
-typeMeant ByteArray = types.byteArray
-typeMeant MimeSample = types.mimeSample
-typeMeant MimeStream = types.mimeStream
-typeMeant CanOpenDate = types.canOpenDate
-typeMeant CanOpenTime = types.canOpenTime
-typeMeant ComplexLE = types.complex little
-typeMeant ComplexBE = types.complex big
-typeMeant (Unknown code) = types.unknown code
 
 -- ---- data list
 

@@ -5,8 +5,9 @@ use Rattle.definitions.specs.Reply.{Reply, answer, refusal}
 use Rattle.definitions.specs.ChannelBlock as blocks
 use Rattle.definitions.proofs.Replies.{one-by}
 use Rattle.refusals.proofs.Back.{refusalOf, back}
-use Rattle.blocks.proofs.Back.{headerBack, typeBack, type-back}
-use Rattle.blocks.specs.declared.data_type.DataType.{DataType}
+use Rattle.data_types.proofs.Back.{typeBack, type-back}
+use Rattle.blocks.proofs.Back.{headerBack}
+use Rattle.data_types.specs.declared.data_type.DataType.{DataType}
 use Rattle.channels.specs.Meaning.{channelBlockMeant, channelBlockReply}
 use Rattle.channels.specs.declared.channel_block.ChannelBlock.{ChannelBlock}
 use Rattle.channels.specs.declared.channel_block.ChannelRead.{ChannelRead}

@@ -2,7 +2,8 @@
 use Rattle.definitions.specs.Reply.{Reply, answer}
 use Rattle.definitions.specs.ChannelBlock as blocks
 use Rattle.refusals.specs.Meaning.{refused}
-use Rattle.blocks.specs.Meaning.{headerMeant, typeMeant}
+use Rattle.data_types.specs.Meaning.{typeMeant}
+use Rattle.blocks.specs.Meaning.{headerMeant}
 use Rattle.channels.specs.declared.channel_block.ChannelBlock.{ChannelBlock}
 use Rattle.channels.specs.declared.channel_block.ChannelRead.{ChannelRead}
 use Rattle.channels.specs.declared.channel_block.ChannelRead.the-variants.{Block, Refused as NoChannel}

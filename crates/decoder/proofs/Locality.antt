@@ -8,7 +8,7 @@ use Rattle.definitions.specs.Bytes.{bytesFor}
 use Rattle.definitions.specs.DataType.{kindOf, orderOf}
 use Rattle.definitions.specs.Channel.{Channel, variableLength, isNumber, doubleIn, recordDouble}
 use Rattle.words.proofs.Numbers.{Bytes}
-use Rattle.words.proofs.Locality as words
+use Rattle.bit_fields.proofs.Locality as words
 use Rattle.fields.proofs.Locality.{locality}
 use Rattle.decoder.proofs.Doubles.{double-fixed}
 

@@ -16,7 +16,7 @@ use Rattle.definitions.specs.Ieee754.{doubleOf, Nearest}
 use Rattle.definitions.specs.DataType.{DataType, Kind, kindOf}
 use Rattle.definitions.specs.Channel.{Channel, Value, unsigned, signed, double, text, bytes, sample, stream, unknownValue, variableLength, startOf, spanOf, numberIn, decoded, isInteger, isFloating, isNumber, valueBy, valueOf, doubleIn, recordDouble}
 use Rattle.definitions.proofs.Replies.{not-answered}
-use Rattle.words.proofs.Bits.{field-below}
+use Rattle.bit_fields.proofs.Bits.{field-below}
 use Rattle.doubles.proofs.Whole.{of-positive, of-negative}
 use Rattle.doubles.proofs.Nearest.{nearest}
 use Rattle.fields.proofs.Fields.{inTurn}

@@ -30,7 +30,7 @@ use Rattle.fields.proofs.Forms.{number-kinds, number-span, is-number, no-number
 use Rattle.fields.proofs.Fields.{no-bits, no-float-width, found, fitting}
 use Rattle.fields.proofs.Values.{looked-for, sound-at, valued}
 use Rattle.decoder.proofs.Doubles.{double-found, double-fixed, double-other, double-number}
-use Rattle.words.proofs.Bits.{field-below}
+use Rattle.bit_fields.proofs.Bits.{field-below}
 use Rattle.words.proofs.Numbers.{Bytes}
 use Rattle.words.proofs.Loads.{in-word}
 

@@ -2,11 +2,11 @@
 // every near field would wait for that.
 ghost use mathlib.Core.Path.{_≡_};
 ghost use Rattle.definitions.specs.DataType.{typeOf};
-ghost use Rattle.blocks.specs.Meaning.{typeMeant};
+ghost use Rattle.data_types.specs.Meaning.{typeMeant};
 ghost use Rattle.fields.specs.Form.{formOf};
 ghost use Rattle.fields.specs.Meaning.{channelMeant};
 ghost use Rattle.decoder.specs.Meaning.{placed};
-use blocks::DataType;
+use data_types::DataType;
 use fields::Channel;
 
 // A code whose type decodes as this one does. All unknown types do, so the code that one carries need not come along.

@@ -15,6 +15,8 @@ use crate::near::NumberForm;
 use crate::near::WordFound;
 use crate::near::find_word;
 use crate::near::number_form;
+use bit_fields::near_be;
+use bit_fields::near_le;
 use fields::Channel;
 use fields::DecodedChannelValue;
 use fields::DecodedValue;
@@ -30,8 +32,6 @@ use fields::find_field;
 use fields::form_of;
 use fields::number_at;
 use fields::number_value;
-use words::near_be;
-use words::near_le;
 
 fn value_at(record: &[u8], at: usize, size: usize, form: Form, channel: Channel) -> DecodedValue
     requires { ⌜ Sound (formKind form) (now «record») at size (channelMeant channel) ⌝ }

@@ -17,7 +17,9 @@ use crate::integer::signed_double;
 use crate::integer::unsigned_double;
 use crate::near::WordFound;
 use crate::near::find_word;
-use blocks::DataType;
+use bit_fields::near_be;
+use bit_fields::near_le;
+use data_types::DataType;
 use doubles::NAN;
 use doubles::widen;
 use fields::Channel;
@@ -28,8 +30,6 @@ use fields::find_field;
 use fields::float_bits;
 use fields::form_of;
 use fields::number_at;
-use words::near_be;
-use words::near_le;
 
 fn number_double(number: Number, bit_count: u32, x: u64) -> u64
     requires { ⌜ Fitting number «bit_count» x ⌝ }

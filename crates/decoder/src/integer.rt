@@ -6,10 +6,10 @@ ghost use lib.Ieee.{binary64, inFloat};
 ghost use Rattle.definitions.specs.Ieee754.{doubleOf};
 ghost use Rattle.fields.specs.Known.{Fitting};
 ghost use Rattle.decoder.specs.Meaning.{numberDouble};
+use bit_fields::signed_of;
 use doubles::double_of;
 use doubles::double_of_signed;
 use fields::Number;
-use words::signed_of;
 
 // A double holds every whole number up to 2^53, so the machine's own cast loses nothing.
 fn exact_double(n: i64) -> u64

@@ -1,10 +1,10 @@
 // Fields that a word holds: eight bytes of the record, or all of a shorter one. Nearly all are so, and one load reads them.
 ghost use mathlib.Core.Path.{_≡_};
 ghost use Prim.Native.Nat.{_+_, _≤_, _<_};
-ghost use Rattle.blocks.specs.Meaning.{typeMeant};
+ghost use Rattle.data_types.specs.Meaning.{typeMeant};
 ghost use Rattle.fields.specs.Form.{formOf};
 ghost use Rattle.decoder.specs.Known.{WordTold, NumberTold};
-use blocks::DataType;
+use data_types::DataType;
 use fields::Form;
 use fields::Number;
 use fields::form_of;

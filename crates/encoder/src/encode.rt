@@ -11,6 +11,8 @@ ghost use Rattle.encoder.specs.Known.{TakesNone, AlwaysRefused, isReadab
 use crate::bits::FieldBits;
 use crate::bits::number_bits;
 use crate::number::NumberGiven;
+use bit_fields::put_field_be;
+use bit_fields::put_field_le;
 use decoder::any_value;
 use fields::Channel;
 use fields::Form;
@@ -20,8 +22,6 @@ use fields::ends_outside;
 use fields::form_of;
 use fields::is_well_described;
 use refusals::Refusal;
-use words::put_field_be;
-use words::put_field_le;
 
 pub enum ValueWritten {
     Done,

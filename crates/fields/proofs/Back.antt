@@ -11,8 +11,8 @@ use Rattle.refusals.proofs.Back.{refusalOf, back}
 use Rattle.refusals.specs.Meaning.{refused}
 use Rattle.refusals.specs.declared.Refusal.{Refusal}
 use Rattle.refusals.specs.declared.Refusal.the-variants.{NoBits}
-use Rattle.blocks.proofs.Back.{typeBack, type-back}
-use Rattle.blocks.specs.declared.data_type.DataType.{DataType}
+use Rattle.data_types.proofs.Back.{typeBack, type-back}
+use Rattle.data_types.specs.declared.data_type.DataType.{DataType}
 use Rattle.fields.specs.declared.channel.Channel.{Channel}
 use Rattle.fields.specs.Meaning.{channelMeant, valueMeant, valueReply, validValueReply}
 use Rattle.fields.specs.Known.{FieldTold, FieldPlaced}

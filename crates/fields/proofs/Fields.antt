@@ -11,7 +11,7 @@ use borrow.Author.Tests.{ltb-false, eqb-false}
 use Rattle.definitions.specs.Reply.{Reply, answer, refusal, if_then_else_, told}
 use Rattle.definitions.specs.DataType.{Kind, integer, floating, whole, undecoded}
 use Rattle.definitions.specs.Channel.{Channel, Value, decoded, isNumber, isInteger, isFloating, bitSpan, spanIn, valueBy}
-use Rattle.words.proofs.Bits.{field-below}
+use Rattle.bit_fields.proofs.Bits.{field-below}
 use Rattle.definitions.specs.Bytes.{numberOf, span, bytesFor, fieldAt}
 use Rattle.fields.specs.Form.{orderMeant, numberKind, contentKind, formKind}
 use Rattle.fields.specs.Known.{valueAt, FieldBounds, Sound, Valued, FieldTold, FieldPlaced, Fitting}

@@ -17,7 +17,7 @@ use Rattle.definitions.specs.Channel.{Channel, Value, unsigned, signed, text, v
 use Rattle.definitions.specs.Bytes.{twosComplement}
 use Rattle.definitions.proofs.Replies.{not-answered}
 use Rattle.words.proofs.Numbers.{Bytes}
-use Rattle.words.proofs.Locality as words
+use Rattle.bit_fields.proofs.Locality as words
 use Rattle.words.proofs.Spans.{length-span, getD-span}
 use Rattle.fields.proofs.Fields.{inTurn, tested, value-tested}
 use Rattle.fields.proofs.Types.{number-types}

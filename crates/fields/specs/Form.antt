@@ -7,9 +7,9 @@ use Rattle.definitions.specs.Bytes.{Order, little, big, span, twosComplement}
 use Rattle.definitions.specs.Unicode.{latin1, utf8, utf16, stopped}
 use Rattle.definitions.specs.DataType.{DataType, unsignedInteger, signedInteger, float, complex, string, byteArray, mimeSample, mimeStream, canOpenDate, canOpenTime, unknown, Kind, integer, floating, whole, undecoded}
 use Rattle.definitions.specs.Channel.{Channel, Value, unsigned, signed, text, bytes, sample, stream, unknownValue, doubleValue, floatBits, numberIn}
-pub use Rattle.text.specs.Meaning.{orderMeant}
-use Rattle.text.specs.Meaning.{encodingOf}
-use Rattle.text.specs.declared.encoding.Encoding.the-variants.{Latin1, Utf8, Utf16Le, Utf16Be}
+pub use Rattle.encodings.specs.Meaning.{orderMeant}
+use Rattle.encodings.specs.Meaning.{encodingOf}
+use Rattle.encodings.specs.declared.encoding.Encoding.the-variants.{Latin1, Utf8, Utf16Le, Utf16Be}
 use Rattle.fields.specs.declared.form.Number as numbers
 use Rattle.fields.specs.declared.form.Number.the-variants.{Unsigned, Signed, Float}
 use Rattle.fields.specs.declared.form.Form.{Form}

@@ -3,7 +3,7 @@ use Rattle.definitions.specs.Reply.{Reply, answer}
 use Rattle.definitions.specs.Channel as channels
 use Rattle.definitions.specs.Channel.{Value, ValidValue, unsigned, signed, double, text, bytes, sample, stream, unknownValue}
 use Rattle.refusals.specs.Meaning.{refused}
-use Rattle.blocks.specs.Meaning.{typeMeant}
+use Rattle.data_types.specs.Meaning.{typeMeant}
 use Rattle.fields.specs.declared.channel.Channel.{Channel}
 use Rattle.fields.specs.declared.value.DecodedValue.{DecodedValue}
 use Rattle.fields.specs.declared.value.DecodedValue.the-variants.{UnsignedInteger, SignedInteger, Float, String, ByteArray, MimeSample, MimeStream, Unknown}

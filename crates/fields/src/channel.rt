@@ -2,7 +2,7 @@
 ghost use mathlib.Core.Path.{_≡_};
 ghost use Rattle.definitions.specs.Channel.{variableLength};
 ghost use Rattle.fields.specs.Meaning.{channelMeant};
-use blocks::DataType;
+use data_types::DataType;
 
 // What tells of the field, and then of its validity: a copy of the first part then loads no piece that was stored as two.
 pub struct Channel {

@@ -5,13 +5,13 @@ ghost use lib.ListN.{length};
 ghost use Rattle.definitions.specs.Bytes.{span};
 ghost use Rattle.definitions.specs.Unicode.{stopped};
 ghost use Rattle.definitions.specs.Channel.{text};
-ghost use Rattle.text.specs.Meaning.{encodingOf};
+ghost use Rattle.encodings.specs.Meaning.{encodingOf};
 ghost use Rattle.fields.specs.Meaning.{valueMeant};
 ghost use Rattle.fields.specs.Form.{contentValue};
 use crate::form::Content;
 use crate::value::DecodedValue;
-use text::Encoding;
-use text::text_end;
+use encodings::Encoding;
+use encodings::text_end;
 
 // A text ends where it stops.
 fn text_at(record: &[u8], at: usize, size: usize, encoding: Encoding) -> DecodedValue

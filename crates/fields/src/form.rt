@@ -1,9 +1,9 @@
 // How a type's field lies in its bytes, and what it becomes.
 ghost use mathlib.Core.Path.{_≡_};
-ghost use Rattle.blocks.specs.Meaning.{typeMeant};
+ghost use Rattle.data_types.specs.Meaning.{typeMeant};
 ghost use Rattle.fields.specs.Form.{formOf};
-use blocks::DataType;
-use text::Encoding;
+use data_types::DataType;
+use encodings::Encoding;
 
 pub enum Number {
     Unsigned,

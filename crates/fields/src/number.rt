@@ -8,11 +8,11 @@ ghost use Rattle.fields.specs.Form.{orderMeant, numberValue};
 ghost use Rattle.fields.specs.Known.{FieldBounds, Fitting};
 use crate::form::Number;
 use crate::value::DecodedValue;
+use bit_fields::field_be;
+use bit_fields::field_le;
+use bit_fields::signed_of;
 use doubles::value_of;
 use doubles::widen;
-use words::field_be;
-use words::field_le;
-use words::signed_of;
 
 pub fn number_at(record: &[u8], at: usize, big_endian: bool, bit_offset: u32, bit_count: u32) -> u64
     requires { ⌜ FieldBounds (now «record») at «bit_offset» «bit_count» ⌝ }

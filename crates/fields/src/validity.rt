@@ -7,7 +7,7 @@ ghost use Rattle.definitions.specs.Channel.{validOf};
 ghost use Rattle.fields.specs.Meaning.{channelMeant, groupMeant};
 use crate::channel::Channel;
 use crate::group::Group;
-use words::cut;
+use bit_fields::cut;
 
 fn bit_of(word: u64, place: u32) -> u64
     requires { ⌜ place < 64 ⌝ }

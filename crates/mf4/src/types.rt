@@ -1,7 +1,7 @@
 // Data types, by their codes.
 ghost use mathlib.Core.Path.{_≡_};
 ghost use Rattle.definitions.specs.DataType.{typeOf, codeOf, defaultBits};
-use blocks::DataType;
+use data_types::DataType;
 
 #[no_mangle]
 pub extern "C" fn mf4_type_code(code: u8) -> u8

@@ -10,7 +10,7 @@ use Rattle.definitions.specs.DataType.{orderOf}
 use Rattle.definitions.specs.Channel.{Channel, bitPlace}
 use Rattle.definitions.specs.Overlap.{shareABit}
 use Rattle.definitions.proofs.Shared.{Within, shared-back, apart-back}
-use Rattle.words.proofs.Locality.{byte-inside}
+use Rattle.bit_fields.proofs.Locality.{byte-inside}
 use Rattle.overlaps.specs.Meaning.{bare, InSpan, Covers, meets}
 use Rattle.overlaps.specs.declared.run.Run.{Run}
 

@@ -2,7 +2,7 @@
 ghost use mathlib.Core.Path.{_≡_};
 ghost use Rattle.fields.specs.Meaning.{channelMeant};
 ghost use Rattle.replies.specs.Values.{channelGiven};
-use blocks::DataType;
+use data_types::DataType;
 use decoder::Channel;
 
 #[repr(C)]

@@ -4,9 +4,9 @@ ghost use Rattle.encoder.specs.Meaning.{givenMeant, writtenReply};
 ghost use Rattle.replies.specs.Replies.{doneC};
 ghost use Rattle.replies.specs.Stored.{numberGiven};
 use crate::done::Mf4DoneReply;
+use bit_fields::signed_of;
 use encoder::NumberGiven;
 use encoder::ValueWritten;
-use words::signed_of;
 
 // The kind and the number as Mf4ValueReply has them
 #[repr(C)]

@@ -1,32 +1,14 @@
 -- The meanings are one-to-one: from what it means, the code's own value comes back.
 use mathlib.Core.Path.{_≡_, refl, ap}
 use Rattle.definitions.specs.Reply.{Reply, answer, refusal}
-use Rattle.definitions.specs.Bytes.{little, big}
-use Rattle.definitions.specs.Unicode.{Encoding as Encoded, latin1, utf8, utf16, Char as Character, scalar, damage, TextWritten}
+use Rattle.definitions.specs.Unicode.{Char as Character, scalar, damage, TextWritten}
 use Rattle.definitions.proofs.Replies.{one-by}
 use Rattle.refusals.proofs.Back.{refusalOf, back}
-use Rattle.text.specs.Meaning.{encodingOf, charMeant, textReply}
-use Rattle.text.specs.declared.encoding.Encoding.{Encoding}
-use Rattle.text.specs.declared.encoding.Encoding.the-variants.{Latin1, Utf8, Utf16Le, Utf16Be}
+use Rattle.text.specs.Meaning.{charMeant, textReply}
 use Rattle.text.specs.declared.character.Char.{Char}
 use Rattle.text.specs.declared.character.Char.the-variants.{Scalar, Damage}
 use Rattle.text.specs.declared.answer.TextWrite.{TextWrite}
 use Rattle.text.specs.declared.answer.TextWrite.the-variants.{Written, Refused}
-
-abbrev encodingMeant : Encoded → Encoding
-encodingMeant latin1 = Latin1
-encodingMeant utf8 = Utf8
-encodingMeant (utf16 little) = Utf16Le
-encodingMeant (utf16 big) = Utf16Be
-
-encoding-back : (e : Encoding) → encodingMeant (encodingOf e) ≡ e
-encoding-back Latin1 = refl
-encoding-back Utf8 = refl
-encoding-back Utf16Le = refl
-encoding-back Utf16Be = refl
-
-pub encoding-one : (a b : Encoding) → encodingOf a ≡ encodingOf b → a ≡ b
-encoding-one = one-by encodingOf encodingMeant encoding-back
 
 abbrev charOf : Character → Char
 charOf (scalar c more) = Scalar c more

@@ -4,7 +4,6 @@ pub mod Widths
 pub mod Spelling
 pub mod Decided
 pub mod FirstChar
-pub mod Stopping
 pub mod Copying
 pub mod Walk
 pub mod Units

@@ -13,7 +13,7 @@ use Rattle.text.specs.Parts.{Modest, asIs}
 use Rattle.text.proofs.Tests.{inside-back}
 use Rattle.text.proofs.Spelling.{byte}
 use Rattle.text.proofs.FirstChar.{Bytes, modest-by}
-use Rattle.text.proofs.Stopping.{stop-within, stop-kept}
+use Rattle.encodings.proofs.Stopping.{stop-within, stop-kept}
 
 -- for a text of n bytes
 abbrev pub room : ℕ → ℕ

@@ -11,7 +11,7 @@ use lib.ListN.{length, getD, drop}
 use lib.Seq.{sets}
 use Rattle.definitions.specs.Bytes.{Order}
 use Rattle.definitions.specs.Unicode.{utf16, unitOf, utf8Of, damage, chars, charsUtf8}
-use Rattle.text.specs.Meaning.{orderMeant}
+use Rattle.encodings.specs.Meaning.{orderMeant}
 use Rattle.text.specs.Parts.{highByte, CharRead}
 use Rattle.text.specs.declared.character.Char.{Char}
 use Rattle.text.specs.declared.character.Char.the-variants.{Scalar, Damage}

@@ -2,7 +2,8 @@
 ghost use mathlib.Core.Path.{_≡_};
 ghost use mathlib.Core.Bool.{true};
 ghost use Rattle.definitions.specs.Unicode.{utf8, utf16, placeholder, writtenText};
-ghost use Rattle.text.specs.Meaning.{orderMeant, wrote};
+ghost use Rattle.encodings.specs.Meaning.{orderMeant};
+ghost use Rattle.text.specs.Meaning.{wrote};
 ghost use Rattle.text.specs.Parts.{asIs};
 use crate::answer::TextWrite;
 use crate::unchanged::write_unchanged;

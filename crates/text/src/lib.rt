@@ -3,15 +3,11 @@ mod answer;
 mod character;
 mod damaged;
 mod encode;
-mod encoding;
 mod latin1;
-mod stop;
 mod unchanged;
 mod utf16;
 mod utf8;
 mod write;
 
 pub use answer::TextWrite;
-pub use encoding::Encoding;
-pub use stop::text_end;
 pub use write::write_text;

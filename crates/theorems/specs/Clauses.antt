@@ -7,12 +7,12 @@ use contract.Lifetimes.{Lfts}
 use Rattle.mf4.specs.Clauses.{Slice, Allows}
 use Rattle.blocks.specs.declared.header.BlockHeader.{BlockHeader}
 use Rattle.blocks.specs.declared.header.HeaderRead.{HeaderRead}
-use Rattle.blocks.specs.declared.data_type.DataType.{DataType}
+use Rattle.data_types.specs.declared.data_type.DataType.{DataType}
 use Rattle.blocks.specs.declared.data_list.ListRead.{ListRead}
 use Rattle.channels.specs.declared.channel_block.ChannelBlock.{ChannelBlock}
 use Rattle.channels.specs.declared.channel_block.ChannelRead.{ChannelRead}
 use Rattle.blocks.specs.declared.written.Written.{Written}
-use Rattle.text.specs.declared.encoding.Encoding.{Encoding}
+use Rattle.encodings.specs.declared.encoding.Encoding.{Encoding}
 use Rattle.text.specs.declared.answer.TextWrite.{TextWrite}
 use Rattle.fields.specs.declared.channel.Channel.{Channel}
 use Rattle.fields.specs.declared.group.Group.{Group}
@@ -28,10 +28,10 @@ use Rattle.blocks.proofs.header.BlockHeader.from_bytes.Kinds as header-read-kin
 use Rattle.blocks.proofs.header.BlockHeader.from_bytes.Reads as header-read
 use Rattle.blocks.proofs.header.BlockHeader.to_bytes.Kinds as header-write-kinds
 use Rattle.blocks.proofs.header.BlockHeader.to_bytes.Reads as header-write
-use Rattle.blocks.proofs.data_type.DataType.from_u8.Kinds as type-read-kinds
-use Rattle.blocks.proofs.data_type.DataType.from_u8.Reads as type-read
-use Rattle.blocks.proofs.data_type.DataType.to_u8.Kinds as type-code-kinds
-use Rattle.blocks.proofs.data_type.DataType.to_u8.Reads as type-code
+use Rattle.data_types.proofs.data_type.DataType.from_u8.Kinds as type-read-kinds
+use Rattle.data_types.proofs.data_type.DataType.from_u8.Reads as type-read
+use Rattle.data_types.proofs.data_type.DataType.to_u8.Kinds as type-code-kinds
+use Rattle.data_types.proofs.data_type.DataType.to_u8.Reads as type-code
 use Rattle.blocks.proofs.data_list.DataListBlock.from_bytes.Kinds as list-read-kinds
 use Rattle.blocks.proofs.data_list.DataListBlock.from_bytes.Reads as list-read
 use Rattle.blocks.proofs.data_list.DataListBlock.write_equal.Kinds as list-equal-kinds

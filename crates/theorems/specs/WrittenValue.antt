@@ -11,7 +11,7 @@ use Rattle.definitions.specs.Channel.{Channel, Group, variableLength, isNumber,
 use Rattle.definitions.specs.Overlap.{shareABit}
 use Rattle.definitions.specs.WrittenValue.{Given, givenUnsigned, givenSigned, givenDouble, givenOther, fieldGiven, fieldWritten}
 use Rattle.definitions.proofs.Shared.{Within}
-use Rattle.words.proofs.StoredFields.{bitThere}
+use Rattle.bit_fields.proofs.StoredFields.{bitThere}
 use Rattle.encoder.specs.Meaning.{valueGiven}
 use Rattle.theorems.specs.Exactly.{FieldStands, Takes, Writable}
 

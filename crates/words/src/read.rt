@@ -50,7 +50,7 @@ pub fn few_le_bytes(s: &[u8], at: usize, n: usize) -> u64
 }
 
 // The bytes of a word in the other order. The compiler makes one instruction of it.
-pub(crate) fn swapped(word: u64) -> u64
+pub fn swapped(word: u64) -> u64
     ensures { λ r. ⌜ r ≡ numberOf big (le 8 word) ⌝ }
 {
     let mut done: u64 = 0;

@@ -12,8 +12,9 @@ use Rattle.blocks.specs.declared.written.Written.{Written}
 use Rattle.channels.specs.Meaning.{channelBlockReply, channelBlockMeant}
 use Rattle.channels.specs.declared.channel_block.ChannelBlock.{ChannelBlock}
 use Rattle.channels.specs.declared.channel_block.ChannelRead.{ChannelRead}
-use Rattle.text.specs.Meaning.{encodingOf, textReply}
-use Rattle.text.specs.declared.encoding.Encoding.{Encoding}
+use Rattle.encodings.specs.Meaning.{encodingOf}
+use Rattle.text.specs.Meaning.{textReply}
+use Rattle.encodings.specs.declared.encoding.Encoding.{Encoding}
 use Rattle.text.specs.declared.answer.TextWrite.{TextWrite}
 use Rattle.replies.specs.Replies.{headerGiven}
 use Rattle.replies.specs.Channels.{blockGiven}

@@ -11,17 +11,18 @@ use Rattle.definitions.specs.ChannelBlock as channels
 use Rattle.definitions.specs.DataList.{DataList, Lengths, equal, variable, flagsFor, restFor, listWritten}
 use Rattle.definitions.proofs.Types.{type-back}
 use Rattle.words.proofs.Numbers.{Bytes}
-use Rattle.blocks.specs.Meaning.{headerReply, headerMeant, typeMeant, writtenReply, listReply}
+use Rattle.data_types.specs.Meaning.{typeMeant}
+use Rattle.blocks.specs.Meaning.{headerReply, headerMeant, writtenReply, listReply}
 use Rattle.channels.specs.Meaning.{channelBlockMeant, channelBlockReply}
 use Rattle.blocks.specs.declared.header.BlockHeader.{BlockHeader}
 use Rattle.blocks.specs.declared.header.HeaderRead.{HeaderRead}
-use Rattle.blocks.specs.declared.data_type.DataType.{DataType}
-use Rattle.blocks.specs.declared.data_type.DataType.the-variants.{Unknown}
+use Rattle.data_types.specs.declared.data_type.DataType.{DataType}
+use Rattle.data_types.specs.declared.data_type.DataType.the-variants.{Unknown}
 use Rattle.blocks.specs.declared.data_list.ListRead.{ListRead}
 use Rattle.channels.specs.declared.channel_block.ChannelBlock.{ChannelBlock}
 use Rattle.channels.specs.declared.channel_block.ChannelRead.{ChannelRead}
 use Rattle.blocks.specs.declared.written.Written.{Written}
-use Rattle.blocks.proofs.Back.{type-one}
+use Rattle.data_types.proofs.Back.{type-one}
 use Rattle.mf4.specs.Clauses.{Slice}
 use Rattle.theorems.specs.Clauses.{ReadsHeader, WritesHeader, ReadsType, GivesCode, ReadsChannel, WritesChannel, ReadsList, WritesEqual, WritesVariable}
 use Rattle.theorems.proofs.Types.TypeCodes.{code-back, only-owned}

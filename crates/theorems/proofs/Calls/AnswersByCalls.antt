@@ -21,8 +21,9 @@ use Rattle.blocks.specs.declared.data_list.ListRead.{ListRead}
 use Rattle.channels.specs.declared.channel_block.ChannelBlock.{ChannelBlock}
 use Rattle.channels.specs.declared.channel_block.ChannelRead.{ChannelRead}
 use Rattle.blocks.specs.declared.written.Written.{Written}
-use Rattle.text.specs.Meaning.{encodingOf, textReply}
-use Rattle.text.specs.declared.encoding.Encoding.{Encoding}
+use Rattle.encodings.specs.Meaning.{encodingOf}
+use Rattle.text.specs.Meaning.{textReply}
+use Rattle.encodings.specs.declared.encoding.Encoding.{Encoding}
 use Rattle.text.specs.declared.answer.TextWrite.{TextWrite}
 use Rattle.text.proofs.FirstChar.{Bytes}
 use Rattle.text.proofs.Room.{room, text-room}

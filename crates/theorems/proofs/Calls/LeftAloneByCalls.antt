@@ -14,8 +14,9 @@ use Rattle.blocks.specs.Meaning.{headerMeant, writtenReply}
 use Rattle.channels.specs.Meaning.{channelBlockMeant}
 use Rattle.blocks.specs.declared.header.BlockHeader.{BlockHeader}
 use Rattle.channels.specs.declared.channel_block.ChannelBlock.{ChannelBlock}
-use Rattle.text.specs.Meaning.{encodingOf, textReply}
-use Rattle.text.specs.declared.encoding.Encoding.{Encoding}
+use Rattle.encodings.specs.Meaning.{encodingOf}
+use Rattle.text.specs.Meaning.{textReply}
+use Rattle.encodings.specs.declared.encoding.Encoding.{Encoding}
 use Rattle.records.specs.Meaning.{recordReply}
 use Rattle.places.specs.declared.place.FileAddress.{FileAddress}
 

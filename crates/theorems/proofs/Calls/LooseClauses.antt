@@ -8,10 +8,10 @@ use contract.Lifetimes.{Lfts}
 use borrow.Fn.Kinds.{In, Out}
 use lib.ListN.{length}
 use Rattle.blocks.specs.declared.header.BlockHeader.{BlockHeader}
-use Rattle.blocks.specs.declared.data_type.DataType.{DataType}
+use Rattle.data_types.specs.declared.data_type.DataType.{DataType}
 use Rattle.blocks.specs.declared.written.Written.{Written}
 use Rattle.blocks.proofs.header.BlockHeader.to_bytes.Kinds as header-write
-use Rattle.blocks.proofs.data_type.DataType.to_u8.Kinds as type-code
+use Rattle.data_types.proofs.data_type.DataType.to_u8.Kinds as type-code
 use Rattle.mf4.specs.Clauses.{Slice}
 use Rattle.theorems.specs.Sole.{Clause, Settled}
 

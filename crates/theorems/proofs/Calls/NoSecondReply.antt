@@ -15,7 +15,8 @@ use Rattle.text.specs.Meaning.{textReply}
 use Rattle.fields.specs.Meaning.{validValueReply}
 use Rattle.records.specs.Meaning.{recordReply}
 use Rattle.doubles.proofs.Narrowed.{narrow-one}
-use Rattle.blocks.proofs.Back.{written-one, header-one, type-one, list-one}
+use Rattle.data_types.proofs.Back.{type-one}
+use Rattle.blocks.proofs.Back.{written-one, header-one, list-one}
 use Rattle.channels.proofs.Back.{channel-one}
 use Rattle.text.proofs.Back.{text-one}
 use Rattle.fields.proofs.Back.{description-one, field-one, value-one, valid-value-one}
@@ -29,6 +30,8 @@ use Rattle.refusals.proofs.Refusal.number.Kinds as refusal-number-kinds
 use Rattle.refusals.proofs.Refusal.number.Reads as refusal-number
 use Rattle.refusals.proofs.Refusal.told.Kinds as refusal-told-kinds
 use Rattle.refusals.proofs.Refusal.told.Reads as refusal-told
+use Rattle.words.proofs.swapped.Kinds as word-swapped-kinds
+use Rattle.words.proofs.swapped.Reads as word-swapped
 use Rattle.doubles.proofs.double_of.Kinds as double-unsigned-kinds
 use Rattle.doubles.proofs.double_of.Reads as double-unsigned
 use Rattle.doubles.proofs.double_of_sign.Kinds as double-by-sign-kinds
@@ -45,12 +48,12 @@ use Rattle.blocks.proofs.header.BlockHeader.from_bytes.Kinds as header-read-kin
 use Rattle.blocks.proofs.header.BlockHeader.from_bytes.Reads as header-read
 use Rattle.blocks.proofs.header.BlockHeader.to_bytes.Kinds as header-write-kinds
 use Rattle.blocks.proofs.header.BlockHeader.to_bytes.Reads as header-write
-use Rattle.blocks.proofs.data_type.DataType.from_u8.Kinds as type-read-kinds
-use Rattle.blocks.proofs.data_type.DataType.from_u8.Reads as type-read
-use Rattle.blocks.proofs.data_type.DataType.to_u8.Kinds as type-code-kinds
-use Rattle.blocks.proofs.data_type.DataType.to_u8.Reads as type-code
-use Rattle.blocks.proofs.data_type.DataType.default_bits.Kinds as type-bits-kinds
-use Rattle.blocks.proofs.data_type.DataType.default_bits.Reads as type-bits
+use Rattle.data_types.proofs.data_type.DataType.from_u8.Kinds as type-read-kinds
+use Rattle.data_types.proofs.data_type.DataType.from_u8.Reads as type-read
+use Rattle.data_types.proofs.data_type.DataType.to_u8.Kinds as type-code-kinds
+use Rattle.data_types.proofs.data_type.DataType.to_u8.Reads as type-code
+use Rattle.data_types.proofs.data_type.DataType.default_bits.Kinds as type-bits-kinds
+use Rattle.data_types.proofs.data_type.DataType.default_bits.Reads as type-bits
 use Rattle.blocks.proofs.data_list.DataListBlock.from_bytes.Kinds as list-read-kinds
 use Rattle.blocks.proofs.data_list.DataListBlock.from_bytes.Reads as list-read
 use Rattle.blocks.proofs.data_list.DataListBlock.write_equal.Kinds as list-equal-kinds
@@ -61,8 +64,8 @@ use Rattle.channels.proofs.channel_block.ChannelBlock.from_bytes.Kinds as chann
 use Rattle.channels.proofs.channel_block.ChannelBlock.from_bytes.Reads as channel-read
 use Rattle.channels.proofs.channel_block.ChannelBlock.to_bytes.Kinds as channel-write-kinds
 use Rattle.channels.proofs.channel_block.ChannelBlock.to_bytes.Reads as channel-write
-use Rattle.text.proofs.text_end.Kinds as text-end-kinds
-use Rattle.text.proofs.text_end.Reads as text-end
+use Rattle.encodings.proofs.text_end.Kinds as text-end-kinds
+use Rattle.encodings.proofs.text_end.Reads as text-end
 use Rattle.text.proofs.write_text.Kinds as text-write-kinds
 use Rattle.text.proofs.write_text.Reads as text-write
 use Rattle.channels.proofs.channel_block.ChannelBlock.channel.Kinds as channel-describe-kinds
@@ -148,6 +151,9 @@ refusal-number-settled = settled (λ κs a y z b c p q. (p ∙ sym q, refl))
 
 pub refusal-told-settled : Settled 0 refusal-told-kinds.ps refusal-told-kinds.r refusal-told.Asked refusal-told.ensures refusal-told.Learnt
 refusal-told-settled = settled (λ κs a y z b c p q. (p ∙ sym q, refl))
+
+pub word-swapped-settled : Settled 0 word-swapped-kinds.ps word-swapped-kinds.r word-swapped.Asked word-swapped.ensures word-swapped.Learnt
+word-swapped-settled = settled (λ κs a y z b c p q. (p ∙ sym q, refl))
 
 pub double-unsigned-settled : Settled 0 double-unsigned-kinds.ps double-unsigned-kinds.r double-unsigned.Asked double-unsigned.ensures double-unsigned.Learnt
 double-unsigned-settled = settled (λ κs a y z b c p q. (p ∙ sym q, refl))

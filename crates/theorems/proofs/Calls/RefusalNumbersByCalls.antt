@@ -14,8 +14,9 @@ use Rattle.blocks.specs.declared.written.Written.{Written}
 use Rattle.channels.specs.Meaning.{channelBlockReply, channelBlockMeant}
 use Rattle.channels.specs.declared.channel_block.ChannelBlock.{ChannelBlock}
 use Rattle.channels.specs.declared.channel_block.ChannelRead.{ChannelRead}
-use Rattle.text.specs.Meaning.{encodingOf, textReply}
-use Rattle.text.specs.declared.encoding.Encoding.{Encoding}
+use Rattle.encodings.specs.Meaning.{encodingOf}
+use Rattle.text.specs.Meaning.{textReply}
+use Rattle.encodings.specs.declared.encoding.Encoding.{Encoding}
 use Rattle.text.specs.declared.answer.TextWrite.{TextWrite}
 use Rattle.fields.specs.Meaning.{channelMeant, groupMeant, valueReply, validValueReply}
 use Rattle.fields.specs.declared.channel.Channel.{Channel}

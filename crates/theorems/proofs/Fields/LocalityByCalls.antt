@@ -11,7 +11,7 @@ use Rattle.definitions.specs.Bytes.{bytesFor}
 use Rattle.definitions.specs.DataType.{kindOf, orderOf}
 use Rattle.definitions.specs.Channel.{Channel, Group, Value, variableLength, spanIn, isNumber, valueOf, validValueOf, doubleIn, recordDouble}
 use Rattle.words.proofs.Numbers.{Bytes}
-use Rattle.words.proofs.Locality.{recordBit}
+use Rattle.bit_fields.proofs.Locality.{recordBit}
 use Rattle.fields.proofs.Locality.{locality, content-locality, refusal-locality}
 use Rattle.fields.proofs.OneBit.{invalidationBitIn, one-bit}
 use Rattle.decoder.proofs.Doubles.{double-fixed}

@@ -17,6 +17,8 @@ use Rattle.replies.specs.Overlaps.{overlapC}
 use Rattle.replies.specs.declared.channel.Mf4Channel.{Mf4Channel}
 use Rattle.replies.specs.declared.overlap.Mf4OverlapReply.{Mf4OverlapReply}
 use Rattle.replies.proofs.ToldToC.{Tellable, Any, overlapAgain, overlap-told}
+use Rattle.lent_channels.proofs.first_overlap as first-overlap
+use Rattle.mf4.specs.ByHand.{ClausesIn}
 use Rattle.mf4.proofs.Border.{mf4-first-overlap-clauses}
 use Rattle.mf4.proofs.mf4_first_overlap as mf4-first-overlap
 use Rattle.theorems.specs.Exactly.{ExactlyZero}
@@ -29,6 +31,17 @@ use Rattle.theorems.proofs.Overlaps.Overlaps.{OfOverlaps, overlap-ends,
 -- the clause, as a fact of the lent list and the result
 abbrev pub FindsOverlapC : RefT (List Mf4Channel) → Mf4OverlapReply → Type 0
 FindsOverlapC list y = y ≡ overlapC (overlapOf (map channelGiven (list .now)))
+
+abbrev first-overlap-clauses : ClausesIn first-overlap.ended
+first-overlap-clauses w = first-overlap.clauses (w .𝓤) (w .H) (w .𝓖 .A) (w .𝓜 .mem) (w .𝓡 .run)
+
+-- of the walk that the call hands its list to
+pub first-overlap-settled : SettledByHand first-overlap.ended first-overlap-clauses (λ κs a y b. FindsOverlapC (a .0) y)
+first-overlap-settled = record {
+  free = λ w κs a g. refl;
+  says = λ κs a y b w g. refl;
+  sole = λ κs a y z b c p q. (p ∙ sym q, refl);
+}
 
 pub mf4-first-overlap-settled : SettledByHand mf4-first-overlap.ended mf4-first-overlap-clauses (λ κs a y b. FindsOverlapC (a .0) y)
 mf4-first-overlap-settled = record {

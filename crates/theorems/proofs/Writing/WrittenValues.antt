@@ -18,8 +18,8 @@ use Rattle.definitions.specs.WrittenValue.{Given, givenUnsigned, givenSigned, g
 use Rattle.definitions.proofs.Replies.{answered, not-answered}
 use Rattle.definitions.proofs.Shared.{Within, apart}
 use Rattle.words.proofs.Numbers.{Bytes}
-use Rattle.words.proofs.Bits.{field-below}
-use Rattle.words.proofs.StoredFields.{placeOf, bitThere, there, length-stored, bytes-stored, reads-back, untouched, stored-same}
+use Rattle.bit_fields.proofs.Bits.{field-below}
+use Rattle.bit_fields.proofs.StoredFields.{placeOf, bitThere, there, length-stored, bytes-stored, reads-back, untouched, stored-same}
 use Rattle.doubles.proofs.Narrowed.{narrowed-lt, ComesBack}
 use Rattle.fields.specs.Form.{orderMeant, formOf, numberKind, contentKind, formKind, numberValue, contentValue, formValue}
 use Rattle.fields.specs.Known.{FieldBounds}

@@ -5,10 +5,10 @@ use types.Run.{OneOf, miss}
 use denote.Enum.Declared.{tagOf}
 use borrow.Author.Needs.{needs}
 use Rattle.definitions.specs.DataType.{typeOf, codeOf}
-use Rattle.blocks.specs.Meaning.{typeMeant}
-use Rattle.blocks.specs.declared.data_type.DataType.{DataType}
-use Rattle.blocks.specs.declared.data_type.DataType.the-variants.{UnsignedIntegerLE, UnsignedIntegerBE, SignedIntegerLE, SignedIntegerBE, FloatLE, FloatBE, StringLatin1, StringUtf8, StringUtf16LE, StringUtf16BE, ByteArray, MimeSample, MimeStream, CanOpenDate, CanOpenTime, ComplexLE, ComplexBE, Unknown}
-use Rattle.blocks.proofs.data_type.DataType.{the-type}
+use Rattle.data_types.specs.Meaning.{typeMeant}
+use Rattle.data_types.specs.declared.data_type.DataType.{DataType}
+use Rattle.data_types.specs.declared.data_type.DataType.the-variants.{UnsignedIntegerLE, UnsignedIntegerBE, SignedIntegerLE, SignedIntegerBE, FloatLE, FloatBE, StringLatin1, StringUtf8, StringUtf16LE, StringUtf16BE, ByteArray, MimeSample, MimeStream, CanOpenDate, CanOpenTime, ComplexLE, ComplexBE, Unknown}
+use Rattle.data_types.proofs.data_type.DataType.{the-type}
 use Rattle.fields.specs.Form.{formOf}
 use Rattle.decoder.proofs.alike.decoding_code.Statement.{statement}
 use Rattle.decoder.proofs.alike.decoding_code.Tie as tie

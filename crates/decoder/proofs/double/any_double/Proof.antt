@@ -5,7 +5,7 @@ use mathlib.Core.Bool.{false}
 use Prim.Native.Nat.{_+_}
 use denote.Ref.{now}
 use Rattle.definitions.specs.Channel.{variableLength, valueOf, doubleIn}
-use Rattle.blocks.specs.Meaning.{typeMeant}
+use Rattle.data_types.specs.Meaning.{typeMeant}
 use Rattle.fields.specs.Meaning.{channelMeant}
 use Rattle.fields.specs.Form.{formOf, numberKind}
 use Rattle.fields.specs.Known.{valueAt}

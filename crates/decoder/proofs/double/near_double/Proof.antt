@@ -4,13 +4,13 @@ use mathlib.Core.Path.{_≡_, refl, ap}
 use mathlib.Core.Bool.{true, false}
 use Prim.Native.Nat.{ℕ}
 use mathlib.Core.List.{List, [], _∷_}
-use Rattle.blocks.specs.Meaning.{typeMeant}
+use Rattle.data_types.specs.Meaning.{typeMeant}
 use types.Run.{OneOf, miss}
 use denote.Enum.Declared.{tagOf}
-use Rattle.text.specs.declared.encoding.Encoding.the-variants.{Latin1, Utf8, Utf16Le, Utf16Be}
-use Rattle.blocks.proofs.data_type.DataType.{the-type}
-use Rattle.blocks.specs.declared.data_type.DataType.{DataType}
-use Rattle.blocks.specs.declared.data_type.DataType.the-variants.{UnsignedIntegerLE, UnsignedIntegerBE, SignedIntegerLE, SignedIntegerBE, FloatLE, FloatBE, StringLatin1, StringUtf8, StringUtf16LE, StringUtf16BE, ByteArray as bytes, MimeSample as sample, MimeStream as stream, CanOpenDate, CanOpenTime, ComplexLE, ComplexBE, Unknown}
+use Rattle.encodings.specs.declared.encoding.Encoding.the-variants.{Latin1, Utf8, Utf16Le, Utf16Be}
+use Rattle.data_types.proofs.data_type.DataType.{the-type}
+use Rattle.data_types.specs.declared.data_type.DataType.{DataType}
+use Rattle.data_types.specs.declared.data_type.DataType.the-variants.{UnsignedIntegerLE, UnsignedIntegerBE, SignedIntegerLE, SignedIntegerBE, FloatLE, FloatBE, StringLatin1, StringUtf8, StringUtf16LE, StringUtf16BE, ByteArray as bytes, MimeSample as sample, MimeStream as stream, CanOpenDate, CanOpenTime, ComplexLE, ComplexBE, Unknown}
 use Rattle.fields.specs.declared.form.Number.the-variants.{Unsigned, Signed}
 use Rattle.fields.specs.declared.form.Content.{Content}
 use Rattle.fields.specs.declared.form.Content.the-variants.{Text, ByteArray, MimeSample, MimeStream, Undecoded}

@@ -1,6 +1,6 @@
 -- Each test in turn: what fails one is no number of a width that has a value.
 use borrow.Author.Needs.{needs}
-use Rattle.blocks.specs.Meaning.{typeMeant}
+use Rattle.data_types.specs.Meaning.{typeMeant}
 use Rattle.decoder.proofs.WordFields.{sized, other-type, other-width, without-any}
 use Rattle.decoder.proofs.near.number_form.Statement.{statement}
 use Rattle.decoder.proofs.near.number_form.Tie as tie

@@ -1,8 +1,8 @@
 -- Each type has its form.
 use borrow.Author.Needs.{needs}
 use mathlib.Core.Path.{_≡_, sym, ap}
-use Rattle.blocks.specs.Meaning.{typeMeant}
-use Rattle.blocks.specs.declared.data_type.DataType.{DataType}
+use Rattle.data_types.specs.Meaning.{typeMeant}
+use Rattle.data_types.specs.declared.data_type.DataType.{DataType}
 use Rattle.fields.specs.Form.{formOf}
 use Rattle.fields.proofs.form.form_of.Statement.{statement}
 use Rattle.fields.proofs.form.form_of.Tie as tie

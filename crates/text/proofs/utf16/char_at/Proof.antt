@@ -1,6 +1,6 @@
 use borrow.Author.Needs.{needs}
 use native.Mathlib.Omega.{arith}
-use Rattle.text.specs.Meaning.{orderMeant}
+use Rattle.encodings.specs.Meaning.{orderMeant}
 use Rattle.text.proofs.FirstChar.{read-short, read-pair}
 use Rattle.text.proofs.utf16.char_at.Statement.{statement}
 use Rattle.text.proofs.utf16.char_at.Tie as tie

@@ -3,7 +3,7 @@ use native.Mathlib.Omega.{arith}
 use Prim.Native.Nat.{_-_}
 use lib.ListN.{length}
 use Rattle.definitions.specs.Unicode.{utf16}
-use Rattle.text.specs.Meaning.{orderMeant}
+use Rattle.encodings.specs.Meaning.{orderMeant}
 use Rattle.text.proofs.Walk.{Measured, measured-start, measured-turn, measured-sound, measured-damage}
 use Rattle.text.proofs.Units.{unit-turn, low-turn, low-measured, unit-damage, half-left}
 use Rattle.text.proofs.utf16.measure.Statement.{statement}

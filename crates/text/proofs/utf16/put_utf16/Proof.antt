@@ -3,7 +3,7 @@ use native.Mathlib.Omega.{arith}
 use Prim.Native.Nat.{_-_}
 use lib.ListN.{length}
 use Rattle.definitions.specs.Unicode.{utf16}
-use Rattle.text.specs.Meaning.{orderMeant}
+use Rattle.encodings.specs.Meaning.{orderMeant}
 use Rattle.text.proofs.Walk.{Wrote, wrote-start, wrote-room, wrote-turn, wrote-damage}
 use Rattle.text.proofs.Units.{unit-turn, low-turn, low-wrote, unit-damage, units-end}
 use Rattle.text.proofs.utf16.put_utf16.Statement.{statement}

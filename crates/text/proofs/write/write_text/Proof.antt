@@ -1,7 +1,7 @@
 use borrow.Author.Needs.{needs}
 use mathlib.Core.Path.{sym}
 use lib.Seq.{length-take-le}
-use Rattle.text.proofs.Stopping.{stop-within, stop-kept}
+use Rattle.encodings.proofs.Stopping.{stop-within, stop-kept}
 use Rattle.text.proofs.Result.{stop-written}
 use Rattle.text.proofs.write.write_text.Statement.{statement}
 use Rattle.text.proofs.write.write_text.Tie as tie

@@ -1,0 +1,2 @@
+-- From what it means each type comes back.
+pub mod Back
