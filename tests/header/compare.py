@@ -21,8 +21,8 @@ from source import Source, Unreadable, replies, version
 VERSION = "crates/mf4/src/version.rt"
 TESTS = "tests/c"
 REFUSALS = "crates/refusals/src/lib.rt"
-SOURCE = ["crates/replies/src", "crates/mf4/src"]
-THEOREMS = ["crates/replies/proofs/Structs.antt", "crates/mf4/proofs/Border.antt"]
+SOURCE = ["crates/block_replies/src", "crates/replies/src", "crates/mf4/src"]
+THEOREMS = ["crates/block_replies/proofs/Structs.antt", "crates/replies/proofs/Structs.antt", "crates/mf4/proofs/Border.antt"]
 INCLUDE, HEADER = "include", "include/mf4.h"
 
 

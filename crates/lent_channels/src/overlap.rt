@@ -3,14 +3,14 @@ ghost use mathlib.Core.Path.{_≡_};
 ghost use mathlib.Core.List.{map};
 ghost use Rattle.definitions.specs.Overlap.{overlapOf};
 ghost use Rattle.overlaps.specs.Meaning.{overlapReply, stepOf, Ready};
-ghost use Rattle.replies.specs.Values.{channelGiven};
+ghost use Rattle.block_replies.specs.Channels.{channelGiven};
 ghost use Rattle.replies.specs.Overlaps.{overlapC};
+use block_replies::Mf4Channel;
+use block_replies::channel_of;
 use overlaps::Search;
 use overlaps::begin_search;
 use overlaps::search_on;
-use replies::Mf4Channel;
 use replies::Mf4OverlapReply;
-use replies::channel_of;
 use replies::overlap_reply;
 
 fn step(count: usize, search: Search, a: Mf4Channel, b: Mf4Channel) -> Search

@@ -19,20 +19,21 @@ use Rattle.definitions.specs.Overlap.{overlapOf}
 use Rattle.mf4.specs.Clauses.{Slice, Allows}
 use Rattle.mf4.specs.ByHand.{ClausesIn, Says}
 use Rattle.mf4.specs.Version.{version}
-use Rattle.replies.specs.Replies.{flagC, writtenC, headerC, headerGiven, listC, textC, returned, returnedBy, doneC}
-use Rattle.replies.specs.Values.{channelGiven, groupGiven, valueC, validValueC, lengthC, payloadC, returnedBoth, returnedBothBy}
-use Rattle.replies.specs.Channels.{channelC, blockGiven}
+use Rattle.replies.specs.Replies.{flagC, textC, doneC}
+use Rattle.block_replies.specs.Replies.{writtenC, headerC, headerGiven, listC, returned, returnedBy, returnedBoth, returnedBothBy}
+use Rattle.block_replies.specs.Channels.{channelGiven, channelC, blockGiven}
+use Rattle.replies.specs.Values.{groupGiven, valueC, validValueC, lengthC, payloadC}
 use Rattle.replies.specs.Stored.{numberGiven}
 use Rattle.replies.specs.Overlaps.{overlapC}
-use Rattle.replies.specs.declared.written.Mf4WrittenReply.{Mf4WrittenReply}
-use Rattle.replies.specs.declared.header.Mf4Header.{Mf4Header}
-use Rattle.replies.specs.declared.header.Mf4HeaderReply.{Mf4HeaderReply}
-use Rattle.replies.specs.declared.list.Mf4ListReply.{Mf4ListReply}
+use Rattle.block_replies.specs.declared.written.Mf4WrittenReply.{Mf4WrittenReply}
+use Rattle.block_replies.specs.declared.header.Mf4Header.{Mf4Header}
+use Rattle.block_replies.specs.declared.header.Mf4HeaderReply.{Mf4HeaderReply}
+use Rattle.block_replies.specs.declared.list.Mf4ListReply.{Mf4ListReply}
 use Rattle.replies.specs.declared.texts.Mf4TextReply.{Mf4TextReply}
-use Rattle.replies.specs.declared.channel.Mf4Channel.{Mf4Channel}
+use Rattle.block_replies.specs.declared.channel.Mf4Channel.{Mf4Channel}
 use Rattle.replies.specs.declared.group.Mf4Group.{Mf4Group}
-use Rattle.replies.specs.declared.channel_block.Mf4ChannelBlock.{Mf4ChannelBlock}
-use Rattle.replies.specs.declared.channel_block.Mf4ChannelReply.{Mf4ChannelReply}
+use Rattle.block_replies.specs.declared.channel_block.Mf4ChannelBlock.{Mf4ChannelBlock}
+use Rattle.block_replies.specs.declared.channel_block.Mf4ChannelReply.{Mf4ChannelReply}
 use Rattle.replies.specs.declared.values.Mf4ValueReply.{Mf4ValueReply}
 use Rattle.replies.specs.declared.valid_values.Mf4ValidValueReply.{Mf4ValidValueReply}
 use Rattle.replies.specs.declared.fetches.Mf4LengthReply.{Mf4LengthReply}

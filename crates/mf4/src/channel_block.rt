@@ -1,15 +1,15 @@
 // Channel blocks, read and written.
 ghost use mathlib.Core.Path.{_≡_};
 ghost use Rattle.definitions.specs.ChannelBlock.{channelBlockOf, channelWritten};
-ghost use Rattle.replies.specs.Replies.{writtenC, returned, returnedBy};
-ghost use Rattle.replies.specs.Channels.{channelC, blockGiven};
+ghost use Rattle.block_replies.specs.Replies.{writtenC, returned, returnedBy};
+ghost use Rattle.block_replies.specs.Channels.{channelC, blockGiven};
+use block_replies::Mf4ChannelBlock;
+use block_replies::Mf4ChannelReply;
+use block_replies::Mf4WrittenReply;
+use block_replies::block_of;
+use block_replies::channel_reply;
+use block_replies::written_reply;
 use channels::ChannelBlock;
-use replies::Mf4ChannelBlock;
-use replies::Mf4ChannelReply;
-use replies::Mf4WrittenReply;
-use replies::block_of;
-use replies::channel_reply;
-use replies::written_reply;
 
 #[no_mangle]
 pub extern "C" fn mf4_read_channel(bytes: &[u8]) -> Mf4ChannelReply

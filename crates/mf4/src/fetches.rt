@@ -1,18 +1,20 @@
 // Records through a chain of data lists, and values in them.
 ghost use mathlib.Core.Path.{_≡_};
 ghost use Rattle.definitions.specs.Chain.{dataLength, fetched, valueFetched};
-ghost use Rattle.replies.specs.Replies.{returned, returnedBy, doneC};
-ghost use Rattle.replies.specs.Values.{channelGiven, groupGiven, validValueC, lengthC};
+ghost use Rattle.block_replies.specs.Replies.{returned, returnedBy};
+ghost use Rattle.replies.specs.Replies.{doneC};
+ghost use Rattle.block_replies.specs.Channels.{channelGiven};
+ghost use Rattle.replies.specs.Values.{groupGiven, validValueC, lengthC};
+use block_replies::Mf4Channel;
+use block_replies::channel_of;
 use chain::FileAddress;
 use chain::data_length;
 use records::read_record;
 use records::read_value;
-use replies::Mf4Channel;
 use replies::Mf4DoneReply;
 use replies::Mf4Group;
 use replies::Mf4LengthReply;
 use replies::Mf4ValidValueReply;
-use replies::channel_of;
 use replies::fetched_reply;
 use replies::group_of;
 use replies::length_reply;

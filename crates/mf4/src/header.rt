@@ -1,14 +1,14 @@
 // Block headers.
 ghost use mathlib.Core.Path.{_≡_};
 ghost use Rattle.definitions.specs.Header.{headerOf, headerWritten};
-ghost use Rattle.replies.specs.Replies.{headerC, headerGiven, writtenC, returned, returnedBy};
+ghost use Rattle.block_replies.specs.Replies.{headerC, headerGiven, writtenC, returned, returnedBy};
+use block_replies::Mf4Header;
+use block_replies::Mf4HeaderReply;
+use block_replies::Mf4WrittenReply;
+use block_replies::header_of;
+use block_replies::header_reply;
+use block_replies::written_reply;
 use blocks::BlockHeader;
-use replies::Mf4Header;
-use replies::Mf4HeaderReply;
-use replies::Mf4WrittenReply;
-use replies::header_of;
-use replies::header_reply;
-use replies::written_reply;
 
 #[no_mangle]
 pub extern "C" fn mf4_read_header(bytes: &[u8]) -> Mf4HeaderReply

@@ -1,12 +1,12 @@
 // Data lists, read and written.
 ghost use mathlib.Core.Path.{_≡_};
 ghost use Rattle.definitions.specs.DataList.{listOf, listWritten, equal, variable};
-ghost use Rattle.replies.specs.Replies.{listC, writtenC, returned, returnedBy};
+ghost use Rattle.block_replies.specs.Replies.{listC, writtenC, returned, returnedBy};
+use block_replies::Mf4ListReply;
+use block_replies::Mf4WrittenReply;
+use block_replies::list_reply;
+use block_replies::written_reply;
 use blocks::DataListBlock;
-use replies::Mf4ListReply;
-use replies::Mf4WrittenReply;
-use replies::list_reply;
-use replies::written_reply;
 
 #[no_mangle]
 pub extern "C" fn mf4_read_list(bytes: &[u8]) -> Mf4ListReply

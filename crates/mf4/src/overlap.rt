@@ -2,10 +2,10 @@
 ghost use mathlib.Core.Path.{_≡_};
 ghost use mathlib.Core.List.{map};
 ghost use Rattle.definitions.specs.Overlap.{overlapOf};
-ghost use Rattle.replies.specs.Values.{channelGiven};
+ghost use Rattle.block_replies.specs.Channels.{channelGiven};
 ghost use Rattle.replies.specs.Overlaps.{overlapC};
+use block_replies::Mf4Channel;
 use lent_channels::first_overlap;
-use replies::Mf4Channel;
 use replies::Mf4OverlapReply;
 
 // What is lent structs is proved by hand, also where it only hands them on: the loop stands in a crate below, where a wrong

@@ -1,13 +1,15 @@
 // A record through its chain, and the payload that it tells through another.
 ghost use mathlib.Core.Path.{_≡_};
 ghost use Rattle.definitions.specs.Payload.{payloadFetched};
-ghost use Rattle.replies.specs.Values.{channelGiven, groupGiven, payloadC, returnedBoth, returnedBothBy};
+ghost use Rattle.block_replies.specs.Channels.{channelGiven};
+ghost use Rattle.replies.specs.Values.{groupGiven, payloadC};
+ghost use Rattle.block_replies.specs.Replies.{returnedBoth, returnedBothBy};
+use block_replies::Mf4Channel;
+use block_replies::channel_of;
 use chain::FileAddress;
 use payloads::read_payload;
-use replies::Mf4Channel;
 use replies::Mf4Group;
 use replies::Mf4PayloadReply;
-use replies::channel_of;
 use replies::group_of;
 use replies::payload_reply;
 

@@ -1,14 +1,15 @@
 // Numbers written into records.
 ghost use mathlib.Core.Path.{_≡_};
 ghost use Rattle.definitions.specs.WrittenValue.{valueWritten};
-ghost use Rattle.replies.specs.Replies.{returned, returnedBy, doneC};
-ghost use Rattle.replies.specs.Values.{channelGiven};
+ghost use Rattle.block_replies.specs.Replies.{returned, returnedBy};
+ghost use Rattle.replies.specs.Replies.{doneC};
+ghost use Rattle.block_replies.specs.Channels.{channelGiven};
 ghost use Rattle.replies.specs.Stored.{numberGiven};
+use block_replies::Mf4Channel;
+use block_replies::channel_of;
 use encoder::encode_channel_value;
-use replies::Mf4Channel;
 use replies::Mf4DoneReply;
 use replies::Mf4Number;
-use replies::channel_of;
 use replies::number_of;
 use replies::stored_reply;
 

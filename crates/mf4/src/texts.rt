@@ -2,7 +2,8 @@
 ghost use mathlib.Core.Path.{_≡_};
 ghost use Rattle.definitions.specs.Bytes.{little, big};
 ghost use Rattle.definitions.specs.Unicode.{latin1, utf8, utf16, textWritten};
-ghost use Rattle.replies.specs.Replies.{textC, returned, returnedBy};
+ghost use Rattle.replies.specs.Replies.{textC};
+ghost use Rattle.block_replies.specs.Replies.{returned, returnedBy};
 use encodings::Encoding;
 use replies::Mf4TextReply;
 use replies::text_reply;

@@ -1,12 +1,13 @@
 // A channel's value with its validity.
 ghost use mathlib.Core.Path.{_≡_};
 ghost use Rattle.definitions.specs.Channel.{validValueOf};
-ghost use Rattle.replies.specs.Values.{channelGiven, groupGiven, validValueC};
+ghost use Rattle.block_replies.specs.Channels.{channelGiven};
+ghost use Rattle.replies.specs.Values.{groupGiven, validValueC};
+use block_replies::Mf4Channel;
+use block_replies::channel_of;
 use decoder::decode_channel_value_with_validity;
-use replies::Mf4Channel;
 use replies::Mf4Group;
 use replies::Mf4ValidValueReply;
-use replies::channel_of;
 use replies::group_of;
 use replies::valid_value_reply;
 

@@ -2,11 +2,12 @@
 ghost use mathlib.Core.Path.{_≡_};
 ghost use Rattle.definitions.specs.Channel.{validOf};
 ghost use Rattle.replies.specs.Replies.{flagC};
-ghost use Rattle.replies.specs.Values.{channelGiven, groupGiven};
+ghost use Rattle.block_replies.specs.Channels.{channelGiven};
+ghost use Rattle.replies.specs.Values.{groupGiven};
+use block_replies::Mf4Channel;
+use block_replies::channel_of;
 use decoder::check_value_validity;
-use replies::Mf4Channel;
 use replies::Mf4Group;
-use replies::channel_of;
 use replies::flag;
 use replies::group_of;
 

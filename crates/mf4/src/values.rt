@@ -1,12 +1,13 @@
 // Values and doubles of channels.
 ghost use mathlib.Core.Path.{_≡_};
 ghost use Rattle.definitions.specs.Channel.{valueOf, recordDouble};
-ghost use Rattle.replies.specs.Values.{channelGiven, valueC};
+ghost use Rattle.block_replies.specs.Channels.{channelGiven};
+ghost use Rattle.replies.specs.Values.{valueC};
+use block_replies::Mf4Channel;
+use block_replies::channel_of;
 use decoder::decode_channel_value;
 use decoder::decode_f64_from_record;
-use replies::Mf4Channel;
 use replies::Mf4ValueReply;
-use replies::channel_of;
 use replies::value_reply;
 
 #[no_mangle]

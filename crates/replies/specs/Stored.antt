@@ -1,11 +1,10 @@
 -- A number that C gives to be written, and the reply.
 use Prim.Native.Nat.{ℕ}
 use lib.Dec.{eqb}
-use Rattle.definitions.specs.Reply.{Reply, answer, refusal, if_then_else_}
+use Rattle.definitions.specs.Reply.{if_then_else_}
 use Rattle.definitions.specs.Bytes.{twosComplement}
 use Rattle.definitions.specs.WrittenValue.{Given, givenUnsigned, givenSigned, givenDouble, givenOther}
 use Rattle.replies.specs.declared.stored.Mf4Number.{Mf4Number}
-use Rattle.replies.specs.declared.done.Mf4DoneReply.{Mf4DoneReply}
 
 -- by the kinds that a value has for C; any other kind is no number
 abbrev pub givenBy : ℕ → ℕ → Given

@@ -1,33 +1,16 @@
 -- Values and records as C sees them.
 use Prim.Native.Nat.{ℕ, _-_}
-use mathlib.Core.List.{List}
 use lib.IntN.{ℤ, pos, negsuc}
 use Rattle.definitions.specs.Reply.{Reply, answer, refusal}
-use Rattle.definitions.specs.DataType.{typeOf}
-use Rattle.definitions.specs.Payload.{PayloadValue, Outcomes}
-use Rattle.definitions.specs.Channel.{Channel, Group, Value, ValidValue, unsigned, signed, double, text, bytes, sample, stream, unknownValue}
+use Rattle.definitions.specs.Payload.{PayloadValue}
+use Rattle.definitions.specs.Channel.{Group, Value, ValidValue, unsigned, signed, double, text, bytes, sample, stream, unknownValue}
 use Rattle.replies.specs.Replies.{flagC}
-use Rattle.replies.specs.declared.channel.Mf4Channel.{Mf4Channel}
 use Rattle.replies.specs.declared.group.Mf4Group.{Mf4Group}
 use Rattle.replies.specs.declared.values.Shown.{Shown}
 use Rattle.replies.specs.declared.values.Mf4ValueReply.{Mf4ValueReply}
 use Rattle.replies.specs.declared.valid_values.Mf4ValidValueReply.{Mf4ValidValueReply}
 use Rattle.replies.specs.declared.fetches.Mf4LengthReply.{Mf4LengthReply}
-use Rattle.replies.specs.declared.done.Mf4DoneReply.{Mf4DoneReply}
 use Rattle.replies.specs.declared.payload.Mf4PayloadReply.{Mf4PayloadReply}
-
--- the description that C gives, the type by its code
-abbrev pub channelGiven : Mf4Channel → Channel
-channelGiven c = record {
-  dataType = typeOf (c .«data_type»);
-  channelType = c .«channel_type»;
-  bitOffset = c .«bit_offset»;
-  byteOffset = c .«byte_offset»;
-  bitCount = c .«bit_count»;
-  flags = c .flags;
-  invalidationBit = c .«pos_invalidation_bit»;
-  dataLink = c .«data_addr»;
-}
 
 -- the group that C gives
 abbrev pub groupGiven : Mf4Group → Group
@@ -97,15 +80,3 @@ abbrev pub payloadC : Reply PayloadValue → Mf4PayloadReply
 payloadC (answer v) = payloadAnswerC (v .size) (decodedC (v .value)) (flagC (v .valid))
 payloadC (refusal n t) =
     record { reply = n; told = t; kind = 0; number = 0; at = 0; length = 0; «payload_length» = 0; «is_valid» = 0 }
-
--- what a call returns, and the two buffers that were lent to it as it leaves them
-pub record ReturnedBoth (R : Type 0) : Type 0 where
-  pub result : R
-  pub recordBuffer : List ℕ
-  pub payloadBuffer : List ℕ
-
-abbrev pub returnedBoth : {R : Type 0} → R → List ℕ → List ℕ → ReturnedBoth R
-returnedBoth r a b = record { result = r; recordBuffer = a; payloadBuffer = b }
-
-abbrev pub returnedBothBy : {A R : Type 0} → (Reply A → R) → Outcomes A → ReturnedBoth R
-returnedBothBy toC o = returnedBoth (toC (o .reply)) (o .recordBuffer) (o .payloadBuffer)

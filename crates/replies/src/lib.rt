@@ -1,37 +1,20 @@
-// What C is told and what it gives: each answer of the library as a struct, and each struct as what the library takes.
-mod channel;
-mod channel_block;
+// What C is told of values, texts, records and overlaps, and what it gives of them: as `block_replies` has it of blocks.
 mod done;
 mod fetches;
 mod group;
-mod header;
-mod list;
 mod overlap;
 mod payload;
 mod stored;
 mod texts;
 mod valid_values;
 mod values;
-mod written;
 
-pub use channel::Mf4Channel;
-pub use channel::channel_of;
-pub use channel_block::Mf4ChannelBlock;
-pub use channel_block::Mf4ChannelReply;
-pub use channel_block::block_of;
-pub use channel_block::channel_reply;
 pub use done::Mf4DoneReply;
 pub use fetches::Mf4LengthReply;
 pub use fetches::fetched_reply;
 pub use fetches::length_reply;
 pub use group::Mf4Group;
 pub use group::group_of;
-pub use header::Mf4Header;
-pub use header::Mf4HeaderReply;
-pub use header::header_of;
-pub use header::header_reply;
-pub use list::Mf4ListReply;
-pub use list::list_reply;
 pub use overlap::Mf4OverlapReply;
 pub use overlap::overlap_reply;
 pub use payload::Mf4PayloadReply;
@@ -46,5 +29,3 @@ pub use valid_values::Mf4ValidValueReply;
 pub use valid_values::valid_value_reply;
 pub use values::Mf4ValueReply;
 pub use values::value_reply;
-pub use written::Mf4WrittenReply;
-pub use written::written_reply;

@@ -6,14 +6,14 @@ use contract.Lifetimes.{Lfts}
 use Rattle.definitions.specs.Bytes.{little, big}
 use Rattle.definitions.specs.Unicode.{Encoding, latin1, utf8, utf16}
 use Rattle.mf4.specs.Clauses.{Slice, Allows}
-use Rattle.replies.specs.declared.header.Mf4Header.{Mf4Header}
-use Rattle.replies.specs.declared.header.Mf4HeaderReply.{Mf4HeaderReply}
-use Rattle.replies.specs.declared.list.Mf4ListReply.{Mf4ListReply}
-use Rattle.replies.specs.declared.channel_block.Mf4ChannelBlock.{Mf4ChannelBlock}
-use Rattle.replies.specs.declared.channel_block.Mf4ChannelReply.{Mf4ChannelReply}
-use Rattle.replies.specs.declared.written.Mf4WrittenReply.{Mf4WrittenReply}
+use Rattle.block_replies.specs.declared.header.Mf4Header.{Mf4Header}
+use Rattle.block_replies.specs.declared.header.Mf4HeaderReply.{Mf4HeaderReply}
+use Rattle.block_replies.specs.declared.list.Mf4ListReply.{Mf4ListReply}
+use Rattle.block_replies.specs.declared.channel_block.Mf4ChannelBlock.{Mf4ChannelBlock}
+use Rattle.block_replies.specs.declared.channel_block.Mf4ChannelReply.{Mf4ChannelReply}
+use Rattle.block_replies.specs.declared.written.Mf4WrittenReply.{Mf4WrittenReply}
 use Rattle.replies.specs.declared.texts.Mf4TextReply.{Mf4TextReply}
-use Rattle.replies.specs.declared.channel.Mf4Channel.{Mf4Channel}
+use Rattle.block_replies.specs.declared.channel.Mf4Channel.{Mf4Channel}
 use Rattle.replies.specs.declared.group.Mf4Group.{Mf4Group}
 use Rattle.replies.specs.declared.values.Mf4ValueReply.{Mf4ValueReply}
 use Rattle.replies.specs.declared.valid_values.Mf4ValidValueReply.{Mf4ValidValueReply}

@@ -16,14 +16,14 @@ use Rattle.encodings.specs.Meaning.{encodingOf}
 use Rattle.text.specs.Meaning.{textReply}
 use Rattle.encodings.specs.declared.encoding.Encoding.{Encoding}
 use Rattle.text.specs.declared.answer.TextWrite.{TextWrite}
-use Rattle.replies.specs.Replies.{headerGiven}
-use Rattle.replies.specs.Channels.{blockGiven}
-use Rattle.replies.specs.declared.header.Mf4Header.{Mf4Header}
-use Rattle.replies.specs.declared.header.Mf4HeaderReply.{Mf4HeaderReply}
-use Rattle.replies.specs.declared.list.Mf4ListReply.{Mf4ListReply}
-use Rattle.replies.specs.declared.channel_block.Mf4ChannelBlock.{Mf4ChannelBlock}
-use Rattle.replies.specs.declared.channel_block.Mf4ChannelReply.{Mf4ChannelReply}
-use Rattle.replies.specs.declared.written.Mf4WrittenReply.{Mf4WrittenReply}
+use Rattle.block_replies.specs.Replies.{headerGiven}
+use Rattle.block_replies.specs.Channels.{blockGiven}
+use Rattle.block_replies.specs.declared.header.Mf4Header.{Mf4Header}
+use Rattle.block_replies.specs.declared.header.Mf4HeaderReply.{Mf4HeaderReply}
+use Rattle.block_replies.specs.declared.list.Mf4ListReply.{Mf4ListReply}
+use Rattle.block_replies.specs.declared.channel_block.Mf4ChannelBlock.{Mf4ChannelBlock}
+use Rattle.block_replies.specs.declared.channel_block.Mf4ChannelReply.{Mf4ChannelReply}
+use Rattle.block_replies.specs.declared.written.Mf4WrittenReply.{Mf4WrittenReply}
 use Rattle.replies.specs.declared.texts.Mf4TextReply.{Mf4TextReply}
 use Rattle.mf4.specs.Clauses.{Slice}
 use Rattle.theorems.specs.Refused.{RefusedExactly, ToldExactly}

@@ -11,17 +11,17 @@ use Rattle.definitions.specs.DataType.{typeOf, codeOf}
 use Rattle.definitions.specs.ChannelBlock.{channelWritten}
 use Rattle.definitions.specs.DataList.{DataList, Lengths, equal, variable, flagsFor, restFor, listWritten}
 use Rattle.words.proofs.Numbers.{Bytes}
-use Rattle.replies.specs.Replies.{Returned, returned, returnedBy, writtenC, headerGiven, headerC, listC}
-use Rattle.replies.specs.Channels.{blockGiven, channelC}
-use Rattle.replies.specs.declared.channel_block.Mf4ChannelBlock.{Mf4ChannelBlock}
-use Rattle.replies.specs.declared.channel_block.Mf4ChannelReply.{Mf4ChannelReply}
-use Rattle.replies.specs.declared.header.Mf4Header.{Mf4Header}
-use Rattle.replies.specs.declared.header.Mf4HeaderReply.{Mf4HeaderReply}
-use Rattle.replies.specs.declared.list.Mf4ListReply.{Mf4ListReply}
-use Rattle.replies.specs.declared.written.Mf4WrittenReply.{Mf4WrittenReply}
+use Rattle.block_replies.specs.Replies.{Returned, returned, returnedBy, writtenC, headerGiven, headerC, listC}
+use Rattle.block_replies.specs.Channels.{blockGiven, channelC}
+use Rattle.block_replies.specs.declared.channel_block.Mf4ChannelBlock.{Mf4ChannelBlock}
+use Rattle.block_replies.specs.declared.channel_block.Mf4ChannelReply.{Mf4ChannelReply}
+use Rattle.block_replies.specs.declared.header.Mf4Header.{Mf4Header}
+use Rattle.block_replies.specs.declared.header.Mf4HeaderReply.{Mf4HeaderReply}
+use Rattle.block_replies.specs.declared.list.Mf4ListReply.{Mf4ListReply}
+use Rattle.block_replies.specs.declared.written.Mf4WrittenReply.{Mf4WrittenReply}
 use Rattle.mf4.specs.Clauses.{Slice}
 use Rattle.theorems.specs.ClausesToC.{ReadsHeaderC, WritesHeaderC, GivesCodeC, ReadsChannelC, WritesChannelC, ReadsListC, WritesEqualC, WritesVariableC}
-use Rattle.replies.proofs.ToldToC.{writtenAgain, headerAgain, listAgain, channelAgain}
+use Rattle.block_replies.proofs.ToldToC.{writtenAgain, headerAgain, listAgain, channelAgain}
 use Rattle.theorems.proofs.Calls.ToldToC.{mf4-read-header-told, mf4-write-header-told, mf4-read-channel-told, mf4-write-channel-told, mf4-read-list-told, mf4-write-list-equal-told, mf4-write-list-variable-told}
 use Rattle.theorems.proofs.Types.TypeCodes.{code-back, type-written}
 use Rattle.theorems.proofs.Blocks.Rewritten.{Words}

@@ -15,17 +15,17 @@ use Rattle.definitions.specs.DataList.{equal, variable}
 use Rattle.definitions.proofs.Replies.{not-answered}
 use Rattle.text.proofs.FirstChar.{Bytes}
 use Rattle.text.proofs.Room.{room, text-room}
-use Rattle.replies.specs.Replies.{headerGiven}
-use Rattle.replies.specs.Values.{channelGiven, groupGiven}
-use Rattle.replies.specs.Channels.{blockGiven}
-use Rattle.replies.specs.declared.header.Mf4Header.{Mf4Header}
-use Rattle.replies.specs.declared.header.Mf4HeaderReply.{Mf4HeaderReply}
-use Rattle.replies.specs.declared.list.Mf4ListReply.{Mf4ListReply}
-use Rattle.replies.specs.declared.channel_block.Mf4ChannelBlock.{Mf4ChannelBlock}
-use Rattle.replies.specs.declared.channel_block.Mf4ChannelReply.{Mf4ChannelReply}
-use Rattle.replies.specs.declared.written.Mf4WrittenReply.{Mf4WrittenReply}
+use Rattle.block_replies.specs.Replies.{headerGiven}
+use Rattle.block_replies.specs.Channels.{channelGiven, blockGiven}
+use Rattle.replies.specs.Values.{groupGiven}
+use Rattle.block_replies.specs.declared.header.Mf4Header.{Mf4Header}
+use Rattle.block_replies.specs.declared.header.Mf4HeaderReply.{Mf4HeaderReply}
+use Rattle.block_replies.specs.declared.list.Mf4ListReply.{Mf4ListReply}
+use Rattle.block_replies.specs.declared.channel_block.Mf4ChannelBlock.{Mf4ChannelBlock}
+use Rattle.block_replies.specs.declared.channel_block.Mf4ChannelReply.{Mf4ChannelReply}
+use Rattle.block_replies.specs.declared.written.Mf4WrittenReply.{Mf4WrittenReply}
 use Rattle.replies.specs.declared.texts.Mf4TextReply.{Mf4TextReply}
-use Rattle.replies.specs.declared.channel.Mf4Channel.{Mf4Channel}
+use Rattle.block_replies.specs.declared.channel.Mf4Channel.{Mf4Channel}
 use Rattle.replies.specs.declared.group.Mf4Group.{Mf4Group}
 use Rattle.replies.specs.declared.values.Mf4ValueReply.{Mf4ValueReply}
 use Rattle.replies.specs.declared.valid_values.Mf4ValidValueReply.{Mf4ValidValueReply}

@@ -8,11 +8,12 @@ use contract.Lifetimes.{Lfts}
 use Rattle.definitions.specs.Reply.{Reply, Outcome, answer, refusal}
 use Rattle.definitions.specs.Unicode.{Encoding}
 use Rattle.definitions.specs.DataList.{equal, variable}
-use Rattle.replies.specs.Replies.{Returned, returned, returnedBy, headerGiven, writtenC, textC, doneC}
-use Rattle.replies.specs.Channels.{blockGiven}
-use Rattle.replies.specs.declared.header.Mf4Header.{Mf4Header}
-use Rattle.replies.specs.declared.channel_block.Mf4ChannelBlock.{Mf4ChannelBlock}
-use Rattle.replies.specs.declared.written.Mf4WrittenReply.{Mf4WrittenReply}
+use Rattle.block_replies.specs.Replies.{Returned, returned, returnedBy, headerGiven, writtenC}
+use Rattle.replies.specs.Replies.{textC, doneC}
+use Rattle.block_replies.specs.Channels.{blockGiven}
+use Rattle.block_replies.specs.declared.header.Mf4Header.{Mf4Header}
+use Rattle.block_replies.specs.declared.channel_block.Mf4ChannelBlock.{Mf4ChannelBlock}
+use Rattle.block_replies.specs.declared.written.Mf4WrittenReply.{Mf4WrittenReply}
 use Rattle.replies.specs.declared.texts.Mf4TextReply.{Mf4TextReply}
 use Rattle.replies.specs.declared.done.Mf4DoneReply.{Mf4DoneReply}
 use Rattle.mf4.specs.Clauses.{Slice}

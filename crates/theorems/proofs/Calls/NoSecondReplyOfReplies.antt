@@ -18,14 +18,14 @@ use Rattle.fields.proofs.Back.{description-one}
 use Rattle.encoder.specs.Meaning.{givenMeant}
 use Rattle.encoder.specs.declared.number.NumberGiven.{NumberGiven}
 use Rattle.encoder.specs.declared.number.NumberGiven.the-variants.{Unsigned, Signed, Double, Other}
-use Rattle.replies.proofs.header_reply.Kinds as header-reply-kinds
-use Rattle.replies.proofs.header_reply.Reads as header-reply
-use Rattle.replies.proofs.list_reply.Kinds as list-reply-kinds
-use Rattle.replies.proofs.list_reply.Reads as list-reply
-use Rattle.replies.proofs.channel_reply.Kinds as channel-reply-kinds
-use Rattle.replies.proofs.channel_reply.Reads as channel-reply
-use Rattle.replies.proofs.written_reply.Kinds as written-reply-kinds
-use Rattle.replies.proofs.written_reply.Reads as written-reply
+use Rattle.block_replies.proofs.header_reply.Kinds as header-reply-kinds
+use Rattle.block_replies.proofs.header_reply.Reads as header-reply
+use Rattle.block_replies.proofs.list_reply.Kinds as list-reply-kinds
+use Rattle.block_replies.proofs.list_reply.Reads as list-reply
+use Rattle.block_replies.proofs.channel_reply.Kinds as channel-reply-kinds
+use Rattle.block_replies.proofs.channel_reply.Reads as channel-reply
+use Rattle.block_replies.proofs.written_reply.Kinds as written-reply-kinds
+use Rattle.block_replies.proofs.written_reply.Reads as written-reply
 use Rattle.replies.proofs.value_reply.Kinds as value-reply-kinds
 use Rattle.replies.proofs.value_reply.Reads as value-reply
 use Rattle.replies.proofs.valid_value_reply.Kinds as valid-value-reply-kinds
@@ -44,12 +44,12 @@ use Rattle.replies.proofs.stored_reply.Kinds as stored-reply-kinds
 use Rattle.replies.proofs.stored_reply.Reads as stored-reply
 use Rattle.replies.proofs.overlap_reply.Kinds as overlap-reply-kinds
 use Rattle.replies.proofs.overlap_reply.Reads as overlap-reply
-use Rattle.replies.proofs.header_of.Kinds as header-of-kinds
-use Rattle.replies.proofs.header_of.Reads as header-of
-use Rattle.replies.proofs.block_of.Kinds as block-of-kinds
-use Rattle.replies.proofs.block_of.Reads as block-of
-use Rattle.replies.proofs.channel_of.Kinds as channel-of-kinds
-use Rattle.replies.proofs.channel_of.Reads as channel-of
+use Rattle.block_replies.proofs.header_of.Kinds as header-of-kinds
+use Rattle.block_replies.proofs.header_of.Reads as header-of
+use Rattle.block_replies.proofs.block_of.Kinds as block-of-kinds
+use Rattle.block_replies.proofs.block_of.Reads as block-of
+use Rattle.block_replies.proofs.channel_of.Kinds as channel-of-kinds
+use Rattle.block_replies.proofs.channel_of.Reads as channel-of
 use Rattle.replies.proofs.group_of.Kinds as group-of-kinds
 use Rattle.replies.proofs.group_of.Reads as group-of
 use Rattle.replies.proofs.number_of.Kinds as number-of-kinds

@@ -5,8 +5,7 @@ use mathlib.Core.List.{List}
 use Prim.Native.Nat.{ℕ}
 use Rattle.theorems.specs.Sole.{Settled}
 use Rattle.theorems.proofs.Calls.NoSecondReply.{settled, in-places}
-use Rattle.replies.specs.Replies.{Returned, returned}
-use Rattle.replies.specs.Values.{ReturnedBoth, returnedBoth}
+use Rattle.block_replies.specs.Replies.{Returned, returned, ReturnedBoth, returnedBoth}
 use Rattle.mf4.proofs.mf4_read_header.Kinds as mf4-read-header-kinds
 use Rattle.mf4.proofs.mf4_read_header.Reads as mf4-read-header
 use Rattle.mf4.proofs.mf4_write_header.Kinds as mf4-write-header-kinds

@@ -9,19 +9,20 @@ use Rattle.definitions.specs.Unicode.{Encoding}
 use Rattle.definitions.specs.DataList.{equal, variable}
 use Rattle.definitions.specs.Channel.{Channel, ValidValue}
 use Rattle.definitions.specs.Overlap.{Overlap, pair, none}
-use Rattle.replies.specs.Replies.{Returned, returned, returnedBy, headerGiven, headerC, listC, writtenC, textC, doneC}
-use Rattle.replies.specs.Channels.{blockGiven, channelC}
+use Rattle.block_replies.specs.Replies.{Returned, returned, returnedBy, headerGiven, headerC, listC, writtenC, ReturnedBoth}
+use Rattle.replies.specs.Replies.{textC, doneC}
+use Rattle.block_replies.specs.Channels.{blockGiven, channelC, channelGiven}
 use Rattle.replies.specs.Overlaps.{overlapC}
-use Rattle.replies.specs.Values.{channelGiven, groupGiven, valueC, validValueC, lengthC, payloadC, ReturnedBoth}
+use Rattle.replies.specs.Values.{groupGiven, valueC, validValueC, lengthC, payloadC}
 use Rattle.replies.specs.Stored.{numberGiven}
-use Rattle.replies.specs.declared.header.Mf4Header.{Mf4Header}
-use Rattle.replies.specs.declared.header.Mf4HeaderReply.{Mf4HeaderReply}
-use Rattle.replies.specs.declared.list.Mf4ListReply.{Mf4ListReply}
-use Rattle.replies.specs.declared.channel_block.Mf4ChannelBlock.{Mf4ChannelBlock}
-use Rattle.replies.specs.declared.channel_block.Mf4ChannelReply.{Mf4ChannelReply}
-use Rattle.replies.specs.declared.written.Mf4WrittenReply.{Mf4WrittenReply}
+use Rattle.block_replies.specs.declared.header.Mf4Header.{Mf4Header}
+use Rattle.block_replies.specs.declared.header.Mf4HeaderReply.{Mf4HeaderReply}
+use Rattle.block_replies.specs.declared.list.Mf4ListReply.{Mf4ListReply}
+use Rattle.block_replies.specs.declared.channel_block.Mf4ChannelBlock.{Mf4ChannelBlock}
+use Rattle.block_replies.specs.declared.channel_block.Mf4ChannelReply.{Mf4ChannelReply}
+use Rattle.block_replies.specs.declared.written.Mf4WrittenReply.{Mf4WrittenReply}
 use Rattle.replies.specs.declared.texts.Mf4TextReply.{Mf4TextReply}
-use Rattle.replies.specs.declared.channel.Mf4Channel.{Mf4Channel}
+use Rattle.block_replies.specs.declared.channel.Mf4Channel.{Mf4Channel}
 use Rattle.replies.specs.declared.group.Mf4Group.{Mf4Group}
 use Rattle.replies.specs.declared.values.Mf4ValueReply.{Mf4ValueReply}
 use Rattle.replies.specs.declared.valid_values.Mf4ValidValueReply.{Mf4ValidValueReply}

@@ -23,25 +23,27 @@ use Rattle.definitions.specs.WrittenValue.{valueWritten}
 use Rattle.definitions.specs.Chain.{dataLength, fetched, valueFetched}
 use Rattle.definitions.proofs.Replies.{both}
 use Rattle.mf4.specs.Clauses.{Slice}
-use Rattle.replies.specs.Replies.{Returned, returned, returnedBy, writtenC, headerGiven, textC, doneC}
-use Rattle.replies.specs.Channels.{blockGiven, channelC}
-use Rattle.replies.specs.Values.{channelGiven, groupGiven, validValueC}
+use Rattle.block_replies.specs.Replies.{Returned, returned, returnedBy, writtenC, headerGiven}
+use Rattle.replies.specs.Replies.{textC, doneC}
+use Rattle.block_replies.specs.Channels.{blockGiven, channelC, channelGiven}
+use Rattle.replies.specs.Values.{groupGiven, validValueC}
 use Rattle.replies.specs.Stored.{numberGiven}
-use Rattle.replies.specs.declared.written.Mf4WrittenReply.{Mf4WrittenReply}
-use Rattle.replies.specs.declared.header.Mf4Header.{Mf4Header}
-use Rattle.replies.specs.declared.header.Mf4HeaderReply.{Mf4HeaderReply}
-use Rattle.replies.specs.declared.list.Mf4ListReply.{Mf4ListReply}
-use Rattle.replies.specs.declared.channel_block.Mf4ChannelBlock.{Mf4ChannelBlock}
-use Rattle.replies.specs.declared.channel_block.Mf4ChannelReply.{Mf4ChannelReply}
+use Rattle.block_replies.specs.declared.written.Mf4WrittenReply.{Mf4WrittenReply}
+use Rattle.block_replies.specs.declared.header.Mf4Header.{Mf4Header}
+use Rattle.block_replies.specs.declared.header.Mf4HeaderReply.{Mf4HeaderReply}
+use Rattle.block_replies.specs.declared.list.Mf4ListReply.{Mf4ListReply}
+use Rattle.block_replies.specs.declared.channel_block.Mf4ChannelBlock.{Mf4ChannelBlock}
+use Rattle.block_replies.specs.declared.channel_block.Mf4ChannelReply.{Mf4ChannelReply}
 use Rattle.replies.specs.declared.texts.Mf4TextReply.{Mf4TextReply}
-use Rattle.replies.specs.declared.channel.Mf4Channel.{Mf4Channel}
+use Rattle.block_replies.specs.declared.channel.Mf4Channel.{Mf4Channel}
 use Rattle.replies.specs.declared.group.Mf4Group.{Mf4Group}
 use Rattle.replies.specs.declared.values.Mf4ValueReply.{Mf4ValueReply}
 use Rattle.replies.specs.declared.valid_values.Mf4ValidValueReply.{Mf4ValidValueReply}
 use Rattle.replies.specs.declared.fetches.Mf4LengthReply.{Mf4LengthReply}
 use Rattle.replies.specs.declared.done.Mf4DoneReply.{Mf4DoneReply}
 use Rattle.replies.specs.declared.stored.Mf4Number.{Mf4Number}
-use Rattle.replies.proofs.ToldToC.{Tellable, Any, OwnType, Reversible, headerAgain, header-told, writtenAgain, written-told, listAgain, list-told, channelAgain, description-back, channel-told, textAgain, text-told, valueReplyAgain, value-told, validValueAgain, valid-value-told, lengthAgain, length-told, doneAgain, done-told}
+use Rattle.block_replies.proofs.ToldToC.{Tellable, Any, OwnType, headerAgain, header-told, writtenAgain, written-told, listAgain, list-told, channelAgain, description-back, channel-told}
+use Rattle.replies.proofs.ToldToC.{Reversible, textAgain, text-told, valueReplyAgain, value-told, validValueAgain, valid-value-told, lengthAgain, length-told, doneAgain, done-told}
 use Rattle.theorems.specs.ClausesToC.{ReadsHeaderC, WritesHeaderC, ReadsListC, WritesEqualC, WritesVariableC, ReadsChannelC, WritesChannelC, WritesTextC, ReadsValueC, ReadsValidValueC, ReadsLengthC, WritesValueC, ReadsRecordC, ReadsRecordValueC}
 use Rattle.theorems.proofs.Types.TypeCodes.{code-back, code-owned}
 use Rattle.theorems.proofs.Blocks.ChannelAnswers.{channel-stands}

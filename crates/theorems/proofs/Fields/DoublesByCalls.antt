@@ -21,8 +21,8 @@ use Rattle.decoder.proofs.Nearest.{integerIn, isNegative, integer-double, neare
 use Rattle.fields.specs.Meaning.{channelMeant, valueReply}
 use Rattle.fields.specs.declared.channel.Channel.{Channel as Description}
 use Rattle.fields.specs.declared.value.ValueRead.{ValueRead}
-use Rattle.replies.specs.Values.{channelGiven}
-use Rattle.replies.specs.declared.channel.Mf4Channel.{Mf4Channel}
+use Rattle.block_replies.specs.Channels.{channelGiven}
+use Rattle.block_replies.specs.declared.channel.Mf4Channel.{Mf4Channel}
 use Rattle.replies.specs.declared.values.Mf4ValueReply.{Mf4ValueReply}
 use Rattle.replies.proofs.ToldToC.{valueReplyAgain}
 use Rattle.mf4.specs.Clauses.{Slice}

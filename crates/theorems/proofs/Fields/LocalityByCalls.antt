@@ -28,8 +28,9 @@ use Rattle.theorems.specs.ClausesToC.{ReadsValueC, ReadsValidValueC, Che
 use Rattle.theorems.proofs.Calls.TestsInTurn.{refused-made, made-refused}
 use Rattle.theorems.proofs.Calls.ToldToC.{mf4-decode-value-told, mf4-decode-valid-value-told}
 use Rattle.replies.specs.Replies.{flagC}
-use Rattle.replies.specs.Values.{channelGiven, groupGiven, valueC, validValueC}
-use Rattle.replies.specs.declared.channel.Mf4Channel.{Mf4Channel}
+use Rattle.block_replies.specs.Channels.{channelGiven}
+use Rattle.replies.specs.Values.{groupGiven, valueC, validValueC}
+use Rattle.block_replies.specs.declared.channel.Mf4Channel.{Mf4Channel}
 use Rattle.replies.specs.declared.group.Mf4Group.{Mf4Group}
 use Rattle.replies.specs.declared.values.Mf4ValueReply.{Mf4ValueReply}
 use Rattle.replies.specs.declared.valid_values.Mf4ValidValueReply.{Mf4ValidValueReply}

@@ -12,11 +12,12 @@ use denote.Ref.{RefT}
 use Rattle.definitions.specs.Reply.{Reply, answer, refusal}
 use Rattle.definitions.specs.Channel.{Channel}
 use Rattle.definitions.specs.Overlap.{Overlap, pair, none, channelLimit, overlapOf}
-use Rattle.replies.specs.Values.{channelGiven}
+use Rattle.block_replies.specs.Channels.{channelGiven}
 use Rattle.replies.specs.Overlaps.{overlapC}
-use Rattle.replies.specs.declared.channel.Mf4Channel.{Mf4Channel}
+use Rattle.block_replies.specs.declared.channel.Mf4Channel.{Mf4Channel}
 use Rattle.replies.specs.declared.overlap.Mf4OverlapReply.{Mf4OverlapReply}
-use Rattle.replies.proofs.ToldToC.{Tellable, Any, overlapAgain, overlap-told}
+use Rattle.block_replies.proofs.ToldToC.{Tellable, Any}
+use Rattle.replies.proofs.ToldToC.{overlapAgain, overlap-told}
 use Rattle.lent_channels.proofs.first_overlap as first-overlap
 use Rattle.mf4.specs.ByHand.{ClausesIn}
 use Rattle.mf4.proofs.Border.{mf4-first-overlap-clauses}

@@ -10,8 +10,9 @@ use Rattle.fields.specs.declared.group.Group.{Group}
 use Rattle.places.specs.declared.place.FileAddress.{FileAddress}
 use Rattle.payloads.specs.Meaning.{payloadReply}
 use Rattle.payloads.specs.declared.value.PayloadRead.{PayloadRead}
-use Rattle.replies.specs.Values.{channelGiven, groupGiven}
-use Rattle.replies.specs.declared.channel.Mf4Channel.{Mf4Channel}
+use Rattle.block_replies.specs.Channels.{channelGiven}
+use Rattle.replies.specs.Values.{groupGiven}
+use Rattle.block_replies.specs.declared.channel.Mf4Channel.{Mf4Channel}
 use Rattle.replies.specs.declared.group.Mf4Group.{Mf4Group}
 use Rattle.replies.specs.declared.payload.Mf4PayloadReply.{Mf4PayloadReply}
 use Rattle.mf4.specs.Clauses.{Slice}

@@ -9,11 +9,14 @@ use Rattle.definitions.specs.Reply.{Reply, answer, refusal}
 use Rattle.definitions.specs.Channel.{Channel, Group}
 use Rattle.definitions.specs.Payload.{PayloadValue, Outcomes, payloadFetched}
 use Rattle.mf4.specs.Clauses.{Slice}
-use Rattle.replies.specs.Values.{channelGiven, groupGiven, ReturnedBoth}
-use Rattle.replies.specs.declared.channel.Mf4Channel.{Mf4Channel}
+use Rattle.block_replies.specs.Channels.{channelGiven}
+use Rattle.replies.specs.Values.{groupGiven}
+use Rattle.block_replies.specs.Replies.{ReturnedBoth}
+use Rattle.block_replies.specs.declared.channel.Mf4Channel.{Mf4Channel}
 use Rattle.replies.specs.declared.group.Mf4Group.{Mf4Group}
 use Rattle.replies.specs.declared.payload.Mf4PayloadReply.{Mf4PayloadReply}
-use Rattle.replies.proofs.ToldToC.{Tellable, Reversible, of-kind-told, payloadAgain, payload-told}
+use Rattle.block_replies.proofs.ToldToC.{Tellable}
+use Rattle.replies.proofs.ToldToC.{Reversible, of-kind-told, payloadAgain, payload-told}
 use Rattle.theorems.specs.ClausesToC.{ReadsPayloadC}
 use Rattle.theorems.specs.Exactly.{ExactlyZero, PayloadFetchable}
 use Rattle.theorems.specs.PayloadEnds.{PayloadEnds}

@@ -22,8 +22,10 @@ use Rattle.payloads.specs.Meaning.{payloadFetchedBy}
 use Rattle.payloads.specs.declared.value.PayloadRead.{PayloadRead}
 use Rattle.payloads.proofs.Back.{payload-fetched-one}
 use Rattle.mf4.specs.Clauses.{Slice}
-use Rattle.replies.specs.Values.{channelGiven, groupGiven, payloadC, returnedBoth, returnedBothBy}
-use Rattle.replies.specs.declared.channel.Mf4Channel.{Mf4Channel}
+use Rattle.block_replies.specs.Channels.{channelGiven}
+use Rattle.replies.specs.Values.{groupGiven, payloadC}
+use Rattle.block_replies.specs.Replies.{returnedBoth, returnedBothBy}
+use Rattle.block_replies.specs.declared.channel.Mf4Channel.{Mf4Channel}
 use Rattle.replies.specs.declared.group.Mf4Group.{Mf4Group}
 use Rattle.replies.specs.declared.payload.Mf4PayloadReply.{Mf4PayloadReply}
 use Rattle.theorems.specs.Clauses.{ReadsPayload}

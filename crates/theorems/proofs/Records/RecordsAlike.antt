@@ -14,9 +14,10 @@ use Rattle.fields.specs.declared.channel.Channel.{Channel as Description}
 use Rattle.fields.specs.declared.group.Group.{Group as Grouped}
 use Rattle.fields.specs.declared.value.ValidValueRead.{ValidValueRead}
 use Rattle.places.specs.declared.place.FileAddress.{FileAddress}
-use Rattle.replies.specs.Replies.{Returned}
-use Rattle.replies.specs.Values.{channelGiven, groupGiven, validValueC}
-use Rattle.replies.specs.declared.channel.Mf4Channel.{Mf4Channel}
+use Rattle.block_replies.specs.Replies.{Returned}
+use Rattle.block_replies.specs.Channels.{channelGiven}
+use Rattle.replies.specs.Values.{groupGiven, validValueC}
+use Rattle.block_replies.specs.declared.channel.Mf4Channel.{Mf4Channel}
 use Rattle.replies.specs.declared.group.Mf4Group.{Mf4Group}
 use Rattle.replies.specs.declared.valid_values.Mf4ValidValueReply.{Mf4ValidValueReply}
 use Rattle.replies.proofs.ToldToC.{validValueAgain}

@@ -9,7 +9,7 @@ use lib.ListN.{length}
 use Rattle.definitions.specs.Reply.{Outcome, answer}
 use Rattle.definitions.specs.Channel.{ValidValue}
 use Rattle.chain.specs.Meaning.{chainReply}
-use Rattle.records.specs.Meaning.{fetchedBy}
+use Rattle.records.specs.Meaning.{fetchedBy, valueFetchedBy}
 use Rattle.places.specs.declared.place.FileAddress.{FileAddress}
 use Rattle.chain.specs.declared.acceptance.ChainRead.{ChainRead}
 use Rattle.records.specs.declared.record.RecordRead.{RecordRead}
@@ -19,12 +19,13 @@ use Rattle.fields.specs.declared.channel.Channel.{Channel}
 use Rattle.fields.specs.declared.group.Group.{Group}
 use Rattle.fields.specs.declared.value.ValidValueRead.{ValidValueRead}
 use Rattle.fields.proofs.Back.{valid-value-one}
-use Rattle.records.specs.Meaning.{valueFetchedBy}
-use Rattle.replies.specs.Replies.{Returned, returned, returnedBy, doneC}
-use Rattle.replies.specs.Values.{channelGiven, groupGiven, validValueC, lengthC}
+use Rattle.block_replies.specs.Replies.{Returned, returned, returnedBy}
+use Rattle.replies.specs.Replies.{doneC}
+use Rattle.block_replies.specs.Channels.{channelGiven}
+use Rattle.replies.specs.Values.{groupGiven, validValueC, lengthC}
 use Rattle.replies.specs.declared.fetches.Mf4LengthReply.{Mf4LengthReply}
 use Rattle.replies.specs.declared.done.Mf4DoneReply.{Mf4DoneReply}
-use Rattle.replies.specs.declared.channel.Mf4Channel.{Mf4Channel}
+use Rattle.block_replies.specs.declared.channel.Mf4Channel.{Mf4Channel}
 use Rattle.replies.specs.declared.group.Mf4Group.{Mf4Group}
 use Rattle.replies.specs.declared.valid_values.Mf4ValidValueReply.{Mf4ValidValueReply}
 use Rattle.mf4.specs.Clauses.{Slice}

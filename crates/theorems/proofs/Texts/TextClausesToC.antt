@@ -5,7 +5,8 @@ use Prim.Native.Nat.{ℕ}
 use contract.Lifetimes.{Lfts}
 use Rattle.definitions.specs.Bytes.{little, big}
 use Rattle.definitions.specs.Unicode.{Encoding, latin1, utf8, utf16, textWritten}
-use Rattle.replies.specs.Replies.{returned, returnedBy, textC}
+use Rattle.block_replies.specs.Replies.{returned, returnedBy}
+use Rattle.replies.specs.Replies.{textC}
 use Rattle.replies.specs.declared.texts.Mf4TextReply.{Mf4TextReply}
 use Rattle.mf4.specs.Clauses.{Slice}
 use Rattle.theorems.specs.ClausesToC.{WritesTextC}

@@ -18,11 +18,13 @@ use Rattle.definitions.proofs.Shared.{Within}
 use Rattle.words.proofs.Numbers.{Bytes}
 use Rattle.doubles.proofs.Narrowed.{ComesBack}
 use Rattle.encoder.specs.Meaning.{valueGiven}
-use Rattle.replies.specs.Replies.{Returned, returned, returnedBy, flagC, doneC}
-use Rattle.replies.specs.Values.{channelGiven, groupGiven, wordOf, numberC, decodedC, answerC, valueC}
+use Rattle.block_replies.specs.Replies.{Returned, returned, returnedBy}
+use Rattle.replies.specs.Replies.{flagC, doneC}
+use Rattle.block_replies.specs.Channels.{channelGiven}
+use Rattle.replies.specs.Values.{groupGiven, wordOf, numberC, decodedC, answerC, valueC}
 use Rattle.replies.specs.Stored.{givenBy, numberGiven}
 use Rattle.replies.proofs.ToldToC.{Reversible, valueAgain, of-kind-told}
-use Rattle.replies.specs.declared.channel.Mf4Channel.{Mf4Channel}
+use Rattle.block_replies.specs.declared.channel.Mf4Channel.{Mf4Channel}
 use Rattle.replies.specs.declared.group.Mf4Group.{Mf4Group}
 use Rattle.replies.specs.declared.values.Mf4ValueReply.{Mf4ValueReply}
 use Rattle.replies.specs.declared.stored.Mf4Number.{Mf4Number}

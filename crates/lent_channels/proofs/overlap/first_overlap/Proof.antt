@@ -45,10 +45,10 @@ use denote.Triple.Table.{entered, cited}
 use denote.Triple.Walked.{says, Stays, stay-none-slice, walkOf, goes-none-slice, Walks, ends-at, walked, walk-meets}
 use denote.Exit.{yes}
 use denote.Triple.Clauses.{ensured, lasts}
-use Rattle.replies.specs.Values.{channelGiven}
-use Rattle.replies.specs.declared.channel.Mf4Channel.{Mf4Channel}
-use Rattle.replies.proofs.channel.Mf4Channel as channel
-use Rattle.replies.proofs.channel.Mf4Channel.Laws as channel-laws
+use Rattle.block_replies.specs.Channels.{channelGiven}
+use Rattle.block_replies.specs.declared.channel.Mf4Channel.{Mf4Channel}
+use Rattle.block_replies.proofs.channel.Mf4Channel as channel
+use Rattle.block_replies.proofs.channel.Mf4Channel.Laws as channel-laws
 use Rattle.definitions.specs.Overlap.{overlapOf}
 use Rattle.overlaps.specs.Meaning.{overlapReply, beginOf, stepOf, Ready}
 use Rattle.replies.specs.Overlaps.{overlapC}

@@ -1,5 +1,5 @@
 use mathlib.Core.Path.{ap, _∙_}
-use Rattle.replies.specs.Channels.{channelC}
+use Rattle.block_replies.specs.Channels.{channelC}
 use borrow.Author.Needs.{needs}
 use Rattle.mf4.proofs.channel_block.mf4_read_channel.Statement.{statement}
 use Rattle.mf4.proofs.channel_block.mf4_read_channel.Tie as tie

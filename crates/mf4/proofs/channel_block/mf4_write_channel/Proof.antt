@@ -1,8 +1,8 @@
 use denote.Ref.{now}
 use Rattle.definitions.specs.ChannelBlock.{channelWritten}
 use Rattle.blocks.specs.Meaning.{writtenReply}
-use Rattle.replies.specs.Replies.{writtenC}
-use Rattle.replies.proofs.Handed.{handed-back-given}
+use Rattle.block_replies.specs.Replies.{writtenC}
+use Rattle.block_replies.proofs.Handed.{handed-back-given}
 use borrow.Author.Needs.{needs}
 use Rattle.mf4.proofs.channel_block.mf4_write_channel.Statement.{statement}
 use Rattle.mf4.proofs.channel_block.mf4_write_channel.Tie as tie

@@ -1,6 +1,6 @@
 use Rattle.records.specs.Meaning.{recordReply}
 use Rattle.replies.specs.Replies.{doneC}
-use Rattle.replies.proofs.Handed.{handed-back}
+use Rattle.block_replies.proofs.Handed.{handed-back}
 use borrow.Author.Needs.{needs}
 use Rattle.mf4.proofs.fetches.mf4_read_record.Statement.{statement}
 use Rattle.mf4.proofs.fetches.mf4_read_record.Tie as tie

@@ -4,7 +4,7 @@ use Rattle.definitions.specs.Channel.{Channel, Group}
 use Rattle.definitions.specs.Chain.{valueFetched}
 use Rattle.fields.specs.Meaning.{validValueReply}
 use Rattle.replies.specs.Values.{validValueC}
-use Rattle.replies.proofs.Handed.{handed-back}
+use Rattle.block_replies.proofs.Handed.{handed-back}
 use borrow.Author.Needs.{needs}
 use Rattle.mf4.proofs.fetches.mf4_record_value.Statement.{statement}
 use Rattle.mf4.proofs.fetches.mf4_record_value.Tie as tie

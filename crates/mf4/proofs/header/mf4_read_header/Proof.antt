@@ -1,5 +1,5 @@
 use mathlib.Core.Path.{ap, _∙_}
-use Rattle.replies.specs.Replies.{headerC}
+use Rattle.block_replies.specs.Replies.{headerC}
 use borrow.Author.Needs.{needs}
 use Rattle.mf4.proofs.header.mf4_read_header.Statement.{statement}
 use Rattle.mf4.proofs.header.mf4_read_header.Tie as tie

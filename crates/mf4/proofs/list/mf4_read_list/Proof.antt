@@ -1,5 +1,5 @@
 use mathlib.Core.Path.{ap, _∙_}
-use Rattle.replies.specs.Replies.{listC}
+use Rattle.block_replies.specs.Replies.{listC}
 use borrow.Author.Needs.{needs}
 use Rattle.mf4.proofs.list.mf4_read_list.Statement.{statement}
 use Rattle.mf4.proofs.list.mf4_read_list.Tie as tie

@@ -1,6 +1,6 @@
 use Rattle.blocks.specs.Meaning.{writtenReply}
-use Rattle.replies.specs.Replies.{writtenC}
-use Rattle.replies.proofs.Handed.{handed-back}
+use Rattle.block_replies.specs.Replies.{writtenC}
+use Rattle.block_replies.proofs.Handed.{handed-back}
 use borrow.Author.Needs.{needs}
 use Rattle.mf4.proofs.list.mf4_write_list_variable.Statement.{statement}
 use Rattle.mf4.proofs.list.mf4_write_list_variable.Tie as tie

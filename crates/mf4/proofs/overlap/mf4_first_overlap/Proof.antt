@@ -35,11 +35,11 @@ use denote.Triple.Walked.{says, Stays, stay-dropped, walkOf, goes-dropped, Walks
 use denote.Exit.{yes}
 use denote.Triple.Clauses.{ensured, lasts}
 use Rattle.definitions.specs.Overlap.{overlapOf}
-use Rattle.replies.specs.Values.{channelGiven}
+use Rattle.block_replies.specs.Channels.{channelGiven}
 use Rattle.replies.specs.Overlaps.{overlapC}
-use Rattle.replies.specs.declared.channel.Mf4Channel.{Mf4Channel}
+use Rattle.block_replies.specs.declared.channel.Mf4Channel.{Mf4Channel}
 use Rattle.replies.specs.declared.overlap.Mf4OverlapReply.{Mf4OverlapReply}
-use Rattle.replies.proofs.channel.Mf4Channel as channel
+use Rattle.block_replies.proofs.channel.Mf4Channel as channel
 use Rattle.replies.proofs.overlap.Mf4OverlapReply as overlap
 use Rattle.replies.proofs.overlap.Mf4OverlapReply.Laws as overlap-laws
 use Rattle.lent_channels.proofs.first_overlap as first

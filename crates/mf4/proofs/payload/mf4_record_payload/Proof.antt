@@ -4,7 +4,7 @@ use Rattle.definitions.specs.Channel.{Channel, Group}
 use Rattle.definitions.specs.Payload.{payloadFetched}
 use Rattle.payloads.specs.Meaning.{payloadReply}
 use Rattle.replies.specs.Values.{payloadC}
-use Rattle.replies.proofs.Handed.{handed-back-both}
+use Rattle.block_replies.proofs.Handed.{handed-back-both}
 use borrow.Author.Needs.{needs}
 use Rattle.mf4.proofs.payload.mf4_record_payload.Statement.{statement}
 use Rattle.mf4.proofs.payload.mf4_record_payload.Tie as tie

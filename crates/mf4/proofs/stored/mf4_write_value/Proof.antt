@@ -4,7 +4,7 @@ use Rattle.definitions.specs.Channel.{Channel}
 use Rattle.definitions.specs.WrittenValue.{Given, valueWritten}
 use Rattle.encoder.specs.Meaning.{writtenReply}
 use Rattle.replies.specs.Replies.{doneC}
-use Rattle.replies.proofs.Handed.{handed-back}
+use Rattle.block_replies.proofs.Handed.{handed-back}
 use borrow.Author.Needs.{needs}
 use Rattle.mf4.proofs.stored.mf4_write_value.Statement.{statement}
 use Rattle.mf4.proofs.stored.mf4_write_value.Tie as tie

@@ -1,6 +1,6 @@
 use Rattle.text.specs.Meaning.{textReply}
 use Rattle.replies.specs.Replies.{textC}
-use Rattle.replies.proofs.Handed.{handed-back}
+use Rattle.block_replies.proofs.Handed.{handed-back}
 use borrow.Author.Needs.{needs}
 use Rattle.mf4.proofs.texts.mf4_text_utf8.Statement.{statement}
 use Rattle.mf4.proofs.texts.mf4_text_utf8.Tie as tie

@@ -1,7 +1,7 @@
 use mathlib.Core.Path.{refl}
 use Rattle.records.specs.Meaning.{recordReply}
 use Rattle.replies.specs.Replies.{doneC}
-use Rattle.replies.proofs.Handed.{handed, by-numbers}
+use Rattle.block_replies.proofs.Handed.{handed, by-numbers}
 use borrow.Author.Needs.{needs}
 use Rattle.replies.proofs.fetches.fetched_reply.Statement.{statement}
 use Rattle.replies.proofs.fetches.fetched_reply.Tie as tie

@@ -1,7 +1,7 @@
 use mathlib.Core.Path.{refl}
 use Rattle.chain.specs.Meaning.{chainReply}
 use Rattle.replies.specs.Values.{lengthC}
-use Rattle.replies.proofs.Handed.{handed, by-numbers}
+use Rattle.block_replies.proofs.Handed.{handed, by-numbers}
 use borrow.Author.Needs.{needs}
 use Rattle.replies.proofs.fetches.length_reply.Statement.{statement}
 use Rattle.replies.proofs.fetches.length_reply.Tie as tie

@@ -1,7 +1,7 @@
 use mathlib.Core.Path.{refl}
 use Rattle.overlaps.specs.Meaning.{overlapReply}
 use Rattle.replies.specs.Overlaps.{overlapC}
-use Rattle.replies.proofs.Handed.{handed, by-numbers}
+use Rattle.block_replies.proofs.Handed.{handed, by-numbers}
 use borrow.Author.Needs.{needs}
 use Rattle.replies.proofs.overlap.overlap_reply.Statement.{statement}
 use Rattle.replies.proofs.overlap.overlap_reply.Tie as tie

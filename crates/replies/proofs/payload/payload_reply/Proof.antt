@@ -1,7 +1,7 @@
 use mathlib.Core.Path.{ap₂}
 use Rattle.payloads.specs.Meaning.{payloadReply}
 use Rattle.replies.specs.Values.{payloadAnswerC, payloadC}
-use Rattle.replies.proofs.Handed.{handed, by-numbers}
+use Rattle.block_replies.proofs.Handed.{handed, by-numbers}
 use borrow.Author.Needs.{needs}
 use Rattle.replies.proofs.payload.payload_reply.Statement.{statement}
 use Rattle.replies.proofs.payload.payload_reply.Tie as tie

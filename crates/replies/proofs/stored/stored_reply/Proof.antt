@@ -1,7 +1,7 @@
 use mathlib.Core.Path.{refl}
 use Rattle.encoder.specs.Meaning.{writtenReply}
 use Rattle.replies.specs.Replies.{doneC}
-use Rattle.replies.proofs.Handed.{handed, by-numbers}
+use Rattle.block_replies.proofs.Handed.{handed, by-numbers}
 use borrow.Author.Needs.{needs}
 use Rattle.replies.proofs.stored.stored_reply.Statement.{statement}
 use Rattle.replies.proofs.stored.stored_reply.Tie as tie

@@ -2,7 +2,7 @@ use mathlib.Core.Path.{ap}
 use Prim.Native.Nat.{ℕ}
 use Rattle.text.specs.Meaning.{textReply}
 use Rattle.replies.specs.Replies.{textC}
-use Rattle.replies.proofs.Handed.{handed, by-numbers}
+use Rattle.block_replies.proofs.Handed.{handed, by-numbers}
 use borrow.Author.Needs.{needs}
 use Rattle.replies.proofs.texts.text_reply.Statement.{statement}
 use Rattle.replies.proofs.texts.text_reply.Tie as tie

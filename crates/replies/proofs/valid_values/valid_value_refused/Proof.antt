@@ -1,5 +1,5 @@
 use Rattle.replies.specs.Values.{validValueC}
-use Rattle.replies.proofs.Handed.{by-numbers}
+use Rattle.block_replies.proofs.Handed.{by-numbers}
 use borrow.Author.Needs.{needs}
 use Rattle.replies.proofs.valid_values.valid_value_refused.Statement.{statement}
 use Rattle.replies.proofs.valid_values.valid_value_refused.Tie as tie

@@ -1,7 +1,7 @@
 use mathlib.Core.Path.{ap₂}
 use Rattle.fields.specs.Meaning.{validValueReply}
 use Rattle.replies.specs.Values.{validAnswerC, validValueC}
-use Rattle.replies.proofs.Handed.{handed}
+use Rattle.block_replies.proofs.Handed.{handed}
 use borrow.Author.Needs.{needs}
 use Rattle.replies.proofs.valid_values.valid_value_reply.Statement.{statement}
 use Rattle.replies.proofs.valid_values.valid_value_reply.Tie as tie

@@ -1,7 +1,7 @@
 use mathlib.Core.Path.{ap}
 use Rattle.fields.specs.Meaning.{valueReply}
 use Rattle.replies.specs.Values.{answerC, valueC}
-use Rattle.replies.proofs.Handed.{handed, by-numbers}
+use Rattle.block_replies.proofs.Handed.{handed, by-numbers}
 use borrow.Author.Needs.{needs}
 use Rattle.replies.proofs.values.value_reply.Statement.{statement}
 use Rattle.replies.proofs.values.value_reply.Tie as tie

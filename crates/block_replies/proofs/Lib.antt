@@ -1,0 +1,5 @@
+pub mod Handed
+pub mod Structs
+pub mod InOrder
+pub mod Examples
+pub mod ToldToC
