@@ -261,7 +261,7 @@ def refusal_boundaries(rng):
         channel = Channel(data_type, rng.choice([0, 2]), bit_offset, byte_offset, bit_count)
         span = span_size(channel)
         needed = id_size + byte_offset + span
-        calls = ["decode_value", rng.choice(VALUE_CALLS[1:])]
+        calls = [*VALUE_CALLS[:2], rng.choice(VALUE_CALLS[2:])]
         for length in (0, max(0, needed - 1), needed):
             yield from value_cases(rng, some_bytes(rng, length), id_size, channel, calls)
         far = channel._replace(byte_offset=rng.choice([0, byte_offset, U32]))
