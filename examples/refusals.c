@@ -1,7 +1,7 @@
 /*
  * What the library says of a log that is damaged. Four damages are made up, each in a copy of what the log says, and each
  * must be refused: a record behind the last one, a field that a wrong description puts past its record's end, a payload whose
- * position is read from a wrong place, and a short block in the middle of a chain.
+ * position is read from a wrong place, and a block that is too short for its place in the chain.
  *
  *     refusals FILE
  *

@@ -1,6 +1,6 @@
--- The double of a fixed integer field, of whatever width: no double is nearer to the value, a magnitude up to 2^53 comes through
--- exactly, and of two fields the value no greater has a double no greater. Of the value and the double that the calls give of one
--- field, about their own clauses.
+-- The double of a fixed integer field, of whatever width: no double is nearer to the value, up to 2^53 and down to -2^53 the two are
+-- equal, and of two fields the greater value has no smaller double. Of the value and the double that the calls give of one field,
+-- about their own clauses.
 use mathlib.Core.Path.{_≡_, sym, ap, _∙_, subst}
 use mathlib.Core.Bool.{true, false}
 use mathlib.Core.List.{List}
