@@ -36,7 +36,7 @@ static void print_size(const mdf_group *group, uint64_t length, int is_read)
         printf("\n  data at %" PRIu64 ": %" PRIu64 " bytes, %" PRIu64 " record%s of %" PRIu64, group->data, length, records,
                plural(records), group->record_size);
     if (tail != 0)
-        printf(" and a rest of %" PRIu64 " that is none", tail);
+        printf(", %" PRIu64 " trailing byte%s ignored", tail, plural(tail));
     if (group->counted != records)
         printf("; the file counts %" PRIu64 " record%s", group->counted, plural(group->counted));
     printf("\n");

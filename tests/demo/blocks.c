@@ -105,7 +105,7 @@ static void add_lists_with_offsets(void)
         put(list + 44, 1, 4);
         put(list + 48, 55 * (uint64_t)i, 8);
     }
-    must_say(&bad, "lists with offsets", 0, "110 bytes, 2 records of 48 and a rest of 14 that is none; the file counts 6");
+    must_say(&bad, "lists with offsets", 0, "110 bytes, 2 records of 48, 14 trailing bytes ignored; the file counts 6");
     put(first + 56 + 48, 54, 8);
     must_say(&bad, "an untrue offset", 1, " begins at byte 55, and ##DL at ");
 }

@@ -14,7 +14,7 @@ static void change_lists(void)
     changed(block("##DT", 3) + 8, 24 + 54, 8, 1, ": ##DT at 880 has 54 bytes of data, and ##DL at 1088 declares 55 for it\n");
     changed(block("##DT", 4) + 8, 24 + 54, 8, 1, ": ##DT at 960 has 54 bytes of data, and ##DL at 1168 declares 55 for it\n");
     changed(block("##DT", 5) + 8, 24 + 56, 8, 1, " has 56 bytes of data, and ##DL at 1168 declares 55 at most\n");
-    changed(block("##DT", 5) + 8, 24 + 19, 8, 0, "294 bytes, 6 records of 48 and a rest of 6 that is none\n");
+    changed(block("##DT", 5) + 8, 24 + 19, 8, 0, "294 bytes, 6 records of 48, 6 trailing bytes ignored\n");
     changed(second + 56, 56, 8, 1, " declares blocks of 56 bytes, and the first list, at 1088, of 55\n");
     changed(second + 48, 0, 1, 1, " has a length of 64, and its fields take 72\n");
     put(second + 8, 72, 8);
@@ -22,7 +22,7 @@ static void change_lists(void)
     changed(first + 24, first, 8, 1, "refused (8): ");
     changed(second + 24, first, 8, 1,
             " counts 2 blocks, and the first list, at 1088, 4; only the last list may count fewer\n");
-    changed(first + 24, 0, 8, 0, "220 bytes, 4 records of 48 and a rest of 28 that is none; the file counts 6 records\n");
+    changed(first + 24, 0, 8, 0, "220 bytes, 4 records of 48, 28 trailing bytes ignored; the file counts 6 records\n");
     changed(first + 68, 5, 4, 1, "refused (10): a list's count or block length disagrees with its links: "
             "##DL at 1088 counts 5 blocks and links 4\n");
     changed(first + 8, 79, 8, 1, "##DL at 1088 has a length of 79, and its fields take 80\n");

@@ -55,7 +55,7 @@ static void change_fields(void)
     changed(record + 8 + 2, 0x9B, 1, 0, "  PX??    ");
     changed(record + 8, 0, 1, 0, "     0          0.25  -  ");
     changed(unit_of(HOURS), UINT64_C(0x6868686868686868), 8, 0, "hours [hhhhhhhh] ");
-    changed(block("##DG", 0) + 56, 1, 1, 0, "6 records of 49 and a rest of 1 that is none");
+    changed(block("##DG", 0) + 56, 1, 1, 0, "6 records of 49, 1 trailing byte ignored");
     changed(record, UINT64_C(0x7FF0000000000001), 8, 0, "     0           nan  PX1 ");
     changed(record, UINT64_C(0x3FD3333333333334), 8, 0, "     0  0.30000000000000004  PX1 ");
     changed(record + 23, 0x3DCCCCCD, 4, 0, "  180           0.1         86.75  ");

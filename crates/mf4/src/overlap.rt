@@ -8,8 +8,7 @@ use block_replies::Mf4Channel;
 use lent_channels::first_overlap;
 use replies::Mf4OverlapReply;
 
-// What is lent structs is proved by hand, also where it only hands them on: the loop stands in a crate below, where a wrong
-// program of another call does not pay for its proof.
+// What is lent structs is proved by hand, also where it only hands them on. The walk along them is a crate of its own.
 #[no_mangle]
 pub extern "C" fn mf4_first_overlap(list: &[Mf4Channel]) -> Mf4OverlapReply
     ensures { λ r. ⌜ r ≡ overlapC (overlapOf (map channelGiven (now (list .entry)))) ⌝ }
