@@ -15,7 +15,8 @@
  * A buffer is a pointer and a count of elements. NAME with NAME_len is input (mf4_write_value changes its record in place);
  * NAME with NAME_room is output, and its room is how much fits. The pointer may be NULL if the count is 0. An output must
  * overlap no other buffer of the call. Beware: `sizeof buffer` is a room, not a length. A record_len is the length of one
- * record, so pass record_size: with more, a field outside the record is read from stale bytes and not refused.
+ * record, so pass record_size: with more, mf4_decode_value reads a field outside the record from stale bytes and does not
+ * refuse it. mf4_decode_valid_value refuses every length but the group's.
  *
  * The calls are thread-safe and reentrant: they allocate nothing and keep no state. Lent bytes must not change during a call.
  * A fetch tests the whole chain first and copies the record afterwards: if the file changes in between, the record may be
@@ -32,9 +33,9 @@
 #include <string.h>
 
 #define MF4_VERSION_MAJOR 0
-#define MF4_VERSION_MINOR 4
+#define MF4_VERSION_MINOR 5
 #define MF4_VERSION_PATCH 0
-#define MF4_VERSION "0.4.0"
+#define MF4_VERSION "0.5.0"
 #define MF4_VERSION_NUMBER (MF4_VERSION_MAJOR * 10000 + MF4_VERSION_MINOR * 100 + MF4_VERSION_PATCH)
 
 #ifdef __cplusplus
@@ -90,6 +91,8 @@ enum mf4_reply {
     MF4_OTHER_KIND = 25,         /* a number to write of another kind than the channel, or a channel of no number  */
     MF4_TOO_MANY_CHANNELS = 26,  /* more than 256 channels                                                         */
     MF4_NO_FIXED_NUMBER = 27,    /* a channel that is not a number in the record; told: its index in the list      */
+    MF4_OTHER_LENGTH = 28,       /* a record that is not as long as the group's id, data and invalidation bytes    */
+    MF4_BIT_OUTSIDE = 29,        /* the channel's invalidation bit is behind the group's invalidation bytes        */
     MF4_NO_POSITION = 35,        /* a channel whose field in the record is not the position of a payload           */
 
     /* From 256 on: the replies of this header's inline functions, never the library's. */
@@ -127,6 +130,8 @@ static inline const char *mf4_reply_text(uint32_t reply)
     case MF4_OTHER_KIND: return "the number is of another kind than the channel's, or the channel is no fixed number";
     case MF4_TOO_MANY_CHANNELS: return "the list has over 256 descriptions";
     case MF4_NO_FIXED_NUMBER: return "a description in the list is that of no fixed number";
+    case MF4_OTHER_LENGTH: return "the record is not as long as its group says";
+    case MF4_BIT_OUTSIDE: return "the invalidation bit lies outside the group's invalidation bytes";
     case MF4_NO_POSITION: return "the channel holds no position of a payload";
     case MF4_NO_TEXT_TYPE: return "the data type is no text";
     default: return "no reply of this library";
@@ -273,10 +278,12 @@ typedef struct mf4_channel {
     uint64_t data_addr;            /* of channel type 1: where the chain of its payloads starts                         */
 } mf4_channel;
 
-/* How the records of a channel group are laid out: an id, data bytes, invalidation bits. A record_size is all three. */
+/* How the records of a channel group are laid out: an id, data bytes, invalidation bytes. A record_size is their sum; add them
+ * up as uint64_t. */
 typedef struct mf4_group {
-    uint64_t record_id_size; /* bytes of the record id, from the ##DG block; often 0          */
-    uint32_t data_bytes;     /* bytes of channel data behind the id, from the ##CG block      */
+    uint64_t record_id_size;     /* bytes of the record id, from the ##DG block; often 0                            */
+    uint32_t data_bytes;         /* bytes of channel data behind the id, from the ##CG block                        */
+    uint32_t invalidation_bytes; /* bytes of invalidation bits at the record's end, from the ##CG block; often 0    */
 } mf4_group;
 
 #define MF4_CHANNEL_BLOCK_SIZE 160 /* bytes that mf4_write_channel writes */
@@ -348,7 +355,14 @@ typedef struct mf4_value_reply {
     uint64_t length;
 } mf4_value_reply;
 
-/* The same, and is_valid: 0 if the channel's flags or the record's invalidation bit mark the value as invalid, else 1. */
+/* is_valid: 0 if the channel's flags or the record's invalidation bit mark the value as invalid, else 1. */
+typedef struct mf4_validity_reply {
+    uint32_t reply;
+    uint64_t told;
+    uint8_t is_valid;
+} mf4_validity_reply;
+
+/* A value, and is_valid as above. */
 typedef struct mf4_valid_value_reply {
     uint32_t reply;
     uint64_t told;
@@ -384,12 +398,27 @@ static inline double mf4_bits_as_double(uint64_t bits)
  * is refused in every record of that length. */
 mf4_value_reply mf4_decode_value(const uint8_t *record, size_t record_len, uint64_t record_id_size, mf4_channel channel);
 
-/* Whether the value is valid: 1 or 0. An invalidation bit outside the record counts as valid. */
-uint8_t mf4_check_validity(const uint8_t *record, size_t record_len, mf4_group group, mf4_channel channel);
+/* Whether the value is valid. The bytes given must be one whole record of the group, and the invalidation bit must be inside its
+ * invalidation bytes: a description that points outside is refused, and does not read the bit of another record.
+ *
+ * Refuses with MF4_OTHER_LENGTH (28) if record_len is not record_id_size + data_bytes + invalidation_bytes, whatever the
+ * flags; then with MF4_BIT_OUTSIDE (29) if the flags have MF4_CHANNEL_INVALIDATION_BIT but not MF4_CHANNEL_ALL_INVALID, and
+ * pos_invalidation_bit is 8 * invalidation_bytes or more. Only the descriptions and the length matter: what is refused in one
+ * record is refused in every record of that length. */
+mf4_validity_reply mf4_check_validity(const uint8_t *record, size_t record_len, mf4_group group, mf4_channel channel);
 
-/* Both in one call. Refuses as mf4_decode_value does, and is_valid is then 0. */
+/* Both in one call. Refuses as mf4_decode_value does (18 to 22), then as mf4_check_validity does (28, 29); is_valid is then 0.
+ * A payload is decoded as mf4_decode_value does it, and 28 and 29 then ask about its length all the same, as if it were a
+ * record: so use mf4_record_payload for payloads. */
 mf4_valid_value_reply mf4_decode_valid_value(const uint8_t *record, size_t record_len, mf4_group group,
                                              mf4_channel channel);
+
+/* The same two with the reading of mf4-rs, for those who depend on it or compare with it. To read logs, use the two above. Here
+ * the invalidation bytes have no end: invalidation_bytes plays no part, and the bit is read wherever in the bytes given it
+ * stands; behind them it counts as valid. The first returns 1 or 0; the second refuses as mf4_decode_value does. */
+uint8_t mf4_check_validity_unbounded(const uint8_t *record, size_t record_len, mf4_group group, mf4_channel channel);
+mf4_valid_value_reply mf4_decode_valid_value_unbounded(const uint8_t *record, size_t record_len, mf4_group group,
+                                                       mf4_channel channel);
 
 /* Validity plays no part: an invalid value is decoded like any other. The bit pattern of the value as a double; integers are
  * rounded to nearest, ties to even. It is NaN, 0x7FF8000000000000, if mf4_decode_value refuses, if the value is not a
@@ -403,11 +432,11 @@ static inline double mf4_decode_double(const uint8_t *record, size_t record_len,
     return mf4_bits_as_double(mf4_decode_double_bits(record, record_len, record_id_size, channel));
 }
 
-/* The same, but NaN if the value is invalid. */
+/* The same, but NaN if the value is invalid, or mf4_check_validity refuses. */
 static inline double mf4_decode_valid_double(const uint8_t *record, size_t record_len, mf4_group group,
                                              mf4_channel channel)
 {
-    if (!mf4_check_validity(record, record_len, group, channel))
+    if (!mf4_check_validity(record, record_len, group, channel).is_valid)
         return mf4_bits_as_double((uint64_t)0x7FF8 << 48);
     return mf4_decode_double(record, record_len, group.record_id_size, channel);
 }
@@ -562,7 +591,7 @@ mf4_done_reply mf4_read_record(const uint8_t *file, size_t file_len, uint64_t st
                                uint8_t *buffer, size_t buffer_room);
 
 /* mf4_read_record and mf4_decode_valid_value in one call. Refuses as the first, then as the second; in the latter case the
- * record is left in the buffer. */
+ * record is left in the buffer. So a record_size that is not the group's is MF4_OTHER_LENGTH (28). */
 mf4_valid_value_reply mf4_record_value(const uint8_t *file, size_t file_len, uint64_t start, uint64_t number,
                                        uint64_t record_size, mf4_group group, mf4_channel channel, uint8_t *buffer,
                                        size_t buffer_room);
@@ -574,7 +603,8 @@ mf4_valid_value_reply mf4_record_value(const uint8_t *file, size_t file_len, uin
  * starts at data_addr. There stand 4 bytes of length, little-endian, and then the payload.
  *
  * kind, number, at and length are as mf4_decode_value gives them for the payload's bytes, so `at` counts from the front of the
- * payload's buffer. is_valid is the record's. payload_length: the bytes written to the payload's buffer. */
+ * payload's buffer. is_valid is the record's, and read as mf4_check_validity_unbounded does it: if the group's invalidation
+ * bytes matter, ask mf4_check_validity about the record as well. payload_length: the bytes written to the payload's buffer. */
 typedef struct mf4_payload_reply {
     uint32_t reply;
     uint64_t told;

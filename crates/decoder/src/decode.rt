@@ -3,11 +3,11 @@ ghost use mathlib.Core.Path.{_≡_};
 ghost use Prim.Native.Nat.{_+_, _/_, _%_};
 ghost use Rattle.definitions.specs.Bytes.{le, fieldAt};
 ghost use Rattle.definitions.specs.DataType.{typeOf};
-ghost use Rattle.definitions.specs.Channel.{valueOf, validValueOf};
+ghost use Rattle.definitions.specs.Channel.{valueOf, validValueOf, boundedValueOf};
 ghost use Rattle.fields.specs.Meaning.{channelMeant, groupMeant, valueMeant, valueReply, validValueReply};
 ghost use Rattle.fields.specs.Form.{orderMeant, formOf, formKind, formValue, numberValue};
 ghost use Rattle.fields.specs.Known.{Sound, valueAt};
-ghost use Rattle.decoder.specs.Meaning.{judgedReply, placed};
+ghost use Rattle.decoder.specs.Meaning.{judgedReply, boundedReply, placed};
 ghost use Rattle.decoder.specs.Known.{InWord};
 use crate::alike::decoding_code;
 use crate::alike::placed_channel;
@@ -17,6 +17,7 @@ use crate::near::find_word;
 use crate::near::number_form;
 use bit_fields::near_be;
 use bit_fields::near_le;
+use fields::AreaChecked;
 use fields::Channel;
 use fields::DecodedChannelValue;
 use fields::DecodedValue;
@@ -26,6 +27,7 @@ use fields::Group;
 use fields::Number;
 use fields::ValidValueRead;
 use fields::ValueRead;
+use fields::check_area;
 use fields::check_value_validity;
 use fields::content_at;
 use fields::find_field;
@@ -143,7 +145,7 @@ fn judged(read: ValueRead, is_valid: bool) -> ValidValueRead
     ValidValueRead::Value(DecodedChannelValue { value, is_valid })
 }
 
-// It goes the same ways as the value alone, and calls what that does: each of the two calls has the short way inlined.
+// The crate's reading. It goes the same ways as the value alone, and calls what that does: each of the two calls has the short way inlined.
 pub fn decode_channel_value_with_validity(
     record: &[u8],
     group: Group,
@@ -179,10 +181,41 @@ pub fn decode_channel_value_with_validity(
     ValidValueRead::Value(DecodedChannelValue { value, is_valid })
 }
 
+// A value with its validity, where the invalidation bytes have an end
+fn bounded(
+    read: ValidValueRead,
+    length: usize,
+    group: Group,
+    channel: Channel,
+) -> ValidValueRead
+    ensures { λ r. ⌜ validValueReply r ≡ boundedReply length (groupMeant group) (channelMeant channel) (validValueReply read) ⌝ }
+{
+    let ValidValueRead::Value(value) = read else {
+        return ValidValueRead::Refused(read.refusal());
+    };
+    let area = check_area(length, group, channel);
+    let AreaChecked::Inside = area else {
+        return ValidValueRead::Refused(area.refusal());
+    };
+    ValidValueRead::Value(value)
+}
+
+pub fn decode_channel_value_with_bounded_validity(
+    record: &[u8],
+    group: Group,
+    channel: Channel,
+) -> ValidValueRead
+    ensures { λ r. ⌜ validValueReply r ≡ boundedValueOf (now («record» .entry)) (groupMeant group) (channelMeant channel) ⌝ }
+{
+    let read = decode_channel_value_with_validity(record, group, channel);
+    bounded(read, record.len(), group, channel)
+}
+
 // The same by the general way, for callers that have done much already: a second one would keep the short way from being inlined.
-pub fn any_valid_value(record: &[u8], group: Group, channel: Channel) -> ValidValueRead
-    ensures { λ r. ⌜ validValueReply r ≡ validValueOf (now («record» .entry)) (groupMeant group) (channelMeant channel) ⌝ }
+pub fn any_bounded_value(record: &[u8], group: Group, channel: Channel) -> ValidValueRead
+    ensures { λ r. ⌜ validValueReply r ≡ boundedValueOf (now («record» .entry)) (groupMeant group) (channelMeant channel) ⌝ }
 {
     let is_valid = check_value_validity(record, group, channel);
-    judged(any_value(record, group.record_id_size, channel), is_valid)
+    let read = judged(any_value(record, group.record_id_size, channel), is_valid);
+    bounded(read, record.len(), group, channel)
 }

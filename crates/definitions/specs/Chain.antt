@@ -8,7 +8,7 @@ use lib.Dec.{ltb, leb, eqb}
 use Rattle.definitions.specs.Reply.{Reply, Outcome, answer, refusal, if_then_else_, andThen, onAnswer}
 use Rattle.definitions.specs.Bytes.{span, u64At, idAt}
 use Rattle.definitions.specs.DataList.{DataList, listOf, oneLength}
-use Rattle.definitions.specs.Channel.{Channel, Group, ValidValue, validValueOf}
+use Rattle.definitions.specs.Channel.{Channel, Group, ValidValue, boundedValueOf}
 
 -- `##DT`
 abbrev pub idDT : List ℕ
@@ -191,7 +191,7 @@ fetched f start k size out =
 -- the record, then its field from those bytes alone; a refused field leaves the record in the buffer
 abbrev pub fieldOf : ℕ → Group → Channel → Outcome (Unit {0}) → Outcome ValidValue
 fieldOf size g c o = record {
-  reply = andThen (o .reply) (λ u. validValueOf (take size (o .buffer)) g c);
+  reply = andThen (o .reply) (λ u. boundedValueOf (take size (o .buffer)) g c);
   buffer = o .buffer;
 }
 

@@ -23,10 +23,12 @@ pub record Channel : Type 0 where
   pub invalidationBit : ℕ
   pub dataLink : ℕ
 
--- what is known of a channel's group: how many bytes the id in front of each record has, and the channels' data behind it
+-- what is known of a channel's group: how many bytes the id in front of each record has, the channels' data behind it, and the
+-- invalidation bits at the end
 pub record Group : Type 0 where
   pub idSize : ℕ
   pub dataBytes : ℕ
+  pub invalidationBytes : ℕ
 
 -- ---- where the field lies
 
@@ -156,7 +158,8 @@ recordDouble s idSize c = if variableLength c then nanPattern else doubleIn (val
 
 -- ---- validity
 
--- flag 0: never. Without flag 1: always. With it, where the invalidation bit is clear, as one beyond the slice counts
+-- flag 0: never. Without flag 1: always. With it, where the invalidation bit is clear, as one beyond the slice counts. Here the
+-- invalidation bytes have no end but the slice's
 unfoldable pub validOf : List ℕ → Group → Channel → Bool
 validOf s g c =
     if eqb (bit (c .flags) 0) 1 then false
@@ -170,3 +173,29 @@ pub record ValidValue : Type 0 where
 
 unfoldable pub validValueOf : List ℕ → Group → Channel → Reply ValidValue
 validValueOf s g c = andThen (valueOf s (g .idSize) c) (λ v. answer (record { value = v; valid = validOf s g c }))
+
+-- ---- validity where the invalidation bytes have an end
+
+-- a record of the group: the id, the data and the invalidation bytes, and nothing else
+abbrev pub recordLength : Group → ℕ
+recordLength g = g .idSize + g .dataBytes + g .invalidationBytes
+
+-- flag 0 clear and flag 1 set: the invalidation bit tells
+abbrev pub hasInvalidationBit : Channel → Bool
+hasInvalidationBit c = eqb (bit (c .flags) 0) 0 && eqb (bit (c .flags) 1) 1
+
+-- What is asked of a record of n bytes before that bit is read; none of its bytes plays a part. 28: n is not the length of the
+-- group's records. 29: the bit that tells is behind the last of the invalidation bytes
+unfoldable pub areaOf : ℕ → Group → Channel → Reply (Unit {0})
+areaOf n g c =
+    if not (eqb n (recordLength g)) then refusal 28 0
+    else if hasInvalidationBit c && not (ltb (c .invalidationBit) (8 * g .invalidationBytes)) then refusal 29 0
+    else answer tt
+
+-- then it is as above, and the bit is inside
+unfoldable pub boundedValidOf : List ℕ → Group → Channel → Reply Bool
+boundedValidOf s g c = andThen (areaOf (length s) g c) (λ u. answer (validOf s g c))
+
+-- both: what refuses the value comes first
+unfoldable pub boundedValueOf : List ℕ → Group → Channel → Reply ValidValue
+boundedValueOf s g c = andThen (validValueOf s g c) (λ v. andThen (areaOf (length s) g c) (λ u. answer v))

@@ -1,5 +1,6 @@
 -- The meanings are one-to-one: from a reply the code's own answer comes back.
 use mathlib.Core.Path.{_≡_, refl, sym, ap, ap₂, _∙_}
+use mathlib.Core.Bool.{Bool}
 use mathlib.Core.List.{List}
 use Prim.Native.Nat.{ℕ}
 use Rattle.definitions.specs.Reply.{Reply, answer, refusal}
@@ -14,8 +15,12 @@ use Rattle.refusals.specs.declared.Refusal.the-variants.{NoBits}
 use Rattle.data_types.proofs.Back.{typeBack, type-back}
 use Rattle.data_types.specs.declared.data_type.DataType.{DataType}
 use Rattle.fields.specs.declared.channel.Channel.{Channel}
-use Rattle.fields.specs.Meaning.{channelMeant, valueMeant, valueReply, validValueReply}
+use Rattle.fields.specs.Meaning.{channelMeant, valueMeant, valueReply, validValueReply, areaReply, validityReply}
 use Rattle.fields.specs.Known.{FieldTold, FieldPlaced}
+use Rattle.fields.specs.declared.area.AreaChecked.{AreaChecked}
+use Rattle.fields.specs.declared.area.AreaChecked.the-variants.{Inside, Refused as NotInside}
+use Rattle.fields.specs.declared.validity.ValidityRead.{ValidityRead}
+use Rattle.fields.specs.declared.validity.ValidityRead.the-variants.{Validity, Refused as NotTold}
 use Rattle.fields.specs.declared.field.FieldFound.{FieldFound}
 use Rattle.fields.specs.declared.field.FieldFound.the-variants.{Field, Refused}
 use Rattle.fields.specs.declared.value.DecodedValue.{DecodedValue}
@@ -82,6 +87,28 @@ valid-value-back (NotJudged r) = ap NotJudged (back r)
 
 pub valid-value-one : (a b : ValidValueRead) → validValueReply a ≡ validValueReply b → a ≡ b
 valid-value-one = one-by validValueReply validValueRead valid-value-back
+
+abbrev areaChecked : Reply (Unit {0}) → AreaChecked
+areaChecked (answer u) = Inside
+areaChecked (refusal n t) = NotInside (refusalOf n t)
+
+area-back : (r : AreaChecked) → areaChecked (areaReply r) ≡ r
+area-back Inside = refl
+area-back (NotInside r) = ap NotInside (back r)
+
+pub area-one : (a b : AreaChecked) → areaReply a ≡ areaReply b → a ≡ b
+area-one = one-by areaReply areaChecked area-back
+
+abbrev validityRead : Reply Bool → ValidityRead
+validityRead (answer b) = Validity b
+validityRead (refusal n t) = NotTold (refusalOf n t)
+
+validity-back : (r : ValidityRead) → validityRead (validityReply r) ≡ r
+validity-back (Validity b) = refl
+validity-back (NotTold r) = ap NotTold (back r)
+
+pub validity-one : (a b : ValidityRead) → validityReply a ≡ validityReply b → a ≡ b
+validity-one = one-by validityReply validityRead validity-back
 
 -- a field is found in one place, or refused for one cause
 abbrev whyRefused : Reply Value → Refusal

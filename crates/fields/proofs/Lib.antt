@@ -6,6 +6,7 @@ pub mod Fields
 pub mod Floats
 pub mod Values
 pub mod Invalidation
+pub mod InArea
 pub mod Types
 pub mod Locality
 pub mod OneBit

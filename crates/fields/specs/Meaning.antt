@@ -1,4 +1,5 @@
 -- What the code's own types mean in the definitions.
+use mathlib.Core.Bool.{Bool}
 use Rattle.definitions.specs.Reply.{Reply, answer}
 use Rattle.definitions.specs.Channel as channels
 use Rattle.definitions.specs.Channel.{Value, ValidValue, unsigned, signed, double, text, bytes, sample, stream, unknownValue}
@@ -11,6 +12,10 @@ use Rattle.fields.specs.declared.value.ValueRead.{ValueRead}
 use Rattle.fields.specs.declared.value.ValueRead.the-variants.{Value as Valued, Refused as NotValued}
 use Rattle.fields.specs.declared.value.DecodedChannelValue.{DecodedChannelValue}
 use Rattle.fields.specs.declared.group.Group.{Group}
+use Rattle.fields.specs.declared.area.AreaChecked.{AreaChecked}
+use Rattle.fields.specs.declared.area.AreaChecked.the-variants.{Inside, Refused as NotInside}
+use Rattle.fields.specs.declared.validity.ValidityRead.{ValidityRead}
+use Rattle.fields.specs.declared.validity.ValidityRead.the-variants.{Validity, Refused as NotTold}
 use Rattle.fields.specs.declared.value.ValidValueRead.{ValidValueRead}
 use Rattle.fields.specs.declared.value.ValidValueRead.the-variants.{Value as Judged, Refused as NotJudged}
 
@@ -27,7 +32,11 @@ channelMeant c = record {
 }
 
 abbrev pub groupMeant : Group → channels.Group
-groupMeant g = record { idSize = g .«record_id_size»; dataBytes = g .«data_bytes» }
+groupMeant g = record {
+  idSize = g .«record_id_size»;
+  dataBytes = g .«data_bytes»;
+  invalidationBytes = g .«invalidation_bytes»;
+}
 
 abbrev pub valueMeant : DecodedValue → Value
 valueMeant (UnsignedInteger n) = unsigned n
@@ -49,3 +58,11 @@ validValueMeant v = record { value = valueMeant (v .value); valid = v .«is_vali
 abbrev pub validValueReply : ValidValueRead → Reply ValidValue
 validValueReply (Judged v) = answer (validValueMeant v)
 validValueReply (NotJudged r) = refused r
+
+abbrev pub areaReply : AreaChecked → Reply (Unit {0})
+areaReply Inside = answer tt
+areaReply (NotInside r) = refused r
+
+abbrev pub validityReply : ValidityRead → Reply Bool
+validityReply (Validity b) = answer b
+validityReply (NotTold r) = refused r

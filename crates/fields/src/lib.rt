@@ -1,4 +1,5 @@
 // Where a channel's field lies in a record, what its bits or bytes stand for, and whether it is valid.
+mod area;
 mod channel;
 mod content;
 mod field;
@@ -9,6 +10,8 @@ mod span;
 mod validity;
 mod value;
 
+pub use area::AreaChecked;
+pub use area::check_area;
 pub use channel::Channel;
 pub use content::content_at;
 pub use field::FieldFound;
@@ -26,6 +29,8 @@ pub use number::number_at;
 pub use number::number_value;
 pub use span::bytes_needed;
 pub use span::ends_outside;
+pub use validity::ValidityRead;
+pub use validity::check_bounded_validity;
 pub use validity::check_value_validity;
 pub use value::DecodedChannelValue;
 pub use value::DecodedValue;

@@ -11,7 +11,7 @@ use Rattle.definitions.specs.Header.{headerOf, headerWritten}
 use Rattle.definitions.specs.DataType.{typeOf, codeOf, defaultBits}
 use Rattle.definitions.specs.DataList.{listOf, listWritten, equal, variable}
 use Rattle.definitions.specs.ChannelBlock.{channelBlockOf, channelWritten}
-use Rattle.definitions.specs.Channel.{valueOf, validOf, validValueOf, recordDouble}
+use Rattle.definitions.specs.Channel.{valueOf, validOf, validValueOf, boundedValidOf, boundedValueOf, recordDouble}
 use Rattle.definitions.specs.WrittenValue.{valueWritten}
 use Rattle.definitions.specs.Chain.{dataLength, fetched, valueFetched}
 use Rattle.definitions.specs.Payload.{payloadFetched}
@@ -22,7 +22,7 @@ use Rattle.mf4.specs.Version.{version}
 use Rattle.replies.specs.Replies.{flagC, textC, doneC}
 use Rattle.block_replies.specs.Replies.{writtenC, headerC, headerGiven, listC, returned, returnedBy, returnedBoth, returnedBothBy}
 use Rattle.block_replies.specs.Channels.{channelGiven, channelC, blockGiven}
-use Rattle.replies.specs.Values.{groupGiven, valueC, validValueC, lengthC, payloadC}
+use Rattle.replies.specs.Values.{groupGiven, valueC, validValueC, validityC, lengthC, payloadC}
 use Rattle.replies.specs.Stored.{numberGiven}
 use Rattle.replies.specs.Overlaps.{overlapC}
 use Rattle.block_replies.specs.declared.written.Mf4WrittenReply.{Mf4WrittenReply}
@@ -36,6 +36,7 @@ use Rattle.block_replies.specs.declared.channel_block.Mf4ChannelBlock.{Mf4Chann
 use Rattle.block_replies.specs.declared.channel_block.Mf4ChannelReply.{Mf4ChannelReply}
 use Rattle.replies.specs.declared.values.Mf4ValueReply.{Mf4ValueReply}
 use Rattle.replies.specs.declared.valid_values.Mf4ValidValueReply.{Mf4ValidValueReply}
+use Rattle.replies.specs.declared.validity.Mf4ValidityReply.{Mf4ValidityReply}
 use Rattle.replies.specs.declared.fetches.Mf4LengthReply.{Mf4LengthReply}
 use Rattle.replies.specs.declared.done.Mf4DoneReply.{Mf4DoneReply}
 use Rattle.replies.specs.declared.payload.Mf4PayloadReply.{Mf4PayloadReply}
@@ -65,6 +66,10 @@ use Rattle.mf4.proofs.mf4_check_validity.Kinds as mf4-check-validity-ki
 use Rattle.mf4.proofs.mf4_check_validity.Reads as mf4-check-validity
 use Rattle.mf4.proofs.mf4_decode_valid_value.Kinds as mf4-decode-valid-value-kinds
 use Rattle.mf4.proofs.mf4_decode_valid_value.Reads as mf4-decode-valid-value
+use Rattle.mf4.proofs.mf4_check_validity_unbounded.Kinds as mf4-check-validity-unbounded-kinds
+use Rattle.mf4.proofs.mf4_check_validity_unbounded.Reads as mf4-check-validity-unbounded
+use Rattle.mf4.proofs.mf4_decode_valid_value_unbounded.Kinds as mf4-decode-valid-value-unbounded-kinds
+use Rattle.mf4.proofs.mf4_decode_valid_value_unbounded.Reads as mf4-decode-valid-value-unbounded
 use Rattle.mf4.proofs.mf4_decode_double_bits.Kinds as mf4-decode-double-bits-kinds
 use Rattle.mf4.proofs.mf4_decode_double_bits.Reads as mf4-decode-double-bits
 use Rattle.mf4.proofs.mf4_text_latin1.Kinds as mf4-text-latin1-kinds
@@ -139,15 +144,25 @@ pub mf4-decode-value-arguments : (κs : Lfts 1) (bytes : Slice) (recordIdSize : 
     ≡ (y ≡ valueC (valueOf (bytes .now) recordIdSize (channelGiven channel)))
 mf4-decode-value-arguments κs bytes recordIdSize channel y = refl
 
-pub mf4-check-validity-arguments : (κs : Lfts 1) (bytes : Slice) (group : Mf4Group) (channel : Mf4Channel) (y : ℕ)
+pub mf4-check-validity-arguments : (κs : Lfts 1) (bytes : Slice) (group : Mf4Group) (channel : Mf4Channel) (y : Mf4ValidityReply)
     → Allows 1 mf4-check-validity-kinds.ps mf4-check-validity-kinds.r mf4-check-validity.Learnt κs (bytes, (group, (channel, tt))) y (tt, (tt, (tt, tt)))
-    ≡ (y ≡ flagC (validOf (bytes .now) (groupGiven group) (channelGiven channel)))
+    ≡ (y ≡ validityC (boundedValidOf (bytes .now) (groupGiven group) (channelGiven channel)))
 mf4-check-validity-arguments κs bytes group channel y = refl
 
 pub mf4-decode-valid-value-arguments : (κs : Lfts 1) (bytes : Slice) (group : Mf4Group) (channel : Mf4Channel) (y : Mf4ValidValueReply)
     → Allows 1 mf4-decode-valid-value-kinds.ps mf4-decode-valid-value-kinds.r mf4-decode-valid-value.Learnt κs (bytes, (group, (channel, tt))) y (tt, (tt, (tt, tt)))
-    ≡ (y ≡ validValueC (validValueOf (bytes .now) (groupGiven group) (channelGiven channel)))
+    ≡ (y ≡ validValueC (boundedValueOf (bytes .now) (groupGiven group) (channelGiven channel)))
 mf4-decode-valid-value-arguments κs bytes group channel y = refl
+
+pub mf4-check-validity-unbounded-arguments : (κs : Lfts 1) (bytes : Slice) (group : Mf4Group) (channel : Mf4Channel) (y : ℕ)
+    → Allows 1 mf4-check-validity-unbounded-kinds.ps mf4-check-validity-unbounded-kinds.r mf4-check-validity-unbounded.Learnt κs (bytes, (group, (channel, tt))) y (tt, (tt, (tt, tt)))
+    ≡ (y ≡ flagC (validOf (bytes .now) (groupGiven group) (channelGiven channel)))
+mf4-check-validity-unbounded-arguments κs bytes group channel y = refl
+
+pub mf4-decode-valid-value-unbounded-arguments : (κs : Lfts 1) (bytes : Slice) (group : Mf4Group) (channel : Mf4Channel) (y : Mf4ValidValueReply)
+    → Allows 1 mf4-decode-valid-value-unbounded-kinds.ps mf4-decode-valid-value-unbounded-kinds.r mf4-decode-valid-value-unbounded.Learnt κs (bytes, (group, (channel, tt))) y (tt, (tt, (tt, tt)))
+    ≡ (y ≡ validValueC (validValueOf (bytes .now) (groupGiven group) (channelGiven channel)))
+mf4-decode-valid-value-unbounded-arguments κs bytes group channel y = refl
 
 pub mf4-decode-double-bits-arguments : (κs : Lfts 1) (bytes : Slice) (recordIdSize : ℕ) (channel : Mf4Channel) (y : ℕ)
     → Allows 1 mf4-decode-double-bits-kinds.ps mf4-decode-double-bits-kinds.r mf4-decode-double-bits.Learnt κs (bytes, (recordIdSize, (channel, tt))) y (tt, (tt, (tt, tt)))

@@ -4,7 +4,7 @@ ghost use Rattle.mf4.specs.Version.{version};
 
 const MAJOR: u32 = 0;
 
-const MINOR: u32 = 4;
+const MINOR: u32 = 5;
 
 const PATCH: u32 = 0;
 

@@ -8,7 +8,7 @@ use lib.ListN.{length, take}
 use lib.Dec.{ltb, eqb}
 use borrow.Author.Tests.{ltb-false}
 use Rattle.definitions.specs.Reply.{Reply, Outcome, answer, refusal, if_then_else_}
-use Rattle.definitions.specs.Channel.{Channel, Group, ValidValue, validValueOf}
+use Rattle.definitions.specs.Channel.{Channel, Group, ValidValue, boundedValueOf}
 use Rattle.definitions.specs.Chain.{fileLimit, recordLimit, badSize, fetched, fieldOf, valueFetched}
 use Rattle.definitions.proofs.Replies.{not-answered}
 use Rattle.refusals.specs.Meaning.{refused}
@@ -54,7 +54,7 @@ module _ (f : List ℕ) (start k size : ℕ) (out : List ℕ) where
         ∙ ap (fieldOf size g c) e
 
     -- the field is read from the record alone
-    pub fetched-then : {v : Reply ValidValue} → r ≡ Record → v ≡ validValueOf (take size left) g c
+    pub fetched-then : {v : Reply ValidValue} → r ≡ Record → v ≡ boundedValueOf (take size left) g c
         → record { reply = v; buffer = left } ≡ valueFetched f start k size g c out
     unfolding valueFetched
     fetched-then is ev =

@@ -9,7 +9,7 @@ use chain::FileAddress;
 use decoder::Channel;
 use decoder::Group;
 use decoder::ValidValueRead;
-use decoder::any_valid_value;
+use decoder::any_bounded_value;
 
 // The value and the validity are read from the record's bytes alone. A field that is refused leaves the record in the buffer.
 pub fn read_value(
@@ -28,5 +28,5 @@ pub fn read_value(
         return ValidValueRead::Refused(fetched.refusal());
     };
     let size = record_size as usize;
-    any_valid_value(&buffer[..size], group, channel)
+    any_bounded_value(&buffer[..size], group, channel)
 }

@@ -2,7 +2,7 @@
 use Prim.Native.Nat.{ℕ}
 use Rattle.definitions.specs.Reply.{Reply, refusal}
 use Rattle.refusals.specs.declared.Refusal.{Refusal}
-use Rattle.refusals.specs.declared.Refusal.the-variants.{TooFewBytes, OtherId, NoLinks, UnwritableList, NoRoom, FileTooLong, TooManyLists, TooManyFragments, ListDisagrees, NoBlockThere, BadDataBlock, UntrueDeclaration, DataTooLong, BadRecordSize, NoSuchRecord, TooFewLinks, NoBits, BadBitOffset, IntegerTooWide, FieldOutside, BadFloatWidth, PayloadOutside, DoesNotFit, OtherKind, TooManyChannels, NoFixedNumber, NoPosition}
+use Rattle.refusals.specs.declared.Refusal.the-variants.{TooFewBytes, OtherId, NoLinks, UnwritableList, NoRoom, FileTooLong, TooManyLists, TooManyFragments, ListDisagrees, NoBlockThere, BadDataBlock, UntrueDeclaration, DataTooLong, BadRecordSize, NoSuchRecord, TooFewLinks, NoBits, BadBitOffset, IntegerTooWide, FieldOutside, BadFloatWidth, PayloadOutside, DoesNotFit, OtherKind, TooManyChannels, NoFixedNumber, OtherLength, BitOutside, NoPosition}
 
 abbrev pub refusalNumber : Refusal → ℕ
 refusalNumber (TooFewBytes n) = 2
@@ -31,6 +31,8 @@ refusalNumber DoesNotFit = 24
 refusalNumber OtherKind = 25
 refusalNumber TooManyChannels = 26
 refusalNumber (NoFixedNumber place) = 27
+refusalNumber OtherLength = 28
+refusalNumber BitOutside = 29
 refusalNumber NoPosition = 35
 
 abbrev pub toldOf : Refusal → ℕ
@@ -60,6 +62,8 @@ toldOf DoesNotFit = 0
 toldOf OtherKind = 0
 toldOf TooManyChannels = 0
 toldOf (NoFixedNumber place) = place
+toldOf OtherLength = 0
+toldOf BitOutside = 0
 toldOf NoPosition = 0
 
 abbrev pub refused : {A : Type 0} → Refusal → Reply A

@@ -55,6 +55,10 @@ pub enum Refusal {
     TooManyChannels,
     // 27, with the place of the entry
     NoFixedNumber(u64),
+    // 28
+    OtherLength,
+    // 29
+    BitOutside,
     // 35
     NoPosition,
 }
@@ -90,6 +94,8 @@ impl Refusal {
             Refusal::OtherKind => 25,
             Refusal::TooManyChannels => 26,
             Refusal::NoFixedNumber(_) => 27,
+            Refusal::OtherLength => 28,
+            Refusal::BitOutside => 29,
             Refusal::NoPosition => 35,
         }
     }
@@ -125,6 +131,8 @@ impl Refusal {
             Refusal::OtherKind => 0,
             Refusal::TooManyChannels => 0,
             Refusal::NoFixedNumber(place) => place,
+            Refusal::OtherLength => 0,
+            Refusal::BitOutside => 0,
             Refusal::NoPosition => 0,
         }
     }

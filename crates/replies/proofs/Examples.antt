@@ -8,7 +8,7 @@ use Rattle.definitions.specs.Reply.{answer, refusal}
 use Rattle.definitions.specs.Channel.{unsigned, signed, text, bytes, sample, stream, unknownValue, doubleValue}
 use Rattle.definitions.specs.WrittenValue.{givenUnsigned, givenSigned, givenDouble, givenOther}
 use Rattle.definitions.specs.Overlap.{pair, none}
-use Rattle.replies.proofs.InOrder.{Told, Answer, shown, Taken, Fields, Meaning, meant, doneReply, valueReply, validValueReply, textReply, lengthReply, payloadReply, overlapReply, group, number}
+use Rattle.replies.proofs.InOrder.{Told, Answer, shown, Taken, Fields, Meaning, meant, doneReply, valueReply, validValueReply, validityReply, textReply, lengthReply, payloadReply, overlapReply, group, number}
 use Rattle.block_replies.proofs.InOrder.{Row, given, stated, tells, takes}
 
 abbrev pub table : List (Row Told Answer Taken Fields Meaning)
@@ -28,6 +28,8 @@ table =
     -- the flags, both ways
     ∷ tells validValueReply (answer (record { value = text 9 10; valid = true })) (0 ∷ 0 ∷ 4 ∷ 1 ∷ 0 ∷ 9 ∷ 10 ∷ [])
     ∷ tells validValueReply (answer (record { value = doubleValue 9; valid = false })) (0 ∷ 0 ∷ 3 ∷ 0 ∷ 9 ∷ 0 ∷ 0 ∷ [])
+    ∷ tells validityReply (answer true) (0 ∷ 0 ∷ 1 ∷ [])
+    ∷ tells validityReply (answer false) (0 ∷ 0 ∷ 0 ∷ [])
     ∷ tells payloadReply (answer (record { value = text 9 10; valid = true; size = 11 })) (0 ∷ 0 ∷ 4 ∷ 1 ∷ 0 ∷ 9 ∷ 10 ∷ 11 ∷ [])
     ∷ tells payloadReply (answer (record { value = doubleValue 9; valid = false; size = 11 })) (0 ∷ 0 ∷ 3 ∷ 0 ∷ 9 ∷ 0 ∷ 0 ∷ 11 ∷ [])
     ∷ tells textReply (answer (record { count = 9; damaged = true })) (0 ∷ 0 ∷ 9 ∷ 1 ∷ [])
@@ -40,11 +42,12 @@ table =
     ∷ tells lengthReply (refusal 2 48) (2 ∷ 48 ∷ 0 ∷ [])
     ∷ tells valueReply (refusal 21 9) (21 ∷ 9 ∷ 0 ∷ 0 ∷ 0 ∷ 0 ∷ [])
     ∷ tells validValueReply (refusal 21 9) (21 ∷ 9 ∷ 0 ∷ 0 ∷ 0 ∷ 0 ∷ 0 ∷ [])
+    ∷ tells validityReply (refusal 28 9) (28 ∷ 9 ∷ 0 ∷ [])
     ∷ tells payloadReply (refusal 6 2) (6 ∷ 2 ∷ 0 ∷ 0 ∷ 0 ∷ 0 ∷ 0 ∷ 0 ∷ [])
     ∷ tells textReply (refusal 6 4) (6 ∷ 4 ∷ 0 ∷ 0 ∷ [])
     ∷ tells overlapReply (refusal 27 9) (27 ∷ 9 ∷ 0 ∷ 0 ∷ 0 ∷ [])
     -- what C gives
-    ∷ takes group (1, (2, tt)) (record { idSize = 1; dataBytes = 2 })
+    ∷ takes group (1, (2, (3, tt))) (record { idSize = 1; dataBytes = 2; invalidationBytes = 3 })
     -- a number by its kind, and none of another
     ∷ takes number (1, (9, tt)) (givenUnsigned 9)
     ∷ takes number (2, (9, tt)) (givenSigned (pos 9))

@@ -1,6 +1,7 @@
 -- What C is told of values, texts, records and overlaps, and what it gives, by place, as `block_replies` has it of blocks.
 use Prim.Native.Nat.{ℕ}
 use mathlib.Core.Path.{_≡_, refl}
+use mathlib.Core.Bool.{Bool}
 use mathlib.Core.List.{List, _∷_}
 use Rattle.definitions.specs.Reply.{Reply, refusal}
 use Rattle.definitions.specs.Channel.{Group, Value, ValidValue}
@@ -9,12 +10,13 @@ use Rattle.definitions.specs.WrittenValue.{Given}
 use Rattle.definitions.specs.Payload.{PayloadValue}
 use Rattle.definitions.specs.Overlap.{Overlap}
 use Rattle.replies.specs.Replies.{doneC, textC}
-use Rattle.replies.specs.Values.{groupGiven, valueC, validValueC, lengthC, payloadC}
+use Rattle.replies.specs.Values.{groupGiven, valueC, validValueC, validityC, lengthC, payloadC}
 use Rattle.replies.specs.Stored.{numberGiven}
 use Rattle.replies.specs.Overlaps.{overlapC}
 use Rattle.replies.proofs.done.Mf4DoneReply as mf4-done-reply
 use Rattle.replies.proofs.values.Mf4ValueReply as mf4-value-reply
 use Rattle.replies.proofs.valid_values.Mf4ValidValueReply as mf4-valid-value-reply
+use Rattle.replies.proofs.validity.Mf4ValidityReply as mf4-validity-reply
 use Rattle.replies.proofs.texts.Mf4TextReply as mf4-text-reply
 use Rattle.replies.proofs.fetches.Mf4LengthReply as mf4-length-reply
 use Rattle.replies.proofs.payload.Mf4PayloadReply as mf4-payload-reply
@@ -27,12 +29,13 @@ use Rattle.block_replies.proofs.InOrder.{listed, nothing, zeros}
 
 -- each struct that a call returns
 pub data Told : Type 0 where
-  doneReply valueReply validValueReply textReply lengthReply payloadReply overlapReply : Told
+  doneReply valueReply validValueReply validityReply textReply lengthReply payloadReply overlapReply : Told
 
 abbrev pub Answer : Told → Type 0
 Answer doneReply = Unit {0}
 Answer valueReply = Value
 Answer validValueReply = ValidValue
+Answer validityReply = Bool
 Answer textReply = TextWritten
 Answer lengthReply = ℕ
 Answer payloadReply = PayloadValue
@@ -43,6 +46,7 @@ abbrev pub shown : (k : Told) → Reply (Answer k) → List ℕ
 shown doneReply r = listed 2 nothing (mf4-done-reply.struct .as-values (doneC r))
 shown valueReply r = listed 6 nothing (mf4-value-reply.struct .as-values (valueC r))
 shown validValueReply r = listed 7 nothing (mf4-valid-value-reply.struct .as-values (validValueC r))
+shown validityReply r = listed 3 nothing (mf4-validity-reply.struct .as-values (validityC r))
 shown textReply r = listed 4 nothing (mf4-text-reply.struct .as-values (textC r))
 shown lengthReply r = listed 3 nothing (mf4-length-reply.struct .as-values (lengthC r))
 shown payloadReply r = listed 8 nothing (mf4-payload-reply.struct .as-values (payloadC r))
@@ -53,6 +57,7 @@ abbrev pub others : Told → ℕ
 others doneReply = 0
 others valueReply = 4
 others validValueReply = 5
+others validityReply = 1
 others textReply = 2
 others lengthReply = 1
 others payloadReply = 6
@@ -62,6 +67,7 @@ pub refusal-shown : (k : Told) (n t : ℕ) → shown k (refusal n t) ≡ n ∷ t
 refusal-shown doneReply n t = refl
 refusal-shown valueReply n t = refl
 refusal-shown validValueReply n t = refl
+refusal-shown validityReply n t = refl
 refusal-shown textReply n t = refl
 refusal-shown lengthReply n t = refl
 refusal-shown payloadReply n t = refl

@@ -4,6 +4,7 @@ use Rattle.replies.specs.declared.texts.Mf4TextReply.{Mf4TextReply}
 use Rattle.replies.specs.declared.group.Mf4Group.{Mf4Group}
 use Rattle.replies.specs.declared.values.Mf4ValueReply.{Mf4ValueReply}
 use Rattle.replies.specs.declared.valid_values.Mf4ValidValueReply.{Mf4ValidValueReply}
+use Rattle.replies.specs.declared.validity.Mf4ValidityReply.{Mf4ValidityReply}
 use Rattle.replies.specs.declared.fetches.Mf4LengthReply.{Mf4LengthReply}
 use Rattle.replies.specs.declared.done.Mf4DoneReply.{Mf4DoneReply}
 use Rattle.replies.specs.declared.payload.Mf4PayloadReply.{Mf4PayloadReply}
@@ -13,6 +14,7 @@ use Rattle.replies.proofs.texts.Mf4TextReply as mf4-text-reply
 use Rattle.replies.proofs.group.Mf4Group as mf4-group
 use Rattle.replies.proofs.values.Mf4ValueReply as mf4-value-reply
 use Rattle.replies.proofs.valid_values.Mf4ValidValueReply as mf4-valid-value-reply
+use Rattle.replies.proofs.validity.Mf4ValidityReply as mf4-validity-reply
 use Rattle.replies.proofs.fetches.Mf4LengthReply as mf4-length-reply
 use Rattle.replies.proofs.done.Mf4DoneReply as mf4-done-reply
 use Rattle.replies.proofs.payload.Mf4PayloadReply as mf4-payload-reply
@@ -22,7 +24,7 @@ use Rattle.replies.proofs.overlap.Mf4OverlapReply as mf4-overlap-reply
 pub mf4-text-reply-fields : (s : Mf4TextReply) → mf4-text-reply.struct .as-values s ≡ (s .reply, (s .told, (s .count, (s .damaged, tt))))
 mf4-text-reply-fields s = refl
 
-pub mf4-group-fields : (s : Mf4Group) → mf4-group.struct .as-values s ≡ (s .«record_id_size», (s .«data_bytes», tt))
+pub mf4-group-fields : (s : Mf4Group) → mf4-group.struct .as-values s ≡ (s .«record_id_size», (s .«data_bytes», (s .«invalidation_bytes», tt)))
 mf4-group-fields s = refl
 
 pub mf4-value-reply-fields : (s : Mf4ValueReply) → mf4-value-reply.struct .as-values s ≡ (s .reply, (s .told, (s .kind, (s .number, (s .at, (s .length, tt))))))
@@ -30,6 +32,9 @@ mf4-value-reply-fields s = refl
 
 pub mf4-valid-value-reply-fields : (s : Mf4ValidValueReply) → mf4-valid-value-reply.struct .as-values s ≡ (s .reply, (s .told, (s .kind, (s .«is_valid», (s .number, (s .at, (s .length, tt)))))))
 mf4-valid-value-reply-fields s = refl
+
+pub mf4-validity-reply-fields : (s : Mf4ValidityReply) → mf4-validity-reply.struct .as-values s ≡ (s .reply, (s .told, (s .«is_valid», tt)))
+mf4-validity-reply-fields s = refl
 
 pub mf4-length-reply-fields : (s : Mf4LengthReply) → mf4-length-reply.struct .as-values s ≡ (s .reply, (s .told, (s .length, tt)))
 mf4-length-reply-fields s = refl

@@ -16,11 +16,12 @@ use Rattle.definitions.specs.Payload.{PayloadValue}
 use Rattle.definitions.specs.Overlap.{Overlap, pair, none}
 use Rattle.definitions.specs.Channel.{Value, ValidValue, unsigned, signed, double, text, bytes, sample, stream, unknownValue, doubleValue}
 use Rattle.replies.specs.Replies.{flagC, textC, doneC}
-use Rattle.replies.specs.Values.{wordOf, decodedC, valueC, validValueC, lengthC, payloadC}
+use Rattle.replies.specs.Values.{wordOf, decodedC, valueC, validValueC, validityC, lengthC, payloadC}
 use Rattle.replies.specs.Overlaps.{overlapC}
 use Rattle.replies.specs.declared.texts.Mf4TextReply.{Mf4TextReply}
 use Rattle.replies.specs.declared.values.Mf4ValueReply.{Mf4ValueReply}
 use Rattle.replies.specs.declared.valid_values.Mf4ValidValueReply.{Mf4ValidValueReply}
+use Rattle.replies.specs.declared.validity.Mf4ValidityReply.{Mf4ValidityReply}
 use Rattle.replies.specs.declared.payload.Mf4PayloadReply.{Mf4PayloadReply}
 use Rattle.replies.specs.declared.fetches.Mf4LengthReply.{Mf4LengthReply}
 use Rattle.replies.specs.declared.done.Mf4DoneReply.{Mf4DoneReply}
@@ -41,11 +42,17 @@ doneAgain s = again (s .reply) (s .told) (answer tt)
 pub done-told : (r : Reply (Unit {0})) → Tellable Any r → doneAgain (doneC r) ≡ r
 done-told = told-by Any doneC doneAgain (λ a h. refl) (again-refused _)
 
--- ---- flags and texts
+-- ---- flags, validity and texts
 
 flag-back : (b : Bool) → eqb (flagC b) 1 ≡ b
 flag-back true = refl
 flag-back false = refl
+
+abbrev pub validityAgain : Mf4ValidityReply → Reply Bool
+validityAgain s = again (s .reply) (s .told) (answer (eqb (s .«is_valid») 1))
+
+pub validity-told : (r : Reply Bool) → Tellable Any r → validityAgain (validityC r) ≡ r
+validity-told = told-by Any validityC validityAgain (λ b h. ap answer (flag-back b)) (again-refused _)
 
 abbrev pub textAgain : Mf4TextReply → Reply TextWritten
 textAgain s = again (s .reply) (s .told) (answer (record { count = s .count; damaged = eqb (s .damaged) 1 }))

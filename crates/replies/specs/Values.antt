@@ -1,5 +1,6 @@
 -- Values and records as C sees them.
 use Prim.Native.Nat.{ℕ, _-_}
+use mathlib.Core.Bool.{Bool}
 use lib.IntN.{ℤ, pos, negsuc}
 use Rattle.definitions.specs.Reply.{Reply, answer, refusal}
 use Rattle.definitions.specs.Payload.{PayloadValue}
@@ -9,12 +10,17 @@ use Rattle.replies.specs.declared.group.Mf4Group.{Mf4Group}
 use Rattle.replies.specs.declared.values.Shown.{Shown}
 use Rattle.replies.specs.declared.values.Mf4ValueReply.{Mf4ValueReply}
 use Rattle.replies.specs.declared.valid_values.Mf4ValidValueReply.{Mf4ValidValueReply}
+use Rattle.replies.specs.declared.validity.Mf4ValidityReply.{Mf4ValidityReply}
 use Rattle.replies.specs.declared.fetches.Mf4LengthReply.{Mf4LengthReply}
 use Rattle.replies.specs.declared.payload.Mf4PayloadReply.{Mf4PayloadReply}
 
 -- the group that C gives
 abbrev pub groupGiven : Mf4Group → Group
-groupGiven g = record { idSize = g .«record_id_size»; dataBytes = g .«data_bytes» }
+groupGiven g = record {
+  idSize = g .«record_id_size»;
+  dataBytes = g .«data_bytes»;
+  invalidationBytes = g .«invalidation_bytes»;
+}
 
 -- an integer as a word of 64 bits, in two's complement
 abbrev pub wordOf : ℤ → ℕ
@@ -55,6 +61,10 @@ validAnswerC d valid =
 abbrev pub validValueC : Reply ValidValue → Mf4ValidValueReply
 validValueC (answer v) = validAnswerC (decodedC (v .value)) (flagC (v .valid))
 validValueC (refusal n t) = record { reply = n; told = t; kind = 0; number = 0; at = 0; length = 0; «is_valid» = 0 }
+
+abbrev pub validityC : Reply Bool → Mf4ValidityReply
+validityC (answer valid) = record { reply = 0; told = 0; «is_valid» = flagC valid }
+validityC (refusal n t) = record { reply = n; told = t; «is_valid» = 0 }
 
 -- ---- records
 

@@ -8,6 +8,7 @@ use decoder::Group;
 pub struct Mf4Group {
     pub record_id_size: u64,
     pub data_bytes: u32,
+    pub invalidation_bytes: u32,
 }
 
 pub fn group_of(given: Mf4Group) -> Group
@@ -16,5 +17,6 @@ pub fn group_of(given: Mf4Group) -> Group
     Group {
         record_id_size: given.record_id_size as usize,
         data_bytes: given.data_bytes,
+        invalidation_bytes: given.invalidation_bytes,
     }
 }

@@ -7,6 +7,7 @@ mod payload;
 mod stored;
 mod texts;
 mod valid_values;
+mod validity;
 mod values;
 
 pub use done::Mf4DoneReply;
@@ -27,5 +28,7 @@ pub use texts::flag;
 pub use texts::text_reply;
 pub use valid_values::Mf4ValidValueReply;
 pub use valid_values::valid_value_reply;
+pub use validity::Mf4ValidityReply;
+pub use validity::validity_reply;
 pub use values::Mf4ValueReply;
 pub use values::value_reply;

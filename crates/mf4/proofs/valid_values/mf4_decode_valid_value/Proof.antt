@@ -1,6 +1,6 @@
 use mathlib.Core.Path.{ap, ap₂, _∙_}
 use denote.Ref.{now}
-use Rattle.definitions.specs.Channel.{Channel, Group, validValueOf}
+use Rattle.definitions.specs.Channel.{Channel, Group, boundedValueOf}
 use Rattle.replies.specs.Values.{validValueC}
 use borrow.Author.Needs.{needs}
 use Rattle.mf4.proofs.valid_values.mf4_decode_valid_value.Statement.{statement}
@@ -11,7 +11,7 @@ returns c =
     let call = c .before in
     let a = call .before .before .before .before .args in
     c .valid-value-reply .ensures
-    ∙ ap validValueC (call .decode-channel-value-with-validity .ensures ∙ ap₂ (λ (g : Group) (ch : Channel). validValueOf (now (a .record)) g ch) (call .before .before .group-of .ensures) (call .before .channel-of .ensures))
+    ∙ ap validValueC (call .decode-channel-value-with-bounded-validity .ensures ∙ ap₂ (λ (g : Group) (ch : Channel). boundedValueOf (now (a .record)) g ch) (call .before .before .group-of .ensures) (call .before .channel-of .ensures))
 
 pub mf4-decode-valid-value-spec : {M : Type 1} → statement M
 mf4-decode-valid-value-spec =

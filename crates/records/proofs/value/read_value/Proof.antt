@@ -17,17 +17,17 @@ returns c =
 room : (c : tie.After-enum-told) → c .before .before .before .before .before .before .before .before .args .record-size ≤ length (now (c .before .before .before .before .before .before .before .before .args .buffer))
 room c = fits _ _ _ _ _ (c .before .before .before .before .read-record .ensures) (c .enum-told .given .1)
 
-inside : tie.Need-slice-reshare-prefix-any-valid-value
+inside : tie.Need-slice-reshare-prefix-any-bounded-value
 inside c = omega (arith, room c)
 
-part : tie.Need-slice-aggregate-any-valid-value
+part : tie.Need-slice-aggregate-any-bounded-value
 part c = simp length-take (omega (arith, room (c .before)))
 
 returns-2 : tie.Need-returns-2
 returns-2 c =
     let told = c .before .before in
     let call = told .before .before .before .before in
-    fetched-then _ _ _ _ _ _ _ (call .read-record .ensures) (told .enum-told .given .1) (c .any-valid-value .ensures)
+    fetched-then _ _ _ _ _ _ _ (call .read-record .ensures) (told .enum-told .given .1) (c .any-bounded-value .ensures)
 
 pub read-value-spec : {M : Type 1} → statement M
 read-value-spec =
