@@ -7,7 +7,7 @@ use Rattle.definitions.specs.Reply.{Reply, answer, andThen}
 use Rattle.definitions.specs.Bytes.{twosComplement}
 use Rattle.definitions.specs.Ieee754.{doubleOf}
 use Rattle.definitions.specs.DataType.{DataType, Kind}
-use Rattle.definitions.specs.Channel.{Channel, Group, Value, ValidValue, floatBits, doubleIn, areaOf}
+use Rattle.definitions.specs.Channel.{Channel, Value, ValidValue, floatBits, doubleIn}
 use Rattle.fields.specs.Known.{valueAt}
 use Rattle.fields.specs.declared.form.Number.{Number}
 use Rattle.fields.specs.declared.form.Number.the-variants.{Unsigned, Signed, Float}
@@ -22,13 +22,9 @@ numberDouble Float count x = floatBits count x
 abbrev pub doubleAt : Kind → List ℕ → ℕ → Channel → ℕ
 doubleAt k s idSize c = doubleIn (valueAt k false s (idSize + c .byteOffset) c)
 
--- a value with its validity; a refusal has none
-abbrev pub judgedReply : Bool → Reply Value → Reply ValidValue
-judgedReply valid reply = andThen reply (λ v. answer (record { value = v; valid = valid }))
-
--- the same in a record of n bytes, where the invalidation bytes have an end
-abbrev pub boundedReply : ℕ → Group → Channel → Reply ValidValue → Reply ValidValue
-boundedReply n g c reply = andThen reply (λ v. andThen (areaOf n g c) (λ u. answer v))
+-- a value with its validity, or what refuses the one or else the other
+abbrev pub judgedReply : Reply Bool → Reply Value → Reply ValidValue
+judgedReply validity value = andThen value (λ v. andThen validity (λ b. answer (record { value = v; valid = b })))
 
 -- a description with nothing said of payloads and of validity
 abbrev pub placed : DataType → ℕ → ℕ → ℕ → Channel

@@ -4,10 +4,10 @@ ghost use Prim.Native.Nat.{_+_, _/_, _%_};
 ghost use Rattle.definitions.specs.Bytes.{le, fieldAt};
 ghost use Rattle.definitions.specs.DataType.{typeOf};
 ghost use Rattle.definitions.specs.Channel.{valueOf, validValueOf, boundedValueOf};
-ghost use Rattle.fields.specs.Meaning.{channelMeant, groupMeant, valueMeant, valueReply, validValueReply};
+ghost use Rattle.fields.specs.Meaning.{channelMeant, groupMeant, valueMeant, valueReply, validValueReply, validityReply};
 ghost use Rattle.fields.specs.Form.{orderMeant, formOf, formKind, formValue, numberValue};
 ghost use Rattle.fields.specs.Known.{Sound, valueAt};
-ghost use Rattle.decoder.specs.Meaning.{judgedReply, boundedReply, placed};
+ghost use Rattle.decoder.specs.Meaning.{judgedReply, placed};
 ghost use Rattle.decoder.specs.Known.{InWord};
 use crate::alike::decoding_code;
 use crate::alike::placed_channel;
@@ -17,7 +17,6 @@ use crate::near::find_word;
 use crate::near::number_form;
 use bit_fields::near_be;
 use bit_fields::near_le;
-use fields::AreaChecked;
 use fields::Channel;
 use fields::DecodedChannelValue;
 use fields::DecodedValue;
@@ -26,8 +25,9 @@ use fields::Form;
 use fields::Group;
 use fields::Number;
 use fields::ValidValueRead;
+use fields::ValidityRead;
 use fields::ValueRead;
-use fields::check_area;
+use fields::check_bounded_validity;
 use fields::check_value_validity;
 use fields::content_at;
 use fields::find_field;
@@ -136,16 +136,19 @@ pub fn decode_channel_value(record: &[u8], record_id_size: usize, channel: Chann
     ValueRead::Value(near_value(number, big_endian, word, from, count))
 }
 
-fn judged(read: ValueRead, is_valid: bool) -> ValidValueRead
-    ensures { λ r. ⌜ validValueReply r ≡ judgedReply «is_valid» (valueReply read) ⌝ }
+fn judged(read: ValueRead, validity: ValidityRead) -> ValidValueRead
+    ensures { λ r. ⌜ validValueReply r ≡ judgedReply (validityReply validity) (valueReply read) ⌝ }
 {
     let ValueRead::Value(value) = read else {
         return ValidValueRead::Refused(read.refusal());
     };
+    let ValidityRead::Validity(is_valid) = validity else {
+        return ValidValueRead::Refused(validity.refusal());
+    };
     ValidValueRead::Value(DecodedChannelValue { value, is_valid })
 }
 
-// The crate's reading. It goes the same ways as the value alone, and calls what that does: each of the two calls has the short way inlined.
+// The crate's reading, by the general way: the short one is for the reading below, which is the one to use.
 pub fn decode_channel_value_with_validity(
     record: &[u8],
     group: Group,
@@ -154,18 +157,31 @@ pub fn decode_channel_value_with_validity(
     ensures { λ r. ⌜ validValueReply r ≡ validValueOf (now («record» .entry)) (groupMeant group) (channelMeant channel) ⌝ }
 {
     let is_valid = check_value_validity(record, group, channel);
+    let read = any_value(record, group.record_id_size, channel);
+    judged(read, ValidityRead::Validity(is_valid))
+}
+
+// It goes the same ways as the value alone, and calls what that does: each of the two calls has the short way inlined.
+pub fn decode_channel_value_with_bounded_validity(
+    record: &[u8],
+    group: Group,
+    channel: Channel,
+) -> ValidValueRead
+    ensures { λ r. ⌜ validValueReply r ≡ boundedValueOf (now («record» .entry)) (groupMeant group) (channelMeant channel) ⌝ }
+{
+    let validity = check_bounded_validity(record, group, channel);
     if channel.is_variable_length() {
-        return judged(any_value(record, group.record_id_size, channel), is_valid);
+        return judged(any_value(record, group.record_id_size, channel), validity);
     }
     let data_type = channel.data_type;
     let offset = channel.bit_offset;
     let count = channel.bit_count;
     let form = number_form(data_type, count);
     let NumberForm::Number(number, big_endian) = form else {
-        return judged(any_value(record, group.record_id_size, channel), is_valid);
+        return judged(any_value(record, group.record_id_size, channel), validity);
     };
     if 7 < offset {
-        return judged(any_value(record, group.record_id_size, channel), is_valid);
+        return judged(any_value(record, group.record_id_size, channel), validity);
     }
     let found = find_word(
         record,
@@ -175,47 +191,16 @@ pub fn decode_channel_value_with_validity(
         count,
     );
     let WordFound::Word(word, from) = found else {
-        return judged(any_value(record, group.record_id_size, channel), is_valid);
+        return judged(any_value(record, group.record_id_size, channel), validity);
     };
     let value = near_value(number, big_endian, word, from, count);
-    ValidValueRead::Value(DecodedChannelValue { value, is_valid })
-}
-
-// A value with its validity, where the invalidation bytes have an end
-fn bounded(
-    read: ValidValueRead,
-    length: usize,
-    group: Group,
-    channel: Channel,
-) -> ValidValueRead
-    ensures { λ r. ⌜ validValueReply r ≡ boundedReply length (groupMeant group) (channelMeant channel) (validValueReply read) ⌝ }
-{
-    let ValidValueRead::Value(value) = read else {
-        return ValidValueRead::Refused(read.refusal());
-    };
-    let area = check_area(length, group, channel);
-    let AreaChecked::Inside = area else {
-        return ValidValueRead::Refused(area.refusal());
-    };
-    ValidValueRead::Value(value)
-}
-
-pub fn decode_channel_value_with_bounded_validity(
-    record: &[u8],
-    group: Group,
-    channel: Channel,
-) -> ValidValueRead
-    ensures { λ r. ⌜ validValueReply r ≡ boundedValueOf (now («record» .entry)) (groupMeant group) (channelMeant channel) ⌝ }
-{
-    let read = decode_channel_value_with_validity(record, group, channel);
-    bounded(read, record.len(), group, channel)
+    judged(ValueRead::Value(value), validity)
 }
 
 // The same by the general way, for callers that have done much already: a second one would keep the short way from being inlined.
 pub fn any_bounded_value(record: &[u8], group: Group, channel: Channel) -> ValidValueRead
     ensures { λ r. ⌜ validValueReply r ≡ boundedValueOf (now («record» .entry)) (groupMeant group) (channelMeant channel) ⌝ }
 {
-    let is_valid = check_value_validity(record, group, channel);
-    let read = judged(any_value(record, group.record_id_size, channel), is_valid);
-    bounded(read, record.len(), group, channel)
+    let validity = check_bounded_validity(record, group, channel);
+    judged(any_value(record, group.record_id_size, channel), validity)
 }

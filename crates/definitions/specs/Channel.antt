@@ -198,4 +198,5 @@ boundedValidOf s g c = andThen (areaOf (length s) g c) (λ u. answer (validOf s 
 
 -- both: what refuses the value comes first
 unfoldable pub boundedValueOf : List ℕ → Group → Channel → Reply ValidValue
-boundedValueOf s g c = andThen (validValueOf s g c) (λ v. andThen (areaOf (length s) g c) (λ u. answer v))
+boundedValueOf s g c =
+    andThen (valueOf s (g .idSize) c) (λ v. andThen (boundedValidOf s g c) (λ b. answer (record { value = v; valid = b })))

@@ -19,9 +19,5 @@ pub extern "C" fn mf4_check_validity(
 ) -> Mf4ValidityReply
     ensures { λ r. ⌜ r ≡ validityC (boundedValidOf (now («record» .entry)) (groupGiven group) (channelGiven channel)) ⌝ }
 {
-    validity_reply(check_bounded_validity(
-        record,
-        group_of(group),
-        channel_of(channel),
-    ))
+    validity_reply(check_bounded_validity(record, group_of(group), channel_of(channel)))
 }

@@ -18,6 +18,7 @@ use Rattle.fields.specs.declared.channel.Channel.{Channel}
 use Rattle.fields.specs.declared.group.Group.{Group}
 use Rattle.fields.specs.declared.value.ValueRead.{ValueRead}
 use Rattle.fields.specs.declared.value.ValidValueRead.{ValidValueRead}
+use Rattle.fields.specs.declared.validity.ValidityRead.{ValidityRead}
 use Rattle.encoder.specs.declared.number.NumberGiven.{NumberGiven}
 use Rattle.encoder.specs.declared.encode.ValueWritten.{ValueWritten}
 use Rattle.places.specs.declared.place.FileAddress.{FileAddress}
@@ -52,6 +53,10 @@ use Rattle.decoder.proofs.decode_channel_value_with_validity.Kinds as valid-val
 use Rattle.decoder.proofs.decode_channel_value_with_validity.Reads as valid-value-read
 use Rattle.fields.proofs.check_value_validity.Kinds as validity-kinds
 use Rattle.fields.proofs.check_value_validity.Reads as validity
+use Rattle.decoder.proofs.decode_channel_value_with_bounded_validity.Kinds as bounded-value-read-kinds
+use Rattle.decoder.proofs.decode_channel_value_with_bounded_validity.Reads as bounded-value-read
+use Rattle.fields.proofs.check_bounded_validity.Kinds as bounded-validity-kinds
+use Rattle.fields.proofs.check_bounded_validity.Reads as bounded-validity
 use Rattle.decoder.proofs.decode_f64_from_record.Kinds as record-double-kinds
 use Rattle.decoder.proofs.decode_f64_from_record.Reads as record-double
 use Rattle.encoder.proofs.encode_channel_value.Kinds as value-write-kinds
@@ -120,6 +125,14 @@ ReadsValidValue κs bytes group channel y =
 abbrev pub ChecksValidity : Lfts 1 → Slice → Group → Channel → Bool → Type 0
 ChecksValidity κs bytes group channel y =
     Allows 1 validity-kinds.ps validity-kinds.r validity.Learnt κs (bytes, (group, (channel, tt))) y (tt, (tt, (tt, tt)))
+
+abbrev pub ReadsBoundedValue : Lfts 1 → Slice → Group → Channel → ValidValueRead → Type 0
+ReadsBoundedValue κs bytes group channel y =
+    Allows 1 bounded-value-read-kinds.ps bounded-value-read-kinds.r bounded-value-read.Learnt κs (bytes, (group, (channel, tt))) y (tt, (tt, (tt, tt)))
+
+abbrev pub ChecksBoundedValidity : Lfts 1 → Slice → Group → Channel → ValidityRead → Type 0
+ChecksBoundedValidity κs bytes group channel y =
+    Allows 1 bounded-validity-kinds.ps bounded-validity-kinds.r bounded-validity.Learnt κs (bytes, (group, (channel, tt))) y (tt, (tt, (tt, tt)))
 
 abbrev pub ReadsDouble : Lfts 1 → Slice → ℕ → Channel → ℕ → Type 0
 ReadsDouble κs bytes idSize channel y =

@@ -17,6 +17,7 @@ use Rattle.block_replies.specs.declared.channel.Mf4Channel.{Mf4Channel}
 use Rattle.replies.specs.declared.group.Mf4Group.{Mf4Group}
 use Rattle.replies.specs.declared.values.Mf4ValueReply.{Mf4ValueReply}
 use Rattle.replies.specs.declared.valid_values.Mf4ValidValueReply.{Mf4ValidValueReply}
+use Rattle.replies.specs.declared.validity.Mf4ValidityReply.{Mf4ValidityReply}
 use Rattle.replies.specs.declared.fetches.Mf4LengthReply.{Mf4LengthReply}
 use Rattle.replies.specs.declared.done.Mf4DoneReply.{Mf4DoneReply}
 use Rattle.replies.specs.declared.payload.Mf4PayloadReply.{Mf4PayloadReply}
@@ -51,6 +52,10 @@ use Rattle.mf4.proofs.mf4_decode_valid_value.Kinds as decode-valid-value-kinds
 use Rattle.mf4.proofs.mf4_decode_valid_value.Reads as decode-valid-value
 use Rattle.mf4.proofs.mf4_check_validity.Kinds as check-validity-kinds
 use Rattle.mf4.proofs.mf4_check_validity.Reads as check-validity
+use Rattle.mf4.proofs.mf4_decode_valid_value_unbounded.Kinds as decode-unbounded-kinds
+use Rattle.mf4.proofs.mf4_decode_valid_value_unbounded.Reads as decode-unbounded
+use Rattle.mf4.proofs.mf4_check_validity_unbounded.Kinds as check-unbounded-kinds
+use Rattle.mf4.proofs.mf4_check_validity_unbounded.Reads as check-unbounded
 use Rattle.mf4.proofs.mf4_decode_double_bits.Kinds as decode-double-kinds
 use Rattle.mf4.proofs.mf4_decode_double_bits.Reads as decode-double
 use Rattle.mf4.proofs.mf4_data_length.Kinds as data-length-kinds
@@ -110,9 +115,17 @@ abbrev pub ReadsValidValueC : Lfts 1 → Slice → Mf4Group → Mf4Channel → M
 ReadsValidValueC κs bytes group channel y =
     Allows 1 decode-valid-value-kinds.ps decode-valid-value-kinds.r decode-valid-value.Learnt κs (bytes, (group, (channel, tt))) y (tt, (tt, (tt, tt)))
 
-abbrev pub ChecksValidityC : Lfts 1 → Slice → Mf4Group → Mf4Channel → ℕ → Type 0
+abbrev pub ChecksValidityC : Lfts 1 → Slice → Mf4Group → Mf4Channel → Mf4ValidityReply → Type 0
 ChecksValidityC κs bytes group channel y =
     Allows 1 check-validity-kinds.ps check-validity-kinds.r check-validity.Learnt κs (bytes, (group, (channel, tt))) y (tt, (tt, (tt, tt)))
+
+abbrev pub ReadsUnboundedC : Lfts 1 → Slice → Mf4Group → Mf4Channel → Mf4ValidValueReply → Type 0
+ReadsUnboundedC κs bytes group channel y =
+    Allows 1 decode-unbounded-kinds.ps decode-unbounded-kinds.r decode-unbounded.Learnt κs (bytes, (group, (channel, tt))) y (tt, (tt, (tt, tt)))
+
+abbrev pub ChecksUnboundedC : Lfts 1 → Slice → Mf4Group → Mf4Channel → ℕ → Type 0
+ChecksUnboundedC κs bytes group channel y =
+    Allows 1 check-unbounded-kinds.ps check-unbounded-kinds.r check-unbounded.Learnt κs (bytes, (group, (channel, tt))) y (tt, (tt, (tt, tt)))
 
 abbrev pub ReadsDoubleC : Lfts 1 → Slice → ℕ → Mf4Channel → ℕ → Type 0
 ReadsDoubleC κs bytes idSize channel y =

@@ -12,7 +12,7 @@ use Rattle.definitions.specs.Bytes.{span, u32At, u64At, idAt}
 use Rattle.definitions.specs.DataList.{Lengths, equal, variable, idDL, linkLimit, flagsAt, restIn, listSize, restFor}
 use Rattle.definitions.specs.ChannelBlock.{idCN, fieldsAt}
 use Rattle.definitions.specs.Ieee754.{widened, narrowed}
-use Rattle.definitions.specs.Channel.{Channel, variableLength, startOf, spanOf, isNumber}
+use Rattle.definitions.specs.Channel.{Channel, Group, variableLength, startOf, spanOf, isNumber, recordLength, hasInvalidationBit}
 use Rattle.definitions.specs.WrittenValue.{Given, givenUnsigned, givenSigned, givenDouble, givenOther}
 use Rattle.definitions.specs.Chain.{Block, idDT, fileLimit, recordLimit, joined}
 use Rattle.definitions.specs.Accepted.{Accepted}
@@ -65,6 +65,17 @@ Legal undecoded c = Unit {0}
 pub record FieldStands (s : List ℕ) (idSize : ℕ) (c : Channel) : Type 0 where
   pub legal : Legal (kindOf (c .dataType)) c
   pub inside : startOf idSize c + spanOf s c ≤ length s
+
+-- ---- a field and its validity, where the invalidation bytes have an end
+
+-- a record of n bytes is one of the group, and the invalidation bit that tells is inside
+pub record InArea (n : ℕ) (g : Group) (c : Channel) : Type 0 where
+  pub long : n ≡ recordLength g
+  pub below : hasInvalidationBit c ≡ true → c .invalidationBit < 8 * g .invalidationBytes
+
+pub record BoundedStands (s : List ℕ) (g : Group) (c : Channel) : Type 0 where
+  pub field : FieldStands s (g .idSize) c
+  pub area : InArea (length s) g c
 
 -- ---- a number to be written
 
@@ -123,10 +134,12 @@ pub record Fetchable (f : List ℕ) (start k size : ℕ) (out : List ℕ) : Type
   pub accepted : Accepted idDT f start blocks
   pub inside : k * size + size ≤ length (joined f blocks)
 
-pub record ValueFetchable (f : List ℕ) (start k size idSize : ℕ) (c : Channel) (out : List ℕ) : Type 0 where
+pub record ValueFetchable (f : List ℕ) (start k size : ℕ) (g : Group) (c : Channel) (out : List ℕ) : Type 0 where
   pub fetchable : Fetchable f start k size out
   -- in the record's own bytes
-  pub field : FieldStands (span (joined f (fetchable .blocks)) (k * size) size) idSize c
+  pub field : FieldStands (span (joined f (fetchable .blocks)) (k * size) size) (g .idSize) c
+  -- the record size is the group's
+  pub area : InArea size g c
 
 -- ---- a payload
 

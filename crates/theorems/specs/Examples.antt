@@ -10,7 +10,7 @@ use Rattle.definitions.specs.Reply.{Reply, Outcome, answer, refusal}
 use Rattle.definitions.specs.Bytes.{little, big, le, les}
 use Rattle.definitions.specs.Unicode.{Encoding, latin1, utf8, utf16, Text, textOf}
 use Rattle.definitions.specs.DataType.{DataType, unsignedInteger, signedInteger, float, complex, string, byteArray, mimeSample, mimeStream, canOpenDate, canOpenTime, unknown, typeOf, codeOf, defaultBits}
-use Rattle.definitions.specs.Channel.{Channel, Value, unsigned, signed, double, text, bytes, unknownValue, valueOf, recordDouble, validOf}
+use Rattle.definitions.specs.Channel.{Channel, Group, Value, ValidValue, unsigned, signed, double, text, bytes, unknownValue, valueOf, recordDouble, validOf, boundedValidOf, boundedValueOf}
 use Rattle.definitions.specs.WrittenValue.{Given, givenUnsigned, givenSigned, givenDouble, givenOther, valueWritten}
 use Rattle.definitions.specs.DataList.{DataList, idDL, listOf, listBytes}
 use Rattle.definitions.specs.ChannelBlock.{ChannelBlock, idCN, channelBlockOf, described}
@@ -196,8 +196,11 @@ pub data Row : Type 0 where
   behindId : ℕ → List ℕ → Channel → Reply Value → Row
   -- the double of an unsigned 64-bit counter, as the whole number that it is
   counter : ℕ → ℕ → Row
-  -- validity with id size 0 and 2 data bytes
+  -- validity with id size 0 and 2 data bytes, whatever number of invalidation bytes
   validity : List ℕ → Channel → Bool → Row
+  -- with as many invalidation bytes as given: validity alone, and with the value
+  bounded : ℕ → List ℕ → Channel → Reply Bool → Row
+  boundedValue : ℕ → List ℕ → Channel → Reply ValidValue → Row
   list : List ℕ → Reply DataList → Row
   block : List ℕ → Reply ChannelBlock → Row
   description : ChannelBlock → Channel → Row
@@ -220,6 +223,8 @@ pub data Said : Type 0 where
   aValue : Reply Value → Said
   aNumber : ℕ → Said
   aTest : Bool → Said
+  aValidity : Reply Bool → Said
+  aValidValue : Reply ValidValue → Said
   aList : Reply DataList → Said
   aBlock : Reply ChannelBlock → Said
   aChannel : Channel → Said
@@ -228,12 +233,18 @@ pub data Said : Type 0 where
   aRecord : Outcome (Unit {0}) → Said
   aPayload : Outcomes PayloadValue → Said
 
+-- a group without a record id, of two data bytes and so many invalidation bytes
+abbrev twoBytesAnd : ℕ → Group
+twoBytesAnd n = record { idSize = 0; dataBytes = 2; invalidationBytes = n }
+
 -- what the definitions give for a row's call, and what the row says
 abbrev pub given : Row → Said
 given (value s c r) = aValue (valueOf s 0 c)
 given (behindId idSize s c r) = aValue (valueOf s idSize c)
 given (counter n r) = aNumber (toUnsigned 64 (ofBits binary64 (recordDouble (le 8 n) 0 (channel (unsignedInteger little) 0 64))))
-given (validity s c r) = aTest (validOf s (record { idSize = 0; dataBytes = 2 }) c)
+given (validity s c r) = aTest (validOf s (twoBytesAnd 0) c)
+given (bounded n s c r) = aValidity (boundedValidOf s (twoBytesAnd n) c)
+given (boundedValue n s c r) = aValidValue (boundedValueOf s (twoBytesAnd n) c)
 given (list s r) = aList (listOf s)
 given (block s r) = aBlock (channelBlockOf s)
 given (description b r) = aChannel (described b)
@@ -242,13 +253,15 @@ given (code t r) = aNumber (codeOf t)
 given (rendered e s out damaged) = aText (textOf e s)
 given (fetch f k r) = aRecord (fetched f 8 k 2 (255 ∷ 255 ∷ []))
 given (write s c v o) = aRecord (valueWritten s 0 c v)
-given (follow f c n r a b) = aPayload (payloadFetched f 8 0 9 (record { idSize = 0; dataBytes = 8 }) c untouched (copies n 255))
+given (follow f c n r a b) = aPayload (payloadFetched f 8 0 9 (record { idSize = 0; dataBytes = 8; invalidationBytes = 1 }) c untouched (copies n 255))
 
 abbrev pub stated : Row → Said
 stated (value s c r) = aValue r
 stated (behindId idSize s c r) = aValue r
 stated (counter n r) = aNumber r
 stated (validity s c r) = aTest r
+stated (bounded n s c r) = aValidity r
+stated (boundedValue n s c r) = aValidValue r
 stated (list s r) = aList r
 stated (block s r) = aBlock r
 stated (description b r) = aChannel r
@@ -324,6 +337,29 @@ table =
     ∷ validity (0x34 ∷ 0x12 ∷ 0x00 ∷ 0x02 ∷ []) (flagged 2 9) false
     ∷ validity (0x34 ∷ 0x12 ∷ 0x00 ∷ 0x02 ∷ []) (flagged 2 16) true
     ∷ validity (0x34 ∷ 0x12 ∷ 0x00 ∷ 0x02 ∷ []) (flagged 3 16) false
+    -- where the invalidation bytes have an end: a set bit, the last bit, and one behind it; where no bit tells; other lengths,
+    -- whatever the flags; no invalidation bytes
+    ∷ bounded 2 (0x34 ∷ 0x12 ∷ 0x00 ∷ 0x02 ∷ []) (flagged 2 9) (answer false)
+    ∷ bounded 2 (0x34 ∷ 0x12 ∷ 0x00 ∷ 0x80 ∷ []) (flagged 2 15) (answer false)
+    ∷ bounded 2 (0x34 ∷ 0x12 ∷ 0x00 ∷ 0x02 ∷ []) (flagged 2 15) (answer true)
+    ∷ bounded 2 (0x34 ∷ 0x12 ∷ 0x00 ∷ 0x02 ∷ []) (flagged 2 16) (refusal 29 0)
+    ∷ bounded 2 (0x34 ∷ 0x12 ∷ 0x00 ∷ 0x02 ∷ []) (flagged 3 16) (answer false)
+    ∷ bounded 2 (0x34 ∷ 0x12 ∷ 0x00 ∷ 0x02 ∷ []) (flagged 0 16) (answer true)
+    ∷ bounded 2 (0x34 ∷ 0x12 ∷ 0x00 ∷ []) (flagged 2 16) (refusal 28 0)
+    ∷ bounded 2 (0x34 ∷ 0x12 ∷ 0x00 ∷ 0x02 ∷ 0x00 ∷ []) (flagged 3 9) (refusal 28 0)
+    ∷ bounded 2 [] (flagged 0 0) (refusal 28 0)
+    ∷ bounded 0 (0x34 ∷ 0x12 ∷ []) (flagged 2 0) (refusal 29 0)
+    ∷ bounded 0 (0x34 ∷ 0x12 ∷ []) (flagged 0 0) (answer true)
+    -- where the readings differ: bit 9 is one of the next record, which follows in the first row, or is missing
+    ∷ validity (0x34 ∷ 0x12 ∷ 0x00 ∷ 0x02 ∷ 0x13 ∷ 0x00 ∷ []) (flagged 2 9) false
+    ∷ validity (0x34 ∷ 0x12 ∷ 0x00 ∷ []) (flagged 2 9) true
+    ∷ bounded 1 (0x34 ∷ 0x12 ∷ 0x00 ∷ 0x02 ∷ 0x13 ∷ 0x00 ∷ []) (flagged 2 9) (refusal 28 0)
+    ∷ bounded 1 (0x34 ∷ 0x12 ∷ 0x00 ∷ []) (flagged 2 9) (refusal 29 0)
+    -- with the value, whose own refusal comes first
+    ∷ boundedValue 2 (0x34 ∷ 0x12 ∷ 0x00 ∷ 0x02 ∷ []) (flagged 2 9) (answer (record { value = unsigned 0x34; valid = false }))
+    ∷ boundedValue 2 [] (flagged 2 9) (refusal 21 1)
+    ∷ boundedValue 2 (0x34 ∷ 0x12 ∷ []) (flagged 2 16) (refusal 28 0)
+    ∷ boundedValue 2 (0x34 ∷ 0x12 ∷ 0x00 ∷ 0x02 ∷ []) (flagged 2 16) (refusal 29 0)
     ∷ list (shortList 1 0) (answer (record {
       header = record { id = 1279533859; reserved = 0; blockLength = 40; linkCount = 1 };
       next = 0;

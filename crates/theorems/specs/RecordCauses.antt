@@ -9,12 +9,12 @@ use lib.ListN.{length}
 use Rattle.definitions.specs.Reply.{answer, told}
 use Rattle.definitions.specs.Bytes.{u32At, u64At}
 use Rattle.definitions.specs.DataType.{kindOf}
-use Rattle.definitions.specs.Channel.{Channel, isNumber}
+use Rattle.definitions.specs.Channel.{Channel, Group, isNumber}
 use Rattle.definitions.specs.Chain.{Block, idDT, joined, fileLimit, recordLimit}
 use Rattle.definitions.specs.Accepted.{Accepted}
 use Rattle.definitions.specs.Payload.{idSD, joinedOf, payloadOf}
 use Rattle.theorems.specs.Exactly.{Fetchable, Positioned, recordBytes}
-use Rattle.theorems.specs.Causes.{Not, fieldRefused}
+use Rattle.theorems.specs.Causes.{Not, boundedRefused}
 use Rattle.theorems.specs.Refused.{Cause, refused, _orElse_}
 use Rattle.theorems.specs.BlockCauses.{noRoom}
 use Rattle.theorems.specs.ChainCauses.{chainRefused}
@@ -43,10 +43,10 @@ unfoldable pub ofRecord : List ℕ → ℕ → ℕ → ℕ → List ℕ → (Lis
 ofRecord f start k size out c n t = (h : Fetchable f start k size out) × c (recordBytes f start k size out h) n t
 
 -- then the field, in the record's own bytes
-abbrev pub recordValueRefused : List ℕ → ℕ → ℕ → ℕ → List ℕ → ℕ → Channel → Cause
-recordValueRefused f start k size out idSize c =
+abbrev pub recordValueRefused : List ℕ → ℕ → ℕ → ℕ → List ℕ → Group → Channel → Cause
+recordValueRefused f start k size out g c =
     recordRefused f start k size out
-    orElse ofRecord f start k size out (λ s. fieldRefused s idSize c)
+    orElse ofRecord f start k size out (λ s. boundedRefused s g c)
 
 -- ---- the payload of a record
 

@@ -7,7 +7,7 @@ use Prim.Native.Nat.{ℕ, _+_, _*_, _^_, _<_}
 use lib.ListN.{length}
 use Rattle.definitions.specs.Reply.{Outcome, answer, refusal}
 use Rattle.definitions.specs.DataType.{DataType, unsignedInteger, signedInteger, float, complex, string, byteArray, mimeSample, mimeStream, canOpenDate, canOpenTime, unknown, kindOf}
-use Rattle.definitions.specs.Channel.{Channel, Group, variableLength, isNumber, valueOf, doubleIn, recordDouble, validOf, bitPlace}
+use Rattle.definitions.specs.Channel.{Channel, Group, variableLength, isNumber, valueOf, doubleIn, recordDouble, validOf, boundedValidOf, bitPlace}
 use Rattle.definitions.specs.Overlap.{shareABit}
 use Rattle.definitions.specs.WrittenValue.{Given, givenUnsigned, givenSigned, givenDouble, givenOther, fieldGiven, fieldWritten}
 use Rattle.definitions.proofs.Shared.{Within}
@@ -96,4 +96,4 @@ pub record SameOutside (s t : List ℕ) (idSize : ℕ) (c : Channel) : Type 0 wh
       → (valueOf t idSize d ≡ valueOf s idSize d) × (recordDouble t idSize d ≡ recordDouble s idSize d)
   -- and the validity of a channel, this one or another, whose invalidation bit is none of the field's
   pub validity : (g : Group) (d : Channel) → g .idSize ≡ idSize → ((k : ℕ) → Within c k → bitPlace c k ≡ g .dataBytes * 8 + d .invalidationBit → ⊥)
-      → validOf t g d ≡ validOf s g d
+      → (validOf t g d ≡ validOf s g d) × (boundedValidOf t g d ≡ boundedValidOf s g d)

@@ -1,13 +1,13 @@
 -- No definition is met by refusing always: each answers exactly where its condition holds.
-use mathlib.Core.Path.{_≡_, refl, sym, ap, _∙_}
+use mathlib.Core.Path.{_≡_, refl, sym, ap, _∙_, subst}
 use mathlib.Core.Logic.{_⊎_, inl, inr}
-use mathlib.Core.Bool.{Bool, true, false, not, _||_, true≢false}
+use mathlib.Core.Bool.{Bool, true, false, not, _&&_, _||_, true≢false}
 use mathlib.Core.List.{List, _++_}
 use Prim.Native.Nat.{ℕ, _+_, _*_, _≤_, _<_}
 use native.Mathlib.Omega.{arith}
 use lib.ListN.{length, drop}
 use lib.Dec.{ltb, eqb}
-use borrow.Author.Tests.{ltb-false, le-ltb, eqb-true, eqb-false, not-false, ne-eqb, eq-eqb}
+use borrow.Author.Tests.{ltb-true, ltb-false, lt-ltb, le-ltb, eqb-true, eqb-false, not-false, ne-eqb, eq-eqb}
 use Rattle.definitions.specs.Reply.{Reply, Outcome, answer, refusal, if_then_else_, andThen, told, writing, onAnswer}
 use Rattle.definitions.specs.Bytes.{span}
 use Rattle.definitions.specs.Unicode.{Encoding, textOf, writtenText, textWritten}
@@ -15,7 +15,7 @@ use Rattle.definitions.specs.Header.{Header, headerIn, headerOf, headerBytes, h
 use Rattle.definitions.specs.DataType.{Kind, integer, floating, whole, undecoded, kindOf}
 use Rattle.definitions.specs.DataList.{Lengths, equal, variable, linkLimit, listOf, listBytes, listSize, flagsFor, restFor, unwritable, listWritten}
 use Rattle.definitions.specs.ChannelBlock.{ChannelBlock, channelBlockOf, channelBytes, channelWritten}
-use Rattle.definitions.specs.Channel.{Channel, Group, Value, ValidValue, startOf, spanOf, valueBy, valueOf, validValueOf}
+use Rattle.definitions.specs.Channel.{Channel, Group, Value, ValidValue, startOf, spanOf, valueBy, valueOf, validOf, validValueOf, recordLength, hasInvalidationBit, areaOf, boundedValidOf, boundedValueOf}
 use Rattle.definitions.specs.Chain.{Block, idDT, fileLimit, recordLimit, joined, total, chainOf, totalOf, dataLength, badSize, recordOf, fetched, valueFetched}
 use Rattle.definitions.specs.Accepted.{Accepted}
 use Rattle.definitions.proofs.Replies.{not-answered}
@@ -28,7 +28,7 @@ use Rattle.theorems.proofs.Blocks.Rewritten.{front-of}
 use Rattle.theorems.proofs.Blocks.ListAnswers.{above-zero, list-answered, list-stands}
 use Rattle.theorems.proofs.Blocks.ChannelAnswers.{channel-answered, channel-stands}
 use Rattle.theorems.proofs.Chains.AcceptedChains.{accepted, accepts}
-use Rattle.theorems.specs.Exactly.{Exactly, ListStands, ChannelStands, Counted, ListFits, Legal, FieldStands, Joinable, Fetchable, ValueFetchable}
+use Rattle.theorems.specs.Exactly.{Exactly, ListStands, ChannelStands, Counted, ListFits, Legal, FieldStands, InArea, BoundedStands, Joinable, Fetchable, ValueFetchable}
 
 -- ---- tests in turn
 
@@ -192,6 +192,36 @@ unfolding validValueOf
 valid-value-exactly s g c =
     same (λ p. (p, tt)) (λ p. p .0) (going-on (valueOf s (g .idSize) c) _ (value-exactly s (g .idSize) c) (λ v. always _))
 
+-- ---- validity
+
+-- a bit that tells is below the end
+below-passes : (tells inside : Bool) → (tells ≡ true → inside ≡ true) → tells && not inside ≡ false
+below-passes true inside h = rw (h refl)
+below-passes false inside h = refl
+
+passed-below : (tells inside : Bool) → tells && not inside ≡ false → tells ≡ true → inside ≡ true
+passed-below true inside h e = not-false inside h
+passed-below false inside h e = absurd (true≢false (sym e))
+
+pub area-exactly : (n : ℕ) (g : Group) (c : Channel) → Exactly (InArea n g c) (areaOf n g c)
+unfolding areaOf
+area-exactly n g c =
+    let inside = ltb (c .invalidationBit) (8 * g .invalidationBytes) in
+    same (λ a. (a .long, (λ e. lt-ltb _ _ (a .below e), tt))) (λ p. record { long = p .0; below = λ e. ltb-true _ _ (p .1 .0 e) })
+    (passing (not (eqb n (recordLength g))) 28 0 _ (λ e. rw (eq-eqb n (recordLength g) e)) (λ e. eqb-true _ _ (not-false _ e))
+    (passing (hasInvalidationBit c && not inside) 29 0 _ (below-passes (hasInvalidationBit c) inside) (passed-below (hasInvalidationBit c) inside) (always tt)))
+
+module _ (s : List ℕ) (g : Group) (c : Channel) where
+  pub bounded-valid-exactly : Exactly (InArea (length s) g c) (boundedValidOf s g c)
+  unfolding boundedValidOf
+  bounded-valid-exactly = same (λ a. (a, tt)) (λ p. p .0) (going-on (areaOf (length s) g c) _ (area-exactly (length s) g c) (λ u. always (validOf s g c)))
+
+  pub bounded-value-exactly : Exactly (BoundedStands s g c) (boundedValueOf s g c)
+  unfolding boundedValueOf
+  bounded-value-exactly =
+      same (λ h. (h .field, (h .area, tt))) (λ p. record { field = p .0; area = p .1 .0 })
+      (going-on (valueOf s (g .idSize) c) _ (value-exactly s (g .idSize) c) (λ v. going-on (boundedValidOf s g c) _ bounded-valid-exactly (λ b. always _)))
+
 -- ---- the joined data
 
 module _ (id f : List ℕ) (start : ℕ) where
@@ -266,22 +296,29 @@ module _ (f : List ℕ) (start k size : ℕ) (out : List ℕ) where
   fetched-record h =
       rw (size-passes size (length out) (h .some, h .small, h .room), le-ltb _ _ (h .short), accepts idDT f start (h .blocks) (h .accepted), le-ltb _ _ (h .inside))
 
+  record-length : (h : Fetchable f start k size out) → length (span (joined f (h .blocks)) (k * size) size) ≡ size
+  record-length h = length-span (joined f (h .blocks)) (k * size) size (h .inside)
+
   module _ (g : Group) (c : Channel) where
     -- and its field is read from those bytes alone
     pub value-of-record : (h : Fetchable f start k size out)
-        → valueFetched f start k size g c out .reply ≡ validValueOf (span (joined f (h .blocks)) (k * size) size) g c
+        → valueFetched f start k size g c out .reply ≡ boundedValueOf (span (joined f (h .blocks)) (k * size) size) g c
     unfolding valueFetched
-    value-of-record h =
-        let l : length (span (joined f (h .blocks)) (k * size) size) ≡ size = length-span (joined f (h .blocks)) (k * size) size (h .inside) in
-        rw (fetched-record h, front-of _ (drop size out) size l)
+    value-of-record h = rw (fetched-record h, front-of _ (drop size out) size (record-length h))
 
     -- a value is answered of a record that was fetched
     record-before : (v : ValidValue) → valueFetched f start k size g c out .reply ≡ answer v → Fetchable f start k size out
     unfolding valueFetched
     record-before v e = let r = followed (fetched f start k size out .reply) _ v e in fetched-exactly .only (r .0) (r .1)
 
-    pub value-fetched-exactly : Exactly (ValueFetchable f start k size (g .idSize) c out) (valueFetched f start k size g c out .reply)
+    pub value-fetched-exactly : Exactly (ValueFetchable f start k size g c out) (valueFetched f start k size g c out .reply)
     value-fetched-exactly = record {
-      answers = λ h. let v = valid-value-exactly _ g c .answers (h .field) in (v .0, value-of-record (h .fetchable) ∙ v .1);
-      only = λ a e. let h = record-before a e in record { fetchable = h; field = valid-value-exactly _ g c .only a (sym (value-of-record h) ∙ e) };
+      answers = λ h.
+          let area = subst (λ (n : ℕ). InArea n g c) (sym (record-length (h .fetchable))) (h .area) in
+          let v = bounded-value-exactly _ g c .answers (record { field = h .field; area = area }) in
+          (v .0, value-of-record (h .fetchable) ∙ v .1);
+      only = λ a e.
+          let h = record-before a e in
+          let b = bounded-value-exactly _ g c .only a (sym (value-of-record h) ∙ e) in
+          record { fetchable = h; field = b .field; area = subst (λ (n : ℕ). InArea n g c) (record-length h) (b .area) };
     }

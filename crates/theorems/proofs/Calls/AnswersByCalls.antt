@@ -10,9 +10,9 @@ use Rattle.definitions.specs.Reply.{Reply, Outcome, answer}
 use Rattle.definitions.specs.Unicode.{TextWritten, textOf}
 use Rattle.definitions.specs.DataList.{equal, variable}
 use Rattle.mf4.specs.Clauses.{Slice}
-use Rattle.theorems.specs.Exactly.{Exactly, ListStands, ChannelStands, ListFits, FieldStands, Joinable, Fetchable, ValueFetchable}
-use Rattle.theorems.specs.Clauses.{ReadsHeader, WritesHeader, ReadsList, WritesEqual, WritesVariable, ReadsChannel, WritesChannel, WritesText, ReadsValue, ReadsValidValue, ReadsLength, ReadsRecord, ReadsRecordValue}
-use Rattle.theorems.proofs.Calls.Answers.{header-exactly, list-exactly, channel-exactly, header-written-exactly, channel-written-exactly, list-written-exactly, text-written-exactly, value-exactly, valid-value-exactly, length-exactly, fetched-exactly, value-fetched-exactly}
+use Rattle.theorems.specs.Exactly.{Exactly, ListStands, ChannelStands, ListFits, FieldStands, InArea, BoundedStands, Joinable, Fetchable, ValueFetchable}
+use Rattle.theorems.specs.Clauses.{ReadsHeader, WritesHeader, ReadsList, WritesEqual, WritesVariable, ReadsChannel, WritesChannel, WritesText, ReadsValue, ReadsValidValue, ReadsBoundedValue, ChecksBoundedValidity, ReadsLength, ReadsRecord, ReadsRecordValue}
+use Rattle.theorems.proofs.Calls.Answers.{header-exactly, list-exactly, channel-exactly, header-written-exactly, channel-written-exactly, list-written-exactly, text-written-exactly, value-exactly, valid-value-exactly, bounded-valid-exactly, bounded-value-exactly, length-exactly, fetched-exactly, value-fetched-exactly}
 use Rattle.blocks.specs.Meaning.{headerReply, headerMeant, writtenReply, listReply}
 use Rattle.channels.specs.Meaning.{channelBlockReply, channelBlockMeant}
 use Rattle.blocks.specs.declared.header.BlockHeader.{BlockHeader}
@@ -27,11 +27,12 @@ use Rattle.encodings.specs.declared.encoding.Encoding.{Encoding}
 use Rattle.text.specs.declared.answer.TextWrite.{TextWrite}
 use Rattle.text.proofs.FirstChar.{Bytes}
 use Rattle.text.proofs.Room.{room, text-room}
-use Rattle.fields.specs.Meaning.{channelMeant, groupMeant, valueReply, validValueReply}
+use Rattle.fields.specs.Meaning.{channelMeant, groupMeant, valueReply, validValueReply, validityReply}
 use Rattle.fields.specs.declared.channel.Channel.{Channel}
 use Rattle.fields.specs.declared.group.Group.{Group}
 use Rattle.fields.specs.declared.value.ValueRead.{ValueRead}
 use Rattle.fields.specs.declared.value.ValidValueRead.{ValidValueRead}
+use Rattle.fields.specs.declared.validity.ValidityRead.{ValidityRead}
 use Rattle.chain.specs.Meaning.{chainReply}
 use Rattle.records.specs.Meaning.{recordReply}
 use Rattle.places.specs.declared.place.FileAddress.{FileAddress}
@@ -95,6 +96,14 @@ pub valid-value-read-exactly : (κs : Lfts 1) (bytes : Slice) (group : Group) (c
     → ReadsValidValue κs bytes group channel y → Exactly (FieldStands (bytes .now) (groupMeant group .idSize) (channelMeant channel)) (validValueReply y)
 valid-value-read-exactly κs bytes group channel y p = exactly p (valid-value-exactly (bytes .now) (groupMeant group) (channelMeant channel))
 
+pub bounded-value-read-exactly : (κs : Lfts 1) (bytes : Slice) (group : Group) (channel : Channel) (y : ValidValueRead)
+    → ReadsBoundedValue κs bytes group channel y → Exactly (BoundedStands (bytes .now) (groupMeant group) (channelMeant channel)) (validValueReply y)
+bounded-value-read-exactly κs bytes group channel y p = exactly p (bounded-value-exactly (bytes .now) (groupMeant group) (channelMeant channel))
+
+pub bounded-validity-exactly : (κs : Lfts 1) (bytes : Slice) (group : Group) (channel : Channel) (y : ValidityRead)
+    → ChecksBoundedValidity κs bytes group channel y → Exactly (InArea (length (bytes .now)) (groupMeant group) (channelMeant channel)) (validityReply y)
+bounded-validity-exactly κs bytes group channel y p = exactly p (bounded-valid-exactly (bytes .now) (groupMeant group) (channelMeant channel))
+
 -- ---- a chain
 
 pub chain-length-exactly : (κs : Lfts 1) (file : Slice) (start : FileAddress) (y : ChainRead)
@@ -109,6 +118,6 @@ record-read-exactly κs file start number size out y after p = exactly (of-outco
 
 pub record-value-exactly : (κs : Lfts 2) (file : Slice) (start : FileAddress) (number size : ℕ) (group : Group) (channel : Channel) (out : Slice) (y : ValidValueRead) (after : List ℕ)
     → ReadsRecordValue κs file start number size group channel out y after
-    → Exactly (ValueFetchable (file .now) (start .0) number size (groupMeant group .idSize) (channelMeant channel) (out .now)) (validValueReply y)
+    → Exactly (ValueFetchable (file .now) (start .0) number size (groupMeant group) (channelMeant channel) (out .now)) (validValueReply y)
 record-value-exactly κs file start number size group channel out y after p =
     exactly (of-outcome p) (value-fetched-exactly (file .now) (start .0) number size (out .now) (groupMeant group) (channelMeant channel))

@@ -29,14 +29,15 @@ use Rattle.block_replies.specs.declared.channel.Mf4Channel.{Mf4Channel}
 use Rattle.replies.specs.declared.group.Mf4Group.{Mf4Group}
 use Rattle.replies.specs.declared.values.Mf4ValueReply.{Mf4ValueReply}
 use Rattle.replies.specs.declared.valid_values.Mf4ValidValueReply.{Mf4ValidValueReply}
+use Rattle.replies.specs.declared.validity.Mf4ValidityReply.{Mf4ValidityReply}
 use Rattle.replies.specs.declared.fetches.Mf4LengthReply.{Mf4LengthReply}
 use Rattle.replies.specs.declared.done.Mf4DoneReply.{Mf4DoneReply}
 use Rattle.replies.proofs.ToldToC.{Reversible, of-kind-told}
 use Rattle.mf4.specs.Clauses.{Slice}
-use Rattle.theorems.specs.Exactly.{Exactly, ExactlyZero, ListStands, ChannelStands, ListFits, FieldStands, Joinable, Fetchable, ValueFetchable}
-use Rattle.theorems.specs.ClausesToC.{ReadsHeaderC, WritesHeaderC, ReadsListC, WritesEqualC, WritesVariableC, ReadsChannelC, WritesChannelC, WritesTextC, ReadsValueC, ReadsValidValueC, ReadsLengthC, ReadsRecordC, ReadsRecordValueC}
-use Rattle.theorems.proofs.Calls.Answers.{header-exactly, list-exactly, channel-exactly, header-written-exactly, channel-written-exactly, list-written-exactly, text-written-exactly, value-exactly, valid-value-exactly, length-exactly, fetched-exactly, value-fetched-exactly}
-use Rattle.theorems.proofs.Calls.ToldToC.{Judged, value-tellable, valid-value-tellable, value-fetched-tellable, mf4-read-header-told, mf4-write-header-told, mf4-read-list-told, mf4-write-list-equal-told, mf4-write-list-variable-told, mf4-read-channel-told, mf4-write-channel-told, mf4-text-told, mf4-decode-value-told, mf4-decode-valid-value-told, mf4-data-length-told, mf4-read-record-told, mf4-record-value-told}
+use Rattle.theorems.specs.Exactly.{Exactly, ExactlyZero, ListStands, ChannelStands, ListFits, FieldStands, InArea, BoundedStands, Joinable, Fetchable, ValueFetchable}
+use Rattle.theorems.specs.ClausesToC.{ReadsHeaderC, WritesHeaderC, ReadsListC, WritesEqualC, WritesVariableC, ReadsChannelC, WritesChannelC, WritesTextC, ReadsValueC, ReadsValidValueC, ChecksValidityC, ReadsUnboundedC, ReadsLengthC, ReadsRecordC, ReadsRecordValueC}
+use Rattle.theorems.proofs.Calls.Answers.{header-exactly, list-exactly, channel-exactly, header-written-exactly, channel-written-exactly, list-written-exactly, text-written-exactly, value-exactly, valid-value-exactly, bounded-valid-exactly, bounded-value-exactly, length-exactly, fetched-exactly, value-fetched-exactly}
+use Rattle.theorems.proofs.Calls.ToldToC.{Judged, value-tellable, valid-value-tellable, bounded-value-tellable, value-fetched-tellable, mf4-read-header-told, mf4-write-header-told, mf4-read-list-told, mf4-write-list-equal-told, mf4-write-list-variable-told, mf4-read-channel-told, mf4-write-channel-told, mf4-text-told, mf4-decode-value-told, mf4-decode-valid-value-told, mf4-decode-valid-value-unbounded-told, mf4-check-validity-told, mf4-data-length-told, mf4-read-record-told, mf4-record-value-told}
 
 -- a struct tells an answer exactly where its reply is 0
 pub zero-exactly : {A P : Type 0} (n t : ℕ) (a : A) (r : Reply A) → (if eqb n 0 then answer a else refusal n t) ≡ r → Exactly P r → ExactlyZero P n
@@ -100,11 +101,23 @@ value-read-zero κs bytes idSize channel y p =
     zero-exactly (y .reply) (y .told) _ _ told (value-exactly (bytes .now) idSize (channelGiven channel))
 
 pub valid-value-read-zero : (κs : Lfts 1) (bytes : Slice) (group : Mf4Group) (channel : Mf4Channel) (y : Mf4ValidValueReply)
-    → ReadsValidValueC κs bytes group channel y → ExactlyZero (FieldStands (bytes .now) (groupGiven group .idSize) (channelGiven channel)) (y .reply)
+    → ReadsValidValueC κs bytes group channel y → ExactlyZero (BoundedStands (bytes .now) (groupGiven group) (channelGiven channel)) (y .reply)
 valid-value-read-zero κs bytes group channel y p =
-    let told = of-kind-told Judged (y .reply) (y .told) (y .kind) _ _ (valid-value-tellable (bytes .now) (groupGiven group) (channelGiven channel))
+    let told = of-kind-told Judged (y .reply) (y .told) (y .kind) _ _ (bounded-value-tellable (bytes .now) (groupGiven group) (channelGiven channel))
     (mf4-decode-valid-value-told κs bytes group channel y p) in
+    zero-exactly (y .reply) (y .told) _ _ told (bounded-value-exactly (bytes .now) (groupGiven group) (channelGiven channel))
+
+pub unbounded-read-zero : (κs : Lfts 1) (bytes : Slice) (group : Mf4Group) (channel : Mf4Channel) (y : Mf4ValidValueReply)
+    → ReadsUnboundedC κs bytes group channel y → ExactlyZero (FieldStands (bytes .now) (groupGiven group .idSize) (channelGiven channel)) (y .reply)
+unbounded-read-zero κs bytes group channel y p =
+    let told = of-kind-told Judged (y .reply) (y .told) (y .kind) _ _ (valid-value-tellable (bytes .now) (groupGiven group) (channelGiven channel))
+    (mf4-decode-valid-value-unbounded-told κs bytes group channel y p) in
     zero-exactly (y .reply) (y .told) _ _ told (valid-value-exactly (bytes .now) (groupGiven group) (channelGiven channel))
+
+pub check-validity-zero : (κs : Lfts 1) (bytes : Slice) (group : Mf4Group) (channel : Mf4Channel) (y : Mf4ValidityReply)
+    → ChecksValidityC κs bytes group channel y → ExactlyZero (InArea (length (bytes .now)) (groupGiven group) (channelGiven channel)) (y .reply)
+check-validity-zero κs bytes group channel y p =
+    zero-exactly (y .reply) (y .told) _ _ (mf4-check-validity-told κs bytes group channel y p) (bounded-valid-exactly (bytes .now) (groupGiven group) (channelGiven channel))
 
 -- ---- the joined data, a record of it, and a value in that
 
@@ -119,7 +132,7 @@ record-read-zero κs file start number size out y after p =
 
 pub record-value-zero : (κs : Lfts 2) (file : Slice) (start number size : ℕ) (group : Mf4Group) (channel : Mf4Channel) (out : Slice) (y : Mf4ValidValueReply) (after : List ℕ)
     → ReadsRecordValueC κs file start number size group channel out y after
-    → ExactlyZero (ValueFetchable (file .now) start number size (groupGiven group .idSize) (channelGiven channel) (out .now)) (y .reply)
+    → ExactlyZero (ValueFetchable (file .now) start number size (groupGiven group) (channelGiven channel) (out .now)) (y .reply)
 record-value-zero κs file start number size group channel out y after p =
     let told = of-kind-told Judged (y .reply) (y .told) (y .kind) _ _
     (value-fetched-tellable (file .now) start number size (groupGiven group) (channelGiven channel) (out .now))

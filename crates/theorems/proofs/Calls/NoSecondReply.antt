@@ -19,7 +19,7 @@ use Rattle.data_types.proofs.Back.{type-one}
 use Rattle.blocks.proofs.Back.{written-one, header-one, list-one}
 use Rattle.channels.proofs.Back.{channel-one}
 use Rattle.text.proofs.Back.{text-one}
-use Rattle.fields.proofs.Back.{description-one, field-one, value-one, valid-value-one}
+use Rattle.fields.proofs.Back.{description-one, field-one, value-one, valid-value-one, area-one, validity-one}
 use Rattle.encoder.specs.Meaning as encoder
 use Rattle.encoder.proofs.Back as encoder-back
 use Rattle.places.proofs.Back.{block-one}
@@ -86,6 +86,10 @@ use Rattle.fields.proofs.ends_outside.Kinds as field-outside-kinds
 use Rattle.fields.proofs.ends_outside.Reads as field-outside
 use Rattle.fields.proofs.bytes_needed.Kinds as field-needed-kinds
 use Rattle.fields.proofs.bytes_needed.Reads as field-needed
+use Rattle.fields.proofs.check_area.Kinds as area-kinds
+use Rattle.fields.proofs.check_area.Reads as area
+use Rattle.fields.proofs.check_bounded_validity.Kinds as bounded-validity-kinds
+use Rattle.fields.proofs.check_bounded_validity.Reads as bounded-validity
 use Rattle.fields.proofs.check_value_validity.Kinds as validity-kinds
 use Rattle.fields.proofs.check_value_validity.Reads as validity
 use Rattle.decoder.proofs.decode_channel_value.Kinds as value-read-kinds
@@ -94,8 +98,10 @@ use Rattle.decoder.proofs.decode_channel_value_with_validity.Kinds as valid-val
 use Rattle.decoder.proofs.decode_channel_value_with_validity.Reads as valid-value-read
 use Rattle.decoder.proofs.any_value.Kinds as any-value-kinds
 use Rattle.decoder.proofs.any_value.Reads as any-value
-use Rattle.decoder.proofs.any_valid_value.Kinds as any-valid-value-kinds
-use Rattle.decoder.proofs.any_valid_value.Reads as any-valid-value
+use Rattle.decoder.proofs.decode_channel_value_with_bounded_validity.Kinds as bounded-value-read-kinds
+use Rattle.decoder.proofs.decode_channel_value_with_bounded_validity.Reads as bounded-value-read
+use Rattle.decoder.proofs.any_bounded_value.Kinds as any-bounded-value-kinds
+use Rattle.decoder.proofs.any_bounded_value.Reads as any-bounded-value
 use Rattle.decoder.proofs.decode_f64_from_record.Kinds as record-double-kinds
 use Rattle.decoder.proofs.decode_f64_from_record.Reads as record-double
 use Rattle.encoder.proofs.encode_channel_value.Kinds as value-write-kinds
@@ -242,14 +248,23 @@ value-read-settled = settled (λ κs a y z b c p q. (value-one y z (p ∙ sym q)
 pub validity-settled : Settled 1 validity-kinds.ps validity-kinds.r validity.Asked validity.ensures validity.Learnt
 validity-settled = settled (λ κs a y z b c p q. (p ∙ sym q, refl))
 
+pub area-settled : Settled 0 area-kinds.ps area-kinds.r area.Asked area.ensures area.Learnt
+area-settled = settled (λ κs a y z b c p q. (area-one y z (p ∙ sym q), refl))
+
+pub bounded-validity-settled : Settled 1 bounded-validity-kinds.ps bounded-validity-kinds.r bounded-validity.Asked bounded-validity.ensures bounded-validity.Learnt
+bounded-validity-settled = settled (λ κs a y z b c p q. (validity-one y z (p ∙ sym q), refl))
+
+pub bounded-value-read-settled : Settled 1 bounded-value-read-kinds.ps bounded-value-read-kinds.r bounded-value-read.Asked bounded-value-read.ensures bounded-value-read.Learnt
+bounded-value-read-settled = settled (λ κs a y z b c p q. (valid-value-one y z (p ∙ sym q), refl))
+
 pub valid-value-read-settled : Settled 1 valid-value-read-kinds.ps valid-value-read-kinds.r valid-value-read.Asked valid-value-read.ensures valid-value-read.Learnt
 valid-value-read-settled = settled (λ κs a y z b c p q. (valid-value-one y z (p ∙ sym q), refl))
 
 pub any-value-settled : Settled 1 any-value-kinds.ps any-value-kinds.r any-value.Asked any-value.ensures any-value.Learnt
 any-value-settled = settled (λ κs a y z b c p q. (value-one y z (p ∙ sym q), refl))
 
-pub any-valid-value-settled : Settled 1 any-valid-value-kinds.ps any-valid-value-kinds.r any-valid-value.Asked any-valid-value.ensures any-valid-value.Learnt
-any-valid-value-settled = settled (λ κs a y z b c p q. (valid-value-one y z (p ∙ sym q), refl))
+pub any-bounded-value-settled : Settled 1 any-bounded-value-kinds.ps any-bounded-value-kinds.r any-bounded-value.Asked any-bounded-value.ensures any-bounded-value.Learnt
+any-bounded-value-settled = settled (λ κs a y z b c p q. (valid-value-one y z (p ∙ sym q), refl))
 
 pub record-double-settled : Settled 1 record-double-kinds.ps record-double-kinds.r record-double.Asked record-double.ensures record-double.Learnt
 record-double-settled = settled (λ κs a y z b c p q. (p ∙ sym q, refl))

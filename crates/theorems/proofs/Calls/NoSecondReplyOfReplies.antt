@@ -30,6 +30,8 @@ use Rattle.replies.proofs.value_reply.Kinds as value-reply-kinds
 use Rattle.replies.proofs.value_reply.Reads as value-reply
 use Rattle.replies.proofs.valid_value_reply.Kinds as valid-value-reply-kinds
 use Rattle.replies.proofs.valid_value_reply.Reads as valid-value-reply
+use Rattle.replies.proofs.validity_reply.Kinds as validity-reply-kinds
+use Rattle.replies.proofs.validity_reply.Reads as validity-reply
 use Rattle.replies.proofs.text_reply.Kinds as text-reply-kinds
 use Rattle.replies.proofs.text_reply.Reads as text-reply
 use Rattle.replies.proofs.flag.Kinds as flag-kinds
@@ -63,7 +65,8 @@ header-given-one : (a b : BlockHeader) → headerMeant a ≡ headerMeant b → a
 header-given-one = one-by headerMeant headerBack (λ h. refl)
 
 group-given-one : (a b : Group) → groupMeant a ≡ groupMeant b → a ≡ b
-group-given-one = one-by groupMeant (λ g. record { «record_id_size» = g .idSize; «data_bytes» = g .dataBytes }) (λ g. refl)
+group-given-one =
+    one-by groupMeant (λ g. record { «record_id_size» = g .idSize; «data_bytes» = g .dataBytes; «invalidation_bytes» = g .invalidationBytes }) (λ g. refl)
 
 abbrev numberBack : Given → NumberGiven
 numberBack (givenUnsigned n) = Unsigned n
@@ -107,6 +110,9 @@ value-reply-settled = settled (λ κs a y z b c p q. (p ∙ sym q, refl))
 
 pub valid-value-reply-settled : Settled 0 valid-value-reply-kinds.ps valid-value-reply-kinds.r valid-value-reply.Asked valid-value-reply.ensures valid-value-reply.Learnt
 valid-value-reply-settled = settled (λ κs a y z b c p q. (p ∙ sym q, refl))
+
+pub validity-reply-settled : Settled 0 validity-reply-kinds.ps validity-reply-kinds.r validity-reply.Asked validity-reply.ensures validity-reply.Learnt
+validity-reply-settled = settled (λ κs a y z b c p q. (p ∙ sym q, refl))
 
 pub text-reply-settled : Settled 0 text-reply-kinds.ps text-reply-kinds.r text-reply.Asked text-reply.ensures text-reply.Learnt
 text-reply-settled = settled (λ κs a y z b c p q. (p ∙ sym q, refl))

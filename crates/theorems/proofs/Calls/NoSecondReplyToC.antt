@@ -40,6 +40,10 @@ use Rattle.mf4.proofs.mf4_check_validity.Kinds as mf4-check-validity-kinds
 use Rattle.mf4.proofs.mf4_check_validity.Reads as mf4-check-validity
 use Rattle.mf4.proofs.mf4_decode_valid_value.Kinds as mf4-decode-valid-value-kinds
 use Rattle.mf4.proofs.mf4_decode_valid_value.Reads as mf4-decode-valid-value
+use Rattle.mf4.proofs.mf4_check_validity_unbounded.Kinds as mf4-check-validity-unbounded-kinds
+use Rattle.mf4.proofs.mf4_check_validity_unbounded.Reads as mf4-check-validity-unbounded
+use Rattle.mf4.proofs.mf4_decode_valid_value_unbounded.Kinds as mf4-decode-valid-value-unbounded-kinds
+use Rattle.mf4.proofs.mf4_decode_valid_value_unbounded.Reads as mf4-decode-valid-value-unbounded
 use Rattle.mf4.proofs.mf4_decode_double_bits.Kinds as mf4-decode-double-bits-kinds
 use Rattle.mf4.proofs.mf4_decode_double_bits.Reads as mf4-decode-double-bits
 use Rattle.mf4.proofs.mf4_write_value.Kinds as mf4-write-value-kinds
@@ -109,6 +113,12 @@ mf4-check-validity-settled = settled (λ κs a y z b c p q. (p ∙ sym q, refl))
 
 pub mf4-decode-valid-value-settled : Settled 1 mf4-decode-valid-value-kinds.ps mf4-decode-valid-value-kinds.r mf4-decode-valid-value.Asked mf4-decode-valid-value.ensures mf4-decode-valid-value.Learnt
 mf4-decode-valid-value-settled = settled (λ κs a y z b c p q. (p ∙ sym q, refl))
+
+pub mf4-check-validity-unbounded-settled : Settled 1 mf4-check-validity-unbounded-kinds.ps mf4-check-validity-unbounded-kinds.r mf4-check-validity-unbounded.Asked mf4-check-validity-unbounded.ensures mf4-check-validity-unbounded.Learnt
+mf4-check-validity-unbounded-settled = settled (λ κs a y z b c p q. (p ∙ sym q, refl))
+
+pub mf4-decode-valid-value-unbounded-settled : Settled 1 mf4-decode-valid-value-unbounded-kinds.ps mf4-decode-valid-value-unbounded-kinds.r mf4-decode-valid-value-unbounded.Asked mf4-decode-valid-value-unbounded.ensures mf4-decode-valid-value-unbounded.Learnt
+mf4-decode-valid-value-unbounded-settled = settled (λ κs a y z b c p q. (p ∙ sym q, refl))
 
 pub mf4-decode-double-bits-settled : Settled 1 mf4-decode-double-bits-kinds.ps mf4-decode-double-bits-kinds.r mf4-decode-double-bits.Asked mf4-decode-double-bits.ensures mf4-decode-double-bits.Learnt
 mf4-decode-double-bits-settled = settled (λ κs a y z b c p q. (p ∙ sym q, refl))

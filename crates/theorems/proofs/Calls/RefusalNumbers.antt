@@ -1,4 +1,4 @@
--- Which numbers refusals have: a field's are 18 to 22, those of blocks, chains and records 2 to 17, and a payload's also 21, 23
+-- Which numbers refusals have: a field's are 18 to 22, its validity's 28 and 29, those of blocks, chains and records 2 to 17, and a payload's also 21, 23
 -- and 35; of a number that is written `WrittenEnds` has them, and of a list of channels `Overlaps`. So a reply of 0 is an answer.
 use mathlib.Core.Path.{_≡_, refl, sym}
 use mathlib.Core.Logic.{_⊎_, inl, inr}
@@ -16,7 +16,7 @@ use Rattle.definitions.specs.Header.{Header, headerOf, headerBytes, headerWritt
 use Rattle.definitions.specs.DataType.{Kind, kindOf}
 use Rattle.definitions.specs.DataList.{DataList, Lengths, idDL, listOf, linksOf, restOf, restIn, flagsAt, listBytes, listSize, flagsFor, restFor, unwritable, listWritten}
 use Rattle.definitions.specs.ChannelBlock.{ChannelBlock, idCN, fieldsAt, fieldsOf, channelBlockOf, channelBytes, channelWritten}
-use Rattle.definitions.specs.Channel.{Channel, Group, startOf, spanOf, isInteger, isFloating, isNumber, valueBy, valueOf, validValueOf}
+use Rattle.definitions.specs.Channel.{Channel, Group, startOf, spanOf, isInteger, isFloating, isNumber, valueBy, valueOf, validOf, validValueOf, recordLength, hasInvalidationBit, areaOf, boundedValidOf, boundedValueOf}
 use Rattle.definitions.specs.Chain.{Block, idDT, dataLimit, fileLimit, fragmentLimit, hasHeader, blockAt, declared, judged, fragmentOf, fragments, agrees, admitted, listAt, Declaration, declarationOf, keepsTo, chainedAt, lists, listLimit, chainOf, totalOf, dataLength, joined, badSize, recordOf, fetched, valueFetched}
 use Rattle.definitions.specs.Payload.{idSD, positionOf, payloadAt, joinedOf, payloadOf}
 use Rattle.definitions.proofs.Replies.{not-answered, both}
@@ -35,6 +35,10 @@ OfLists n t = leb 2 n && leb n 13 ≡ true
 
 abbrev pub OfFields : ℕ → ℕ → Type 0
 OfFields n t = leb 18 n && leb n 22 ≡ true
+
+-- of validity, where the invalidation bytes have an end
+abbrev pub OfArea : ℕ → ℕ → Type 0
+OfArea n t = leb 28 n && leb n 29 ≡ true
 
 pub between : (a b n : ℕ) → leb a n && leb n b ≡ true → (a ≤ n) × (n ≤ b)
 between a b n h = let p = both (leb a n) (leb n b) h in (leb-true a n (p .0), leb-true n b (p .1))
@@ -230,15 +234,38 @@ pub valid-value-numbered : (s : List ℕ) (g : Group) (c : Channel) → Numbered
 unfolding validValueOf
 valid-value-numbered s g c = of-following OfFields (valueOf s (g .idSize) c) _ (value-numbered s (g .idSize) c) (λ v. of-answer OfFields _)
 
--- those of a record, or of its field
+-- ---- validity
+
+area-numbered : (k : ℕ) (g : Group) (c : Channel) → Numbered OfArea (areaOf k g c)
+unfolding areaOf
+area-numbered k g c =
+    of-test OfArea (not (eqb k (recordLength g))) 28 0 _ refl
+    (of-test OfArea (hasInvalidationBit c && not (ltb (c .invalidationBit) (8 * g .invalidationBytes))) 29 0 _ refl (of-answer OfArea tt))
+
+-- those of a field, or of its validity
+abbrev pub OfBounded : ℕ → ℕ → Type 0
+OfBounded n t = OfFields n t ⊎ OfArea n t
+
+module _ (s : List ℕ) (g : Group) (c : Channel) where
+  pub bounded-valid-numbered : Numbered OfArea (boundedValidOf s g c)
+  unfolding boundedValidOf
+  bounded-valid-numbered = of-following OfArea (areaOf (length s) g c) _ (area-numbered (length s) g c) (λ u. of-answer OfArea (validOf s g c))
+
+  pub bounded-value-numbered : Numbered OfBounded (boundedValueOf s g c)
+  unfolding boundedValueOf
+  bounded-value-numbered =
+      of-following OfBounded (valueOf s (g .idSize) c) _ (weaker _ (λ n t p. inl p) (value-numbered s (g .idSize) c))
+      (λ v. of-following OfBounded (boundedValidOf s g c) _ (weaker _ (λ n t p. inr p) bounded-valid-numbered) (λ b. of-answer OfBounded _))
+
+-- those of a record, or of its field and its validity
 abbrev pub OfFetches : ℕ → ℕ → Type 0
-OfFetches n t = OfBlocks n t ⊎ OfFields n t
+OfFetches n t = OfBlocks n t ⊎ OfBounded n t
 
 pub value-fetched-numbered : (f : List ℕ) (start k size : ℕ) (out : List ℕ) (g : Group) (c : Channel) → Numbered OfFetches (valueFetched f start k size g c out .reply)
 unfolding valueFetched
 value-fetched-numbered f start k size out g c =
     of-following OfFetches (fetched f start k size out .reply) _ (weaker _ (λ n t p. inl p) (fetched-numbered f start k size out))
-    (λ u. weaker _ (λ n t p. inr p) (valid-value-numbered (take size (fetched f start k size out .buffer)) g c))
+    (λ u. weaker _ (λ n t p. inr p) (bounded-value-numbered (take size (fetched f start k size out .buffer)) g c))
 
 -- ---- a payload
 

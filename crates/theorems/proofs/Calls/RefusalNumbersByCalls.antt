@@ -18,11 +18,12 @@ use Rattle.encodings.specs.Meaning.{encodingOf}
 use Rattle.text.specs.Meaning.{textReply}
 use Rattle.encodings.specs.declared.encoding.Encoding.{Encoding}
 use Rattle.text.specs.declared.answer.TextWrite.{TextWrite}
-use Rattle.fields.specs.Meaning.{channelMeant, groupMeant, valueReply, validValueReply}
+use Rattle.fields.specs.Meaning.{channelMeant, groupMeant, valueReply, validValueReply, validityReply}
 use Rattle.fields.specs.declared.channel.Channel.{Channel}
 use Rattle.fields.specs.declared.group.Group.{Group}
 use Rattle.fields.specs.declared.value.ValueRead.{ValueRead}
 use Rattle.fields.specs.declared.value.ValidValueRead.{ValidValueRead}
+use Rattle.fields.specs.declared.validity.ValidityRead.{ValidityRead}
 use Rattle.encoder.specs.Meaning.{givenMeant, writtenReply as storedReply}
 use Rattle.encoder.specs.declared.number.NumberGiven.{NumberGiven}
 use Rattle.encoder.specs.declared.encode.ValueWritten.{ValueWritten}
@@ -34,8 +35,8 @@ use Rattle.records.specs.declared.record.RecordRead.{RecordRead}
 use Rattle.payloads.specs.Meaning.{payloadReply}
 use Rattle.payloads.specs.declared.value.PayloadRead.{PayloadRead}
 use Rattle.mf4.specs.Clauses.{Slice}
-use Rattle.theorems.specs.Clauses.{ReadsHeader, WritesHeader, ReadsList, WritesEqual, WritesVariable, ReadsChannel, WritesChannel, WritesText, ReadsValue, ReadsValidValue, WritesValue, ReadsLength, ReadsRecord, ReadsRecordValue, ReadsPayload}
-use Rattle.theorems.proofs.Calls.RefusalNumbers.{Numbered, OfBlocks, OfFields, OfFetches, OfPayloads, header-numbered, list-numbered, channel-numbered, header-written-numbered, channel-written-numbered, list-written-numbered, text-written-numbered, length-numbered, fetched-numbered, value-numbered, valid-value-numbered, value-fetched-numbered}
+use Rattle.theorems.specs.Clauses.{ReadsHeader, WritesHeader, ReadsList, WritesEqual, WritesVariable, ReadsChannel, WritesChannel, WritesText, ReadsValue, ReadsValidValue, ReadsBoundedValue, ChecksBoundedValidity, WritesValue, ReadsLength, ReadsRecord, ReadsRecordValue, ReadsPayload}
+use Rattle.theorems.proofs.Calls.RefusalNumbers.{Numbered, OfBlocks, OfFields, OfArea, OfBounded, OfFetches, OfPayloads, header-numbered, list-numbered, channel-numbered, header-written-numbered, channel-written-numbered, list-written-numbered, text-written-numbered, length-numbered, fetched-numbered, value-numbered, valid-value-numbered, bounded-valid-numbered, bounded-value-numbered, value-fetched-numbered}
 use Rattle.theorems.proofs.Calls.AnswersByCalls.{of-outcome}
 use Rattle.theorems.proofs.Payloads.PayloadEnds.{fetched-payload-numbered}
 use Rattle.theorems.proofs.Writing.WrittenEnds.{OfWriting, value-written-numbered}
@@ -86,6 +87,14 @@ value-read-numbered κs bytes idSize channel y p = numbered p (value-numbered (b
 pub valid-value-read-numbered : (κs : Lfts 1) (bytes : Slice) (group : Group) (channel : Channel) (y : ValidValueRead)
     → ReadsValidValue κs bytes group channel y → Numbered OfFields (validValueReply y)
 valid-value-read-numbered κs bytes group channel y p = numbered p (valid-value-numbered (bytes .now) (groupMeant group) (channelMeant channel))
+
+pub bounded-value-read-numbered : (κs : Lfts 1) (bytes : Slice) (group : Group) (channel : Channel) (y : ValidValueRead)
+    → ReadsBoundedValue κs bytes group channel y → Numbered OfBounded (validValueReply y)
+bounded-value-read-numbered κs bytes group channel y p = numbered p (bounded-value-numbered (bytes .now) (groupMeant group) (channelMeant channel))
+
+pub bounded-validity-numbered : (κs : Lfts 1) (bytes : Slice) (group : Group) (channel : Channel) (y : ValidityRead)
+    → ChecksBoundedValidity κs bytes group channel y → Numbered OfArea (validityReply y)
+bounded-validity-numbered κs bytes group channel y p = numbered p (bounded-valid-numbered (bytes .now) (groupMeant group) (channelMeant channel))
 
 pub value-write-numbered : (κs : Lfts 1) (idSize : ℕ) (channel : Channel) (given : NumberGiven) (bytes : Slice) (y : ValueWritten) (after : List ℕ)
     → WritesValue κs idSize channel given bytes y after → Numbered OfWriting (storedReply y)

@@ -13,7 +13,7 @@ use Rattle.block_replies.specs.Replies.{Returned, returned, returnedBy, headerG
 use Rattle.replies.specs.Replies.{textC, doneC}
 use Rattle.block_replies.specs.Channels.{blockGiven, channelC, channelGiven}
 use Rattle.replies.specs.Overlaps.{overlapC}
-use Rattle.replies.specs.Values.{groupGiven, valueC, validValueC, lengthC, payloadC}
+use Rattle.replies.specs.Values.{groupGiven, valueC, validValueC, validityC, lengthC, payloadC}
 use Rattle.replies.specs.Stored.{numberGiven}
 use Rattle.block_replies.specs.declared.header.Mf4Header.{Mf4Header}
 use Rattle.block_replies.specs.declared.header.Mf4HeaderReply.{Mf4HeaderReply}
@@ -26,14 +26,15 @@ use Rattle.block_replies.specs.declared.channel.Mf4Channel.{Mf4Channel}
 use Rattle.replies.specs.declared.group.Mf4Group.{Mf4Group}
 use Rattle.replies.specs.declared.values.Mf4ValueReply.{Mf4ValueReply}
 use Rattle.replies.specs.declared.valid_values.Mf4ValidValueReply.{Mf4ValidValueReply}
+use Rattle.replies.specs.declared.validity.Mf4ValidityReply.{Mf4ValidityReply}
 use Rattle.replies.specs.declared.fetches.Mf4LengthReply.{Mf4LengthReply}
 use Rattle.replies.specs.declared.done.Mf4DoneReply.{Mf4DoneReply}
 use Rattle.replies.specs.declared.stored.Mf4Number.{Mf4Number}
 use Rattle.replies.specs.declared.payload.Mf4PayloadReply.{Mf4PayloadReply}
 use Rattle.replies.specs.declared.overlap.Mf4OverlapReply.{Mf4OverlapReply}
 use Rattle.mf4.specs.Clauses.{Slice}
-use Rattle.theorems.specs.ClausesToC.{ReadsHeaderC, WritesHeaderC, ReadsListC, WritesEqualC, WritesVariableC, ReadsChannelC, WritesChannelC, WritesTextC, ReadsValueC, ReadsValidValueC, WritesValueC, ReadsLengthC, ReadsRecordC, ReadsRecordValueC, ReadsPayloadC}
-use Rattle.theorems.proofs.Calls.RefusalNumbers.{Numbered, OfBlocks, OfFields, OfFetches, OfPayloads, header-numbered, list-numbered, channel-numbered, header-written-numbered, channel-written-numbered, list-written-numbered, text-written-numbered, length-numbered, fetched-numbered, value-numbered, valid-value-numbered, value-fetched-numbered}
+use Rattle.theorems.specs.ClausesToC.{ReadsHeaderC, WritesHeaderC, ReadsListC, WritesEqualC, WritesVariableC, ReadsChannelC, WritesChannelC, WritesTextC, ReadsValueC, ReadsValidValueC, ReadsUnboundedC, ChecksValidityC, WritesValueC, ReadsLengthC, ReadsRecordC, ReadsRecordValueC, ReadsPayloadC}
+use Rattle.theorems.proofs.Calls.RefusalNumbers.{Numbered, OfBlocks, OfFields, OfArea, OfBounded, OfFetches, OfPayloads, header-numbered, list-numbered, channel-numbered, header-written-numbered, channel-written-numbered, list-written-numbered, text-written-numbered, length-numbered, fetched-numbered, value-numbered, valid-value-numbered, bounded-valid-numbered, bounded-value-numbered, value-fetched-numbered}
 use Rattle.theorems.proofs.Texts.TextClausesToC.{text-clause}
 use Rattle.theorems.proofs.Payloads.PayloadEnds.{fetched-payload-numbered}
 use Rattle.theorems.proofs.Writing.WrittenEnds.{OfWriting, value-written-numbered}
@@ -116,9 +117,20 @@ value-read-numbered κs bytes idSize channel y p =
     numbered valueC (λ (x : Mf4ValueReply). x .reply) (λ (x : Mf4ValueReply). x .told) (λ v. refl) (λ n t. (refl, refl)) _ p (value-numbered (bytes .now) idSize (channelGiven channel))
 
 pub valid-value-read-numbered : (κs : Lfts 1) (bytes : Slice) (group : Mf4Group) (channel : Mf4Channel) (y : Mf4ValidValueReply)
-    → ReadsValidValueC κs bytes group channel y → NumberedC OfFields (y .reply) (y .told)
+    → ReadsValidValueC κs bytes group channel y → NumberedC OfBounded (y .reply) (y .told)
 valid-value-read-numbered κs bytes group channel y p =
+    valid-value _ p (bounded-value-numbered (bytes .now) (groupGiven group) (channelGiven channel))
+
+pub unbounded-read-numbered : (κs : Lfts 1) (bytes : Slice) (group : Mf4Group) (channel : Mf4Channel) (y : Mf4ValidValueReply)
+    → ReadsUnboundedC κs bytes group channel y → NumberedC OfFields (y .reply) (y .told)
+unbounded-read-numbered κs bytes group channel y p =
     valid-value _ p (valid-value-numbered (bytes .now) (groupGiven group) (channelGiven channel))
+
+pub check-validity-numbered : (κs : Lfts 1) (bytes : Slice) (group : Mf4Group) (channel : Mf4Channel) (y : Mf4ValidityReply)
+    → ChecksValidityC κs bytes group channel y → NumberedC OfArea (y .reply) (y .told)
+check-validity-numbered κs bytes group channel y p =
+    numbered validityC (λ (x : Mf4ValidityReply). x .reply) (λ (x : Mf4ValidityReply). x .told) (λ b. refl) (λ n t. (refl, refl)) _ p
+    (bounded-valid-numbered (bytes .now) (groupGiven group) (channelGiven channel))
 
 pub value-write-numbered : (κs : Lfts 1) (idSize : ℕ) (channel : Mf4Channel) (value : Mf4Number) (bytes : Slice) (y : Mf4DoneReply) (after : List ℕ)
     → WritesValueC κs idSize channel value bytes y after → NumberedC OfWriting (y .reply) (y .told)

@@ -6,7 +6,7 @@ use mathlib.Core.List.{List}
 use Prim.Native.Nat.{ℕ, zero, suc, _+_, _≤_, _<_}
 use native.Mathlib.Omega.{arith}
 use lib.Dec.{ltb, leb, eqb}
-use borrow.Author.Tests.{ltb-true, lt-ltb, leb-false, lt-leb, eqb-true, eq-eqb, eqb-false}
+use borrow.Author.Tests.{ltb-true, ltb-false, lt-ltb, le-ltb, leb-false, lt-leb, eqb-true, eq-eqb, eqb-false}
 use Rattle.definitions.specs.Reply.{Reply, Outcome, answer, refusal, if_then_else_, andThen, onAnswer}
 use Rattle.definitions.proofs.Replies.{not-answered, both}
 use Rattle.theorems.specs.Exactly.{Exactly}
@@ -43,6 +43,13 @@ tests-more a b = go (leb a b) refl
     go : (t : Bool) → leb a b ≡ t → Tests (b < a) (not t)
     go true e = record { holds = λ h. absurd (true≢false (sym h)); shows = λ h. absurd (true≢false (sym e ∙ lt-leb a b h)) }
     go false e = record { holds = λ h. leb-false a b e; shows = λ h. refl }
+
+pub tests-no-less : (a b : ℕ) → Tests (b ≤ a) (not (ltb a b))
+tests-no-less a b = go (ltb a b) refl
+  where
+    go : (t : Bool) → ltb a b ≡ t → Tests (b ≤ a) (not t)
+    go true e = record { holds = λ h. absurd (true≢false (sym h)); shows = λ h. absurd (true≢false (sym e ∙ le-ltb a b h)) }
+    go false e = record { holds = λ h. ltb-false a b e; shows = λ h. refl }
 
 pub tests-both : {P Q : Type 0} (a b : Bool) → Tests P a → Tests Q b → Tests (P × Q) (a && b)
 tests-both a b p q = record {

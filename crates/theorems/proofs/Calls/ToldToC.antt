@@ -16,7 +16,7 @@ use Rattle.definitions.specs.Bytes.{twosComplement, u64At}
 use Rattle.definitions.specs.Unicode.{Encoding, textWritten}
 use Rattle.definitions.specs.Header.{headerOf, headerWritten}
 use Rattle.definitions.specs.DataType.{DataType, unsignedInteger, signedInteger, float, complex, string, byteArray, mimeSample, mimeStream, canOpenDate, canOpenTime, unknown, codeOf, ownsCode, kindOf}
-use Rattle.definitions.specs.Channel.{Channel, Group, Value, ValidValue, signed, decoded, startOf, spanOf, numberIn, isNumber, isInteger, isFloating, valueBy, valueOf, validOf, validValueOf}
+use Rattle.definitions.specs.Channel.{Channel, Group, Value, ValidValue, signed, decoded, startOf, spanOf, numberIn, isNumber, isInteger, isFloating, valueBy, valueOf, validOf, validValueOf, boundedValidOf, boundedValueOf}
 use Rattle.definitions.specs.ChannelBlock.{ChannelBlock, fieldsAt, described, channelBlockOf, channelWritten}
 use Rattle.definitions.specs.DataList.{listOf, listWritten, equal, variable}
 use Rattle.definitions.specs.WrittenValue.{valueWritten}
@@ -27,6 +27,7 @@ use Rattle.block_replies.specs.Replies.{Returned, returned, returnedBy, written
 use Rattle.replies.specs.Replies.{textC, doneC}
 use Rattle.block_replies.specs.Channels.{blockGiven, channelC, channelGiven}
 use Rattle.replies.specs.Values.{groupGiven, validValueC}
+use Rattle.replies.specs.declared.validity.Mf4ValidityReply.{Mf4ValidityReply}
 use Rattle.replies.specs.Stored.{numberGiven}
 use Rattle.block_replies.specs.declared.written.Mf4WrittenReply.{Mf4WrittenReply}
 use Rattle.block_replies.specs.declared.header.Mf4Header.{Mf4Header}
@@ -43,13 +44,13 @@ use Rattle.replies.specs.declared.fetches.Mf4LengthReply.{Mf4LengthReply}
 use Rattle.replies.specs.declared.done.Mf4DoneReply.{Mf4DoneReply}
 use Rattle.replies.specs.declared.stored.Mf4Number.{Mf4Number}
 use Rattle.block_replies.proofs.ToldToC.{Tellable, Any, OwnType, headerAgain, header-told, writtenAgain, written-told, listAgain, list-told, channelAgain, description-back, channel-told}
-use Rattle.replies.proofs.ToldToC.{Reversible, textAgain, text-told, valueReplyAgain, value-told, validValueAgain, valid-value-told, lengthAgain, length-told, doneAgain, done-told}
-use Rattle.theorems.specs.ClausesToC.{ReadsHeaderC, WritesHeaderC, ReadsListC, WritesEqualC, WritesVariableC, ReadsChannelC, WritesChannelC, WritesTextC, ReadsValueC, ReadsValidValueC, ReadsLengthC, WritesValueC, ReadsRecordC, ReadsRecordValueC}
+use Rattle.replies.proofs.ToldToC.{Reversible, textAgain, text-told, valueReplyAgain, value-told, validValueAgain, valid-value-told, validityAgain, validity-told, lengthAgain, length-told, doneAgain, done-told}
+use Rattle.theorems.specs.ClausesToC.{ReadsHeaderC, WritesHeaderC, ReadsListC, WritesEqualC, WritesVariableC, ReadsChannelC, WritesChannelC, WritesTextC, ReadsValueC, ReadsValidValueC, ReadsUnboundedC, ChecksValidityC, ReadsLengthC, WritesValueC, ReadsRecordC, ReadsRecordValueC}
 use Rattle.theorems.proofs.Types.TypeCodes.{code-back, code-owned}
 use Rattle.theorems.proofs.Blocks.ChannelAnswers.{channel-stands}
 use Rattle.theorems.proofs.Texts.TextClausesToC.{text-clause}
 use Rattle.theorems.proofs.Writing.WrittenEnds.{OfWriting, value-written-numbered}
-use Rattle.theorems.proofs.Calls.RefusalNumbers.{Numbered, OfBlocks, between, header-numbered, list-numbered, channel-numbered, header-written-numbered, channel-written-numbered, list-written-numbered, text-written-numbered, length-numbered, fetched-numbered}
+use Rattle.theorems.proofs.Calls.RefusalNumbers.{Numbered, OfBlocks, OfArea, between, header-numbered, list-numbered, channel-numbered, header-written-numbered, channel-written-numbered, list-written-numbered, text-written-numbered, length-numbered, fetched-numbered, bounded-valid-numbered}
 
 -- ---- the values of fields can be told
 
@@ -115,11 +116,25 @@ valid-value-tellable s g c = go (valueOf s (g .idSize) c) (value-tellable s (g .
     go (answer v) h = h
     go (refusal n t) h = h
 
+pub bounded-value-tellable : (s : List ℕ) (g : Group) (c : Channel) → Tellable Judged (boundedValueOf s g c)
+unfolding boundedValueOf
+bounded-value-tellable s g c = go (valueOf s (g .idSize) c) (boundedValidOf s g c) (value-tellable s (g .idSize) c) (bounded-valid-numbered s g c)
+  where
+    go : (r : Reply Value) (q : Reply Bool) → Tellable Reversible r → Numbered OfArea q
+        → Tellable Judged (andThen r (λ v. andThen q (λ b. answer (record { value = v; valid = b }))))
+    go (answer v) (answer b) h i = h
+    go (answer v) (refusal n t) h i = omega (arith, between 28 29 n (i n t refl) .0)
+    go (refusal n t) q h i = h
+
 -- ---- what each call returns
 
 of-blocks : {A : Type 0} (r : Reply A) → Numbered OfBlocks r → Tellable Any r
 of-blocks (answer a) h = tt
 of-blocks (refusal n t) h = omega (arith, between 2 17 n (h n t refl) .0)
+
+of-area : {A : Type 0} (r : Reply A) → Numbered OfArea r → Tellable Any r
+of-area (answer a) h = tt
+of-area (refusal n t) h = omega (arith, between 28 29 n (h n t refl) .0)
 
 of-writing : {A : Type 0} (r : Reply A) → Numbered OfWriting r → Tellable Any r
 of-writing (answer a) h = tt
@@ -192,9 +207,19 @@ pub mf4-decode-value-told : (κs : Lfts 1) (bytes : Slice) (idSize : ℕ) (chann
 mf4-decode-value-told κs bytes idSize channel y p = ap valueReplyAgain p ∙ value-told _ (value-tellable (bytes .now) idSize (channelGiven channel))
 
 pub mf4-decode-valid-value-told : (κs : Lfts 1) (bytes : Slice) (group : Mf4Group) (channel : Mf4Channel) (y : Mf4ValidValueReply)
-    → ReadsValidValueC κs bytes group channel y → validValueAgain y ≡ validValueOf (bytes .now) (groupGiven group) (channelGiven channel)
+    → ReadsValidValueC κs bytes group channel y → validValueAgain y ≡ boundedValueOf (bytes .now) (groupGiven group) (channelGiven channel)
 mf4-decode-valid-value-told κs bytes group channel y p =
+    ap validValueAgain p ∙ valid-value-told _ (bounded-value-tellable (bytes .now) (groupGiven group) (channelGiven channel))
+
+pub mf4-decode-valid-value-unbounded-told : (κs : Lfts 1) (bytes : Slice) (group : Mf4Group) (channel : Mf4Channel) (y : Mf4ValidValueReply)
+    → ReadsUnboundedC κs bytes group channel y → validValueAgain y ≡ validValueOf (bytes .now) (groupGiven group) (channelGiven channel)
+mf4-decode-valid-value-unbounded-told κs bytes group channel y p =
     ap validValueAgain p ∙ valid-value-told _ (valid-value-tellable (bytes .now) (groupGiven group) (channelGiven channel))
+
+pub mf4-check-validity-told : (κs : Lfts 1) (bytes : Slice) (group : Mf4Group) (channel : Mf4Channel) (y : Mf4ValidityReply)
+    → ChecksValidityC κs bytes group channel y → validityAgain y ≡ boundedValidOf (bytes .now) (groupGiven group) (channelGiven channel)
+mf4-check-validity-told κs bytes group channel y p =
+    ap validityAgain p ∙ validity-told _ (of-area _ (bounded-valid-numbered (bytes .now) (groupGiven group) (channelGiven channel)))
 
 pub mf4-data-length-told : (κs : Lfts 1) (file : Slice) (start : ℕ) (y : Mf4LengthReply) → ReadsLengthC κs file start y → lengthAgain y ≡ dataLength (file .now) start
 mf4-data-length-told κs file start y p = ap lengthAgain p ∙ length-told _ (of-blocks _ (length-numbered (file .now) start))
@@ -215,8 +240,8 @@ unfolding valueFetched
 value-fetched-tellable f start k size g c out = go (fetched f start k size out .reply) (fetched-numbered f start k size out)
   where
     go : (r : Reply (Unit {0})) → Numbered OfBlocks r
-        → Tellable Judged (andThen r (λ u. validValueOf (take size (fetched f start k size out .buffer)) g c))
-    go (answer u) h = valid-value-tellable (take size (fetched f start k size out .buffer)) g c
+        → Tellable Judged (andThen r (λ u. boundedValueOf (take size (fetched f start k size out .buffer)) g c))
+    go (answer u) h = bounded-value-tellable (take size (fetched f start k size out .buffer)) g c
     go (refusal n t) h = omega (arith, between 2 17 n (h n t refl) .0)
 
 pub mf4-record-value-told : (κs : Lfts 2) (file : Slice) (start number size : ℕ) (group : Mf4Group) (channel : Mf4Channel) (out : Slice) (y : Mf4ValidValueReply) (after : List ℕ)

@@ -6,7 +6,7 @@ use Rattle.definitions.specs.Reply.{answer}
 use Rattle.definitions.specs.Bytes.{little, leOf, le, les}
 use Rattle.definitions.specs.Unicode.{stopped, beforeNul, beforeZeroUnit, isScalar, utf8Of, sixBits, utf8Two, utf8Three, utf8Four, utf8Char, utf16Char, charOf, charAt, chars, placeholder, textOf}
 use Rattle.definitions.specs.DataType.{unsignedInteger}
-use Rattle.definitions.specs.Channel.{unsigned, decoded, valueBy, valueOf, recordDouble, validOf}
+use Rattle.definitions.specs.Channel.{unsigned, decoded, valueBy, valueOf, recordDouble, validOf, areaOf, boundedValidOf, boundedValueOf}
 use Rattle.definitions.specs.WrittenValue.{fieldGiven, valueWritten}
 use Rattle.definitions.specs.Header.{headerOf, headerBytes}
 use Rattle.definitions.specs.DataList.{listOf, linksOf, restOf, listBytes}
@@ -16,7 +16,7 @@ use Rattle.definitions.specs.Payload.{positionOf, payloadAt, joinedOf, payloadO
 use Rattle.theorems.specs.Examples.{channel, copies, Said, aValue, aNumber, Claim}
 
 pub claim : Claim
-unfolding copies toUnsigned ofBits toBits ofInt leOf le les stopped beforeNul beforeZeroUnit isScalar utf8Of sixBits utf8Two utf8Three utf8Four utf8Char utf16Char charOf charAt chars placeholder textOf decoded valueBy valueOf recordDouble validOf fieldGiven valueWritten headerOf headerBytes listOf linksOf restOf listBytes fieldsOf channelBlockOf joined total blockAt fragmentOf fragments listAt chainedAt lists chainOf recordOf fetched positionOf payloadAt joinedOf payloadOf payloadValueOf payloadFetched
+unfolding copies toUnsigned ofBits toBits ofInt leOf le les stopped beforeNul beforeZeroUnit isScalar utf8Of sixBits utf8Two utf8Three utf8Four utf8Char utf16Char charOf charAt chars placeholder textOf decoded valueBy valueOf recordDouble validOf areaOf boundedValidOf boundedValueOf fieldGiven valueWritten headerOf headerBytes listOf linksOf restOf listBytes fieldsOf channelBlockOf joined total blockAt fragmentOf fragments listAt chainedAt lists chainOf recordOf fetched positionOf payloadAt joinedOf payloadOf payloadValueOf payloadFetched
 claim = refl
 
 -- the claim is about the definitions: without computing any, it gives what one of them answers

@@ -1,16 +1,16 @@
--- When each of 18 to 22 is given, exactly, and that there is no other reply without a value.
+-- When each of 18 to 22 is given, and of 28 and 29, exactly, and that there is no other reply without a value.
 use mathlib.Core.Path.{_≡_}
-use mathlib.Core.Bool.{Bool, true, _&&_}
+use mathlib.Core.Bool.{Bool, true, not, _&&_}
 use mathlib.Core.List.{List}
-use Prim.Native.Nat.{ℕ}
+use Prim.Native.Nat.{ℕ, _*_}
 use lib.ListN.{length}
 use lib.Dec.{ltb, eqb}
 use Rattle.definitions.specs.DataType.{Kind, kindOf}
-use Rattle.definitions.specs.Channel.{Channel, Group, isInteger, isFloating, isNumber, valueBy, valueOf, validValueOf}
-use Rattle.theorems.proofs.Calls.Answers.{value-exactly, valid-value-exactly}
-use Rattle.theorems.proofs.Calls.TestsInTurn.{Tests, tests-less, tests-equal, tests-true, tests-both, tests-neither, tested, last-tested, made-of}
+use Rattle.definitions.specs.Channel.{Channel, Group, isInteger, isFloating, isNumber, valueBy, valueOf, validOf, validValueOf, recordLength, hasInvalidationBit, areaOf, boundedValidOf, boundedValueOf}
+use Rattle.theorems.proofs.Calls.Answers.{value-exactly, valid-value-exactly, bounded-valid-exactly, bounded-value-exactly}
+use Rattle.theorems.proofs.Calls.TestsInTurn.{Tests, tests-less, tests-no-less, tests-equal, tests-not, tests-true, tests-both, tests-neither, tested, last-tested, going-on, made-of}
 use Rattle.theorems.specs.Refused.{RefusedExactly}
-use Rattle.theorems.specs.Causes.{needed, fieldRefused, FieldReplies}
+use Rattle.theorems.specs.Causes.{needed, fieldRefused, areaRefused, FieldReplies, ValidityReplies, BoundedReplies}
 
 module _ (s : List ℕ) (idSize : ℕ) (c : Channel) where
   abbrev k : Kind
@@ -38,3 +38,28 @@ valid-value-replies s g c = record {
   answers = valid-value-exactly s g c;
   refusals = made-of _ (valueOf s (g .idSize) c) (value-replies s (g .idSize) c .refusals);
 }
+
+-- ---- validity, where the invalidation bytes have an end
+
+pub area-refused : (n : ℕ) (g : Group) (c : Channel) → RefusedExactly (areaRefused n g c) (areaOf n g c)
+unfolding areaOf
+area-refused n g c =
+    let tells = hasInvalidationBit c in
+    tested _ 28 0 _ (tests-not (eqb n (recordLength g)) (tests-equal n (recordLength g)))
+    (last-tested _ 29 0 tt (tests-both tells _ (tests-true tells) (tests-no-less (c .invalidationBit) (8 * g .invalidationBytes))))
+
+module _ (s : List ℕ) (g : Group) (c : Channel) where
+  pub bounded-valid-replies : ValidityReplies (length s) g c (boundedValidOf s g c)
+  unfolding boundedValidOf
+  bounded-valid-replies = record {
+    answers = bounded-valid-exactly s g c;
+    refusals = made-of (λ u. validOf s g c) (areaOf (length s) g c) (area-refused (length s) g c);
+  }
+
+  pub bounded-value-replies : BoundedReplies s g c (boundedValueOf s g c)
+  unfolding boundedValueOf
+  bounded-value-replies = record {
+    answers = bounded-value-exactly s g c;
+    refusals = going-on (valueOf s (g .idSize) c) _ (value-replies s (g .idSize) c .refusals)
+        (λ v e. made-of _ (boundedValidOf s g c) (bounded-valid-replies .refusals));
+  }

@@ -6,7 +6,7 @@ use Prim.Native.Nat.{ℕ, _*_}
 use contract.Lifetimes.{Lfts}
 use lib.ListN.{length, drop}
 use Rattle.definitions.specs.Reply.{Reply, Outcome, answer, refusal}
-use Rattle.definitions.specs.Channel.{Channel, Group, ValidValue, validValueOf}
+use Rattle.definitions.specs.Channel.{Channel, Group, ValidValue, boundedValueOf}
 use Rattle.definitions.specs.Chain.{joined, fetched, fieldOf, valueFetched}
 use Rattle.words.proofs.Spans.{length-span}
 use Rattle.fields.specs.Meaning.{channelMeant, groupMeant}
@@ -45,11 +45,11 @@ module _ (f : List ℕ) (start k size : ℕ) (g : Group) (c : Channel) (out : Li
   abbrev left : Fetchable f start k size out → Reply ValidValue → Outcome ValidValue
   left h r = record { reply = r; buffer = recordLeft f start k size out h }
 
-  by-record : (h : Fetchable f start k size out) → valueFetched f start k size g c out ≡ left h (validValueOf (recordBytes f start k size out h) g c)
+  by-record : (h : Fetchable f start k size out) → valueFetched f start k size g c out ≡ left h (boundedValueOf (recordBytes f start k size out h) g c)
   unfolding valueFetched
   by-record h = ap (fieldOf size g c) (fetched-record f start k size out h) ∙ rw (front-of (recordBytes f start k size out h) (drop size out) size (long h))
 
-  by-field : (h : Fetchable f start k size out) (r : Reply ValidValue) → validValueOf (recordBytes f start k size out h) g c ≡ r
+  by-field : (h : Fetchable f start k size out) (r : Reply ValidValue) → boundedValueOf (recordBytes f start k size out h) g c ≡ r
       → Ends (valueFetched f start k size g c out)
   by-field h (refusal n t) e = no-value h n t e (by-record h ∙ ap (left h) e)
   by-field h (answer v) e = a-value h v e (by-record h ∙ ap (left h) e)
@@ -60,7 +60,7 @@ module _ (f : List ℕ) (start k size : ℕ) (g : Group) (c : Channel) (out : Li
       no-record n t e (ap (fieldOf size g c) (outcome-is (fetched f start k size out) e (fetch-leaves out f start k size .refused n t e)))
   by-reply (answer u) e =
       let h : Fetchable f start k size out = fetched-exactly f start k size out .only u e in
-      by-field h (validValueOf (recordBytes f start k size out h) g c) refl
+      by-field h (boundedValueOf (recordBytes f start k size out h) g c) refl
 
   pub value-ends : Ends (valueFetched f start k size g c out)
   value-ends = by-reply (fetched f start k size out .reply) refl

@@ -8,12 +8,12 @@ use lib.ListN.{length, take, drop}
 use lib.Dec.{ltb, eqb}
 use Rattle.definitions.specs.Reply.{Reply, Outcome, answer, andThen}
 use Rattle.definitions.specs.Bytes.{span}
-use Rattle.definitions.specs.Channel.{Channel, Group, validValueOf}
+use Rattle.definitions.specs.Channel.{Channel, Group, boundedValueOf}
 use Rattle.definitions.specs.Chain.{Block, idDT, fileLimit, recordLimit, total, joined, chainOf, totalOf, dataLength, badSize, recordOf, fetched, valueFetched}
 use Rattle.definitions.proofs.Replies.{answered}
 use Rattle.words.proofs.Spans.{length-span}
 use Rattle.theorems.specs.Exactly.{Fetchable, recordBytes}
-use Rattle.theorems.specs.Causes.{fieldRefused}
+use Rattle.theorems.specs.Causes.{boundedRefused}
 use Rattle.theorems.specs.Refused.{Cause, _orElse_, RefusedExactly}
 use Rattle.theorems.specs.ChainCauses.{chainRefused}
 use Rattle.theorems.specs.RecordCauses.{BadSize, JoinedSo, lengthRefused, recordRefused, ofRecord, recordValueRefused}
@@ -21,7 +21,7 @@ use Rattle.theorems.proofs.Chains.AcceptedChains.{accepted, accepts, ac
 use Rattle.theorems.proofs.Chains.ChainCauses.{chain-refused}
 use Rattle.theorems.proofs.Blocks.Rewritten.{front-of}
 use Rattle.theorems.proofs.Calls.Answers.{fetched-exactly, fetched-record}
-use Rattle.theorems.proofs.Fields.Causes.{valid-value-replies}
+use Rattle.theorems.proofs.Fields.Causes.{bounded-value-replies}
 use Rattle.theorems.proofs.Calls.TestsInTurn.{Tests, tests-less, tests-equal, tests-or, as-is, tested, last-tested, going-on, made-of, together, tested-lent, going-on-lent}
 
 pub total-refused : (id f : List ℕ) (start : ℕ) → RefusedExactly (chainRefused id f start) (totalOf id f start)
@@ -88,6 +88,6 @@ module _ (f : List ℕ) (start k size : ℕ) (out : List ℕ) where
         only = λ n t q. (h, so _ .only n t q);
       }))
 
-  pub value-fetched-refused : (g : Group) (c : Channel) → RefusedExactly (recordValueRefused f start k size out (g .idSize) c) (valueFetched f start k size g c out .reply)
+  pub value-fetched-refused : (g : Group) (c : Channel) → RefusedExactly (recordValueRefused f start k size out g c) (valueFetched f start k size g c out .reply)
   unfolding valueFetched
-  value-fetched-refused g c = in-record (λ s. fieldRefused s (g .idSize) c) (λ s. validValueOf s g c) (λ s. valid-value-replies s g c .refusals)
+  value-fetched-refused g c = in-record (λ s. boundedRefused s g c) (λ s. boundedValueOf s g c) (λ s. bounded-value-replies s g c .refusals)

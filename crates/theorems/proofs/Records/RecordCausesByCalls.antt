@@ -39,7 +39,7 @@ record-read-refused κs file start number size out y after p = as-is (of-outcome
 
 pub record-value-refused : (κs : Lfts 2) (file : Slice) (start : FileAddress) (number size : ℕ) (group : Group) (channel : Channel) (out : Slice) (y : ValidValueRead) (after : List ℕ)
     → ReadsRecordValue κs file start number size group channel out y after
-    → RefusedExactly (recordValueRefused (file .now) (start .0) number size (out .now) (groupMeant group .idSize) (channelMeant channel)) (validValueReply y)
+    → RefusedExactly (recordValueRefused (file .now) (start .0) number size (out .now) (groupMeant group) (channelMeant channel)) (validValueReply y)
 record-value-refused κs file start number size group channel out y after p =
     as-is (of-outcome p) (value-fetched-refused (file .now) (start .0) number size (out .now) (groupMeant group) (channelMeant channel))
 
@@ -56,7 +56,7 @@ mf4-read-record-refused κs file start number size out y after p =
 
 pub mf4-record-value-refused : (κs : Lfts 2) (file : Slice) (start number size : ℕ) (group : Mf4Group) (channel : Mf4Channel) (out : Slice) (y : Mf4ValidValueReply) (after : List ℕ)
     → ReadsRecordValueC κs file start number size group channel out y after
-    → ToldExactly (recordValueRefused (file .now) start number size (out .now) (groupGiven group .idSize) (channelGiven channel)) (y .reply) (y .told)
+    → ToldExactly (recordValueRefused (file .now) start number size (out .now) (groupGiven group) (channelGiven channel)) (y .reply) (y .told)
 mf4-record-value-refused κs file start number size group channel out y after p =
     let told = of-kind-told Judged (y .reply) (y .told) (y .kind) _ _
     (value-fetched-tellable (file .now) start number size (groupGiven group) (channelGiven channel) (out .now))

@@ -1,13 +1,13 @@
 -- Two records of one size, of whatever files, that hold a fixed field alike: fetched, they give the same value in it, whatever
 -- their other bits; and the same reply, where the invalidation bit is alike too. About each call's own clause.
-use mathlib.Core.Path.{_≡_, refl, sym, ap, _∙_}
+use mathlib.Core.Path.{_≡_, refl, sym, ap, ap₂, _∙_}
 use mathlib.Core.List.{List}
 use Prim.Native.Nat.{ℕ}
 use contract.Lifetimes.{Lfts}
+use lib.ListN.{length}
 use Rattle.definitions.specs.Reply.{Reply, answer, refusal, andThen}
-use Rattle.definitions.specs.Channel.{Channel, Group, Value, ValidValue, valueOf, validOf, validValueOf}
+use Rattle.definitions.specs.Channel.{Channel, Group, Value, ValidValue, valueOf, validOf, areaOf, boundedValidOf, boundedValueOf}
 use Rattle.definitions.specs.Chain.{valueFetched}
-use Rattle.fields.proofs.OneBit.{invalidationBitIn}
 use Rattle.fields.proofs.Back.{valid-value-one}
 use Rattle.fields.specs.Meaning.{channelMeant, groupMeant, validValueReply}
 use Rattle.fields.specs.declared.channel.Channel.{Channel as Description}
@@ -28,19 +28,27 @@ use Rattle.theorems.specs.ClausesToC.{ReadsRecordValueC}
 use Rattle.theorems.proofs.Calls.Answers.{value-of-record}
 use Rattle.theorems.proofs.Calls.AnswersByCalls.{of-outcome}
 use Rattle.theorems.proofs.Calls.ToldToC.{mf4-record-value-told}
-use Rattle.theorems.proofs.Fields.LocalityByCalls.{Alike, same-value, same-valid-value}
+use Rattle.theorems.proofs.Fields.LocalityByCalls as fields
+use Rattle.theorems.proofs.Fields.LocalityByCalls.{Alike, same-value, same-bounded-value}
 
 -- the value of a reply, without its validity
 abbrev pub valueOnly : Reply ValidValue → Reply Value
 valueOnly r = andThen r (λ v. answer (v .value))
 
-only-value : (s : List ℕ) (g : Group) (c : Channel) → valueOnly (validValueOf s g c) ≡ valueOf s (g .idSize) c
-unfolding validValueOf
-only-value s g c = go (valueOf s (g .idSize) c)
+-- the value, where the record is one of the group
+abbrev valueInArea : ℕ → Group → Channel → Reply Value → Reply Value
+valueInArea n g c r = andThen r (λ v. andThen (areaOf n g c) (λ u. answer v))
+
+only-value : (s : List ℕ) (g : Group) (c : Channel) → valueOnly (boundedValueOf s g c) ≡ valueInArea (length s) g c (valueOf s (g .idSize) c)
+unfolding boundedValueOf boundedValidOf
+only-value s g c = go (valueOf s (g .idSize) c) (areaOf (length s) g c)
   where
-    go : (r : Reply Value) → valueOnly (andThen r (λ v. answer (record { value = v; valid = validOf s g c }))) ≡ r
-    go (answer v) = refl
-    go (refusal n t) = refl
+    go : (r : Reply Value) (a : Reply (Unit {0}))
+        → valueOnly (andThen r (λ v. andThen (andThen a (λ u. answer (validOf s g c))) (λ b. answer (record { value = v; valid = b }))))
+        ≡ andThen r (λ v. andThen a (λ u. answer v))
+    go (answer v) (answer u) = refl
+    go (answer v) (refusal n t) = refl
+    go (refusal n t) a = refl
 
 -- record k of one file, and record l of another, or of the same one
 module _ (f e : List ℕ) (a b k l size : ℕ) (out room : List ℕ) (h : Fetchable f a k size out) (i : Fetchable e b l size room) where
@@ -48,19 +56,19 @@ module _ (f e : List ℕ) (a b k l size : ℕ) (out room : List ℕ) (h : Fetcha
   FieldAlike g c = Alike (recordBytes f a k size out h) (recordBytes e b l size room i) (g .idSize) c
 
   abbrev pub BitAlike : Group → Channel → Type 0
-  BitAlike g c = invalidationBitIn (recordBytes f a k size out h) g c ≡ invalidationBitIn (recordBytes e b l size room i) g c
+  BitAlike g c = fields.BitAlike (recordBytes f a k size out h) (recordBytes e b l size room i) g c
 
   module _ (g : Group) (c : Channel) (alike : FieldAlike g c) where
     pub same-fetched-value : valueOnly (valueFetched f a k size g c out .reply) ≡ valueOnly (valueFetched e b l size g c room .reply)
     same-fetched-value =
         ap valueOnly (value-of-record f a k size out g c h) ∙ only-value (recordBytes f a k size out h) g c
-        ∙ same-value (recordBytes f a k size out h) (recordBytes e b l size room i) (g .idSize) c alike
+        ∙ ap₂ (λ (n : ℕ) (r : Reply Value). valueInArea n g c r) (alike .long) (same-value (recordBytes f a k size out h) (recordBytes e b l size room i) (g .idSize) c alike)
         ∙ sym (ap valueOnly (value-of-record e b l size room g c i) ∙ only-value (recordBytes e b l size room i) g c)
 
     pub same-fetched : BitAlike g c → valueFetched f a k size g c out .reply ≡ valueFetched e b l size g c room .reply
     same-fetched bit =
         value-of-record f a k size out g c h
-        ∙ same-valid-value (recordBytes f a k size out h) (recordBytes e b l size room i) g c alike bit
+        ∙ same-bounded-value (recordBytes f a k size out h) (recordBytes e b l size room i) g c bit alike
         ∙ sym (value-of-record e b l size room g c i)
 
 -- ---- read_value

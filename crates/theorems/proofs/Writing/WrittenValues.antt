@@ -31,7 +31,7 @@ use Rattle.fields.specs.declared.form.Content.the-variants.{Text, ByteArray, Mi
 use Rattle.fields.proofs.Forms.{kind-form, value-form, number-order, is-number, other-number}
 use Rattle.fields.proofs.Fields.{tested, value-tested}
 use Rattle.fields.proofs.Locality.{locality}
-use Rattle.fields.proofs.OneBit.{one-bit}
+use Rattle.fields.proofs.OneBit.{one-bit, bounded-alike}
 use Rattle.decoder.proofs.Doubles.{double-fixed}
 use Rattle.encoder.specs.Meaning.{valueGiven, numberField}
 use Rattle.encoder.proofs.Standing.{kindIn, stands, made-again}
@@ -202,7 +202,7 @@ module _ (s t : List ℕ) (idSize : ℕ) (c : Channel) (bs : Bytes s) (bt : Byte
       bits = kept;
       others = λ d fixed number far. let value = same-value d fixed number far in
           (value, sym (double-fixed t idSize d fixed) ∙ ap doubleIn value ∙ double-fixed s idSize d fixed);
-      validity = λ g d same far. one-bit t s g d (same-bit g d same far);
+      validity = λ g d same far. let valid = one-bit t s g d (λ tells. same-bit g d same far) in (valid, bounded-alike t s g d long valid);
     }
       where
         same-value : (d : Channel) → variableLength d ≡ false → isNumber (kindOf (d .dataType)) ≡ true → shareABit c d ≡ false → valueOf t idSize d ≡ valueOf s idSize d

@@ -6,7 +6,7 @@ use Prim.Native.Nat.{ℕ, _+_, _*_}
 use contract.Lifetimes.{Lfts}
 use Rattle.definitions.specs.Reply.{Outcome, answer}
 use Rattle.definitions.specs.DataType.{kindOf, orderOf}
-use Rattle.definitions.specs.Channel.{variableLength, startOf, numberIn, isNumber, isFloating, valueOf, doubleIn, recordDouble, validOf, bitPlace}
+use Rattle.definitions.specs.Channel.{variableLength, startOf, numberIn, isNumber, isFloating, valueOf, doubleIn, recordDouble, validOf, boundedValidOf, bitPlace}
 use Rattle.definitions.specs.Overlap.{shareABit}
 use Rattle.definitions.specs.WrittenValue.{valueWritten}
 use Rattle.definitions.proofs.Shared.{Within}
@@ -16,14 +16,15 @@ use Rattle.fields.specs.Meaning.{channelMeant, groupMeant, valueReply}
 use Rattle.fields.specs.declared.channel.Channel.{Channel}
 use Rattle.fields.specs.declared.group.Group.{Group}
 use Rattle.fields.specs.declared.value.ValueRead.{ValueRead}
-use Rattle.fields.proofs.Back.{value-one}
+use Rattle.fields.specs.declared.validity.ValidityRead.{ValidityRead}
+use Rattle.fields.proofs.Back.{value-one, validity-one}
 use Rattle.encoder.specs.Meaning.{givenMeant, valueGiven, writtenReply, outcome}
 use Rattle.encoder.specs.declared.number.NumberGiven.{NumberGiven}
 use Rattle.encoder.specs.declared.encode.ValueWritten.{ValueWritten}
 use Rattle.encoder.specs.declared.encode.ValueWritten.the-variants.{Done}
 use Rattle.encoder.proofs.Back.{written-one}
 use Rattle.mf4.specs.Clauses.{Slice}
-use Rattle.theorems.specs.Clauses.{ReadsValue, ChecksValidity, ReadsDouble, WritesValue}
+use Rattle.theorems.specs.Clauses.{ReadsValue, ChecksValidity, ChecksBoundedValidity, ReadsDouble, WritesValue}
 use Rattle.theorems.specs.Exactly.{Exactly, Writable}
 use Rattle.theorems.specs.WrittenValue.{WrittenEnds, IsNumber, Sized, DecodesTo, SameOutside}
 use Rattle.theorems.proofs.Writing.WrittenEnds.{value-ends, written-exactly}
@@ -67,11 +68,20 @@ module _ (κs : Lfts 1) (idSize : ℕ) (channel : Channel) (given : NumberGiven)
               r ∙ ap (λ (t : List ℕ). recordDouble t idSize (channelMeant d)) same ∙ value-write-keeps .others (channelMeant d) fixed number far .1 ∙ sym q
 
       -- and a channel, this one or another, its validity, where the field has not its invalidation bit
-      pub write-keeps-validity : (group : Group) (d : Channel) → groupMeant group .idSize ≡ idSize
-          → ((k : ℕ) → Within (channelMeant channel) k → bitPlace (channelMeant channel) k ≡ groupMeant group .dataBytes * 8 + channelMeant d .invalidationBit → ⊥)
-          → (ρs σs : Lfts 1) (written : Slice) (z w : Bool) → written .now ≡ after → ChecksValidity ρs bytes group d z → ChecksValidity σs written group d w → w ≡ z
-      write-keeps-validity group d skipped far ρs σs written z w same q r =
-          r ∙ ap (λ (t : List ℕ). validOf t (groupMeant group) (channelMeant d)) same ∙ value-write-keeps .validity (groupMeant group) (channelMeant d) skipped far ∙ sym q
+      module _ (group : Group) (d : Channel) (skipped : groupMeant group .idSize ≡ idSize)
+          (far : (k : ℕ) → Within (channelMeant channel) k → bitPlace (channelMeant channel) k ≡ groupMeant group .dataBytes * 8 + channelMeant d .invalidationBit → ⊥)
+          (ρs σs : Lfts 1) (written : Slice) (same : written .now ≡ after)
+        where
+          pub write-keeps-validity : (z w : Bool) → ChecksValidity ρs bytes group d z → ChecksValidity σs written group d w → w ≡ z
+          write-keeps-validity z w q r =
+              r ∙ ap (λ (t : List ℕ). validOf t (groupMeant group) (channelMeant d)) same
+              ∙ value-write-keeps .validity (groupMeant group) (channelMeant d) skipped far .0 ∙ sym q
+
+          pub write-keeps-bounded-validity : (z w : ValidityRead) → ChecksBoundedValidity ρs bytes group d z → ChecksBoundedValidity σs written group d w → w ≡ z
+          write-keeps-bounded-validity z w q r =
+              validity-one w z
+              (r ∙ ap (λ (t : List ℕ). boundedValidOf t (groupMeant group) (channelMeant d)) same
+              ∙ value-write-keeps .validity (groupMeant group) (channelMeant d) skipped far .1 ∙ sym q)
 
       module _ (done : y ≡ Done) where
         decodes : DecodesTo after idSize (channelMeant channel) (givenMeant given)

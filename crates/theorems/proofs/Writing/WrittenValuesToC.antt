@@ -11,7 +11,7 @@ use borrow.Author.Tests.{ltb-false, eqb-true}
 use Rattle.definitions.specs.Reply.{Outcome, answer, refusal, if_then_else_}
 use Rattle.definitions.specs.Bytes.{twosComplement}
 use Rattle.definitions.specs.DataType.{DataType, unsignedInteger, signedInteger, float, complex, string, byteArray, mimeSample, mimeStream, canOpenDate, canOpenTime, unknown, kindOf, orderOf}
-use Rattle.definitions.specs.Channel.{variableLength, startOf, numberIn, isNumber, isFloating, valueOf, doubleIn, recordDouble, validOf, bitPlace}
+use Rattle.definitions.specs.Channel.{variableLength, startOf, numberIn, isNumber, isFloating, valueOf, doubleIn, recordDouble, validOf, boundedValidOf, bitPlace}
 use Rattle.definitions.specs.WrittenValue.{givenUnsigned, givenSigned, givenDouble, givenOther, valueWritten}
 use Rattle.definitions.specs.Overlap.{shareABit}
 use Rattle.definitions.proofs.Shared.{Within}
@@ -21,16 +21,17 @@ use Rattle.encoder.specs.Meaning.{valueGiven}
 use Rattle.block_replies.specs.Replies.{Returned, returned, returnedBy}
 use Rattle.replies.specs.Replies.{flagC, doneC}
 use Rattle.block_replies.specs.Channels.{channelGiven}
-use Rattle.replies.specs.Values.{groupGiven, wordOf, numberC, decodedC, answerC, valueC}
+use Rattle.replies.specs.Values.{validityC, groupGiven, wordOf, numberC, decodedC, answerC, valueC}
 use Rattle.replies.specs.Stored.{givenBy, numberGiven}
 use Rattle.replies.proofs.ToldToC.{Reversible, valueAgain, of-kind-told}
 use Rattle.block_replies.specs.declared.channel.Mf4Channel.{Mf4Channel}
 use Rattle.replies.specs.declared.group.Mf4Group.{Mf4Group}
 use Rattle.replies.specs.declared.values.Mf4ValueReply.{Mf4ValueReply}
+use Rattle.replies.specs.declared.validity.Mf4ValidityReply.{Mf4ValidityReply}
 use Rattle.replies.specs.declared.stored.Mf4Number.{Mf4Number}
 use Rattle.replies.specs.declared.done.Mf4DoneReply.{Mf4DoneReply}
 use Rattle.mf4.specs.Clauses.{Slice}
-use Rattle.theorems.specs.ClausesToC.{ReadsValueC, ChecksValidityC, ReadsDoubleC, WritesValueC}
+use Rattle.theorems.specs.ClausesToC.{ReadsValueC, ChecksValidityC, ChecksUnboundedC, ReadsDoubleC, WritesValueC}
 use Rattle.theorems.specs.Exactly.{ExactlyZero, Takes, Writable}
 use Rattle.theorems.specs.WrittenValue.{WrittenEnds, IsNumber, Sized, DecodesTo, SameOutside}
 use Rattle.theorems.proofs.Writing.WrittenEnds.{value-ends, written-exactly}
@@ -153,11 +154,19 @@ module _ (κs : Lfts 1) (idSize : ℕ) (channel : Mf4Channel) (value : Mf4Number
               r ∙ ap (λ (t : List ℕ). recordDouble t idSize (channelGiven d)) same ∙ value-write-keeps .others (channelGiven d) fixed number far .1 ∙ sym q
 
       -- and a channel, this one or another, its validity, where the field has not its invalidation bit
-      pub write-keeps-validity : (group : Mf4Group) (d : Mf4Channel) → groupGiven group .idSize ≡ idSize
-          → ((k : ℕ) → Within (channelGiven channel) k → bitPlace (channelGiven channel) k ≡ groupGiven group .dataBytes * 8 + channelGiven d .invalidationBit → ⊥)
-          → (ρs σs : Lfts 1) (written : Slice) (z w : ℕ) → written .now ≡ after → ChecksValidityC ρs bytes group d z → ChecksValidityC σs written group d w → w ≡ z
-      write-keeps-validity group d skipped far ρs σs written z w same q r =
-          r ∙ ap (λ (t : List ℕ). flagC (validOf t (groupGiven group) (channelGiven d))) same ∙ ap flagC (value-write-keeps .validity (groupGiven group) (channelGiven d) skipped far) ∙ sym q
+      module _ (group : Mf4Group) (d : Mf4Channel) (skipped : groupGiven group .idSize ≡ idSize)
+          (far : (k : ℕ) → Within (channelGiven channel) k → bitPlace (channelGiven channel) k ≡ groupGiven group .dataBytes * 8 + channelGiven d .invalidationBit → ⊥)
+          (ρs σs : Lfts 1) (written : Slice) (same : written .now ≡ after)
+        where
+          pub write-keeps-validity : (z w : Mf4ValidityReply) → ChecksValidityC ρs bytes group d z → ChecksValidityC σs written group d w → w ≡ z
+          write-keeps-validity z w q r =
+              r ∙ ap (λ (t : List ℕ). validityC (boundedValidOf t (groupGiven group) (channelGiven d))) same
+              ∙ ap validityC (value-write-keeps .validity (groupGiven group) (channelGiven d) skipped far .1) ∙ sym q
+
+          pub write-keeps-unbounded : (z w : ℕ) → ChecksUnboundedC ρs bytes group d z → ChecksUnboundedC σs written group d w → w ≡ z
+          write-keeps-unbounded z w q r =
+              r ∙ ap (λ (t : List ℕ). flagC (validOf t (groupGiven group) (channelGiven d))) same
+              ∙ ap flagC (value-write-keeps .validity (groupGiven group) (channelGiven d) skipped far .0) ∙ sym q
 
       module _ (done : y .reply ≡ 0) where
         decodes : DecodesTo after idSize (channelGiven channel) (numberGiven value)
