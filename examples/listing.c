@@ -98,11 +98,14 @@ static void print_composition(const mdf_file *file, uint64_t component)
                id == MF4_ID_CA ? "is" : "are");
 }
 
-void print_refusal(const mdf_group *group, mf4_value_reply refused)
+void print_refusal(const mdf_group *group, const mf4_channel *channel, mf4_valid_value_reply refused)
 {
     printf("refused (%" PRIu32 "): %s", refused.reply, mf4_reply_text(refused.reply));
     if (refused.told != 0)
         printf("; it needs %" PRIu64 " bytes, the record has %" PRIu64, refused.told, group->record_size);
+    if (refused.reply == MF4_BIT_OUTSIDE)
+        printf("; it is bit %" PRIu32 ", the record has %" PRIu64 ", from 0 on: have the log written again with a right "
+               "description", channel->pos_invalidation_bit, 8 * (uint64_t)group->layout.invalidation_bytes);
     printf("\n");
 }
 
@@ -111,7 +114,7 @@ static void print_trouble_of_payloads(mdf_file *file, const mdf_group *group, co
 {
     mdf_record first = { .file = file, .group = group };
     const mf4_payload_reply payload = mdf_read_payload(&first, *channel);
-    const mf4_value_reply refused = { .reply = payload.reply, .told = payload.told };
+    const mf4_valid_value_reply refused = { .reply = payload.reply, .told = payload.told };
     free(first.payload);
     if (!mdf_is_in_every_record(group, refused.reply, refused.told))
         return;
@@ -120,19 +123,19 @@ static void print_trouble_of_payloads(mdf_file *file, const mdf_group *group, co
         printf("    %s\n", file->trouble);
     } else {
         printf("    ");
-        print_refusal(group, refused);
+        print_refusal(group, channel, refused);
     }
 }
 
 /* What is refused in every record is said once. */
 static void print_trouble(mdf_file *file, const mdf_group *group, const mf4_channel *channel, uint64_t records)
 {
-    const mf4_value_reply field = mdf_field_reply(group, channel);
+    const mf4_valid_value_reply field = mdf_field_reply(group, channel);
     if (mdf_place_of(channel) == MDF_PAYLOAD && records > 0)
         print_trouble_of_payloads(file, group, channel);
     if (field.reply != MF4_ANSWER) {
         printf("    ");
-        print_refusal(group, field);
+        print_refusal(group, channel, field);
     }
 }
 

@@ -85,8 +85,8 @@ static int read_channel_group(mdf_file *file, uint64_t address, mdf_group *group
     group->first_channel = mdf_link(&block, CG_FIRST_CN);
     group->counted = mdf_little(block.fields + CG_CYCLES, 8);
     group->layout.data_bytes = (uint32_t)mdf_little(block.fields + CG_DATA_BYTES, 4);
-    group->record_size = group->layout.record_id_size + group->layout.data_bytes
-        + mdf_little(block.fields + CG_INVALIDATION_BYTES, 4);
+    group->layout.invalidation_bytes = (uint32_t)mdf_little(block.fields + CG_INVALIDATION_BYTES, 4);
+    group->record_size = group->layout.record_id_size + group->layout.data_bytes + group->layout.invalidation_bytes;
     if (group->record_size == 0 || group->record_size > MF4_MAX_RECORD_SIZE)
         return mdf_trouble(file, "channel group at %" PRIu64 ": records of %" PRIu64 " bytes, and only 1 to %d are read",
                            address, group->record_size, MF4_MAX_RECORD_SIZE);

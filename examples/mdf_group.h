@@ -26,7 +26,7 @@ typedef struct mdf_group {
     uint64_t data;          /* the address of the first data list or of the one data block; 0: no data  */
     uint64_t start;         /* of the chain for the library                                             */
     mf4_group layout;
-    uint64_t record_size;   /* 1 to 16,384: of the id, the data and the invalidation bits               */
+    uint64_t record_size;   /* the sum of the layout's three numbers, 1 to 16,384                       */
     uint64_t counted;       /* how many records the channel group counts                                */
     char name[MDF_TEXT_ROOM];
 } mdf_group;

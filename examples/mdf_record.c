@@ -46,27 +46,34 @@ static mdf_value payload_value(mdf_record *record, const mf4_channel *channel)
     return value;
 }
 
-/* What a virtual channel has in place of a field. */
-static mdf_value number_value(const mdf_record *record, const mf4_channel *channel)
+/* What a virtual channel has in place of a field: the record's number, which may be invalid, and its validity refused. */
+static mf4_valid_value_reply number_reply(mf4_validity_reply validity, uint64_t number)
 {
-    const uint8_t is_valid = mf4_check_validity(record->bytes, (size_t)record->group->record_size, record->group->layout,
-                                                *channel);
-    const mdf_value value = { { MF4_ANSWER, 0, MF4_KIND_UNSIGNED, is_valid, record->number, 0, 0 }, NULL };
-    return value;
+    const mf4_valid_value_reply answer = { MF4_ANSWER, 0, MF4_KIND_UNSIGNED, validity.is_valid, number, 0, 0 };
+    const mf4_valid_value_reply refused = { .reply = validity.reply, .told = validity.told };
+    return validity.reply == MF4_ANSWER ? answer : refused;
+}
+
+/* What is said of a value that stands in the record, or that its number is. Of the others nothing is. */
+static mf4_valid_value_reply reply_in(const mdf_group *group, const uint8_t *record, uint64_t number,
+                                      const mf4_channel *channel)
+{
+    static const mf4_valid_value_reply nothing_said;
+    const size_t size = (size_t)group->record_size;
+    switch (mdf_place_of(channel)) {
+    case MDF_VIRTUAL: return number_reply(mf4_check_validity(record, size, group->layout, *channel), number);
+    case MDF_FIELD: return mf4_decode_valid_value(record, size, group->layout, *channel);
+    default: return nothing_said;
+    }
 }
 
 mdf_value mdf_read_value(mdf_record *record, const mf4_channel *channel)
 {
     mdf_value value = { { .reply = MF4_ANSWER }, record->bytes };
-    switch (mdf_place_of(channel)) {
-    case MDF_PAYLOAD: return payload_value(record, channel);
-    case MDF_VIRTUAL: return number_value(record, channel);
-    case MDF_FIELD:
-        value.told = mf4_decode_valid_value(record->bytes, (size_t)record->group->record_size, record->group->layout,
-                                            *channel);
-        return value;
-    default: return value;
-    }
+    if (mdf_place_of(channel) == MDF_PAYLOAD)
+        return payload_value(record, channel);
+    value.told = reply_in(record->group, record->bytes, record->number, channel);
+    return value;
 }
 
 /* Of one record alone are a payload behind the data, one that there is no memory for, and one with too few bytes for a
@@ -77,11 +84,8 @@ int mdf_is_in_every_record(const mdf_group *group, uint32_t reply, uint64_t told
         && (reply != MF4_FIELD_OUTSIDE || told > group->record_size);
 }
 
-mf4_value_reply mdf_field_reply(const mdf_group *group, const mf4_channel *channel)
+mf4_valid_value_reply mdf_field_reply(const mdf_group *group, const mf4_channel *channel)
 {
     static const uint8_t any_record[MF4_MAX_RECORD_SIZE];
-    static const mf4_value_reply nothing_said;
-    if (mdf_place_of(channel) != MDF_FIELD)
-        return nothing_said;
-    return mf4_decode_value(any_record, (size_t)group->record_size, group->layout.record_id_size, *channel);
+    return reply_in(group, any_record, 0, channel);
 }

@@ -34,8 +34,8 @@ mdf_value mdf_read_value(mdf_record *record, const mf4_channel *channel);
 /* Whether a value is refused in every record, with what was told: a field always is, a payload if it is not its own fault. */
 int mdf_is_in_every_record(const mdf_group *group, uint32_t reply, uint64_t told);
 
-/* What is said of a channel's field in every record of the group: why it is refused, or of which kind it is. Both depend on
- * the description and the record's size alone. */
-mf4_value_reply mdf_field_reply(const mdf_group *group, const mf4_channel *channel);
+/* What is said of a channel's field, or of the record's number in its place, in every record of the group: why it is refused,
+ * its validity too, or of which kind it is. All depend on the descriptions and the record's size alone. */
+mf4_valid_value_reply mdf_field_reply(const mdf_group *group, const mf4_channel *channel);
 
 #endif

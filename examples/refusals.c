@@ -1,7 +1,8 @@
 /*
- * What the library says of a log that is damaged. Four damages are made up, each in a copy of what the log says, and each
- * must be refused: a record behind the last one, a field that a wrong description puts past its record's end, a payload whose
- * position is read from a wrong place, and a block that is too short for its place in the chain.
+ * What the library says of a log that is damaged. Five damages are made up, each in a copy of what the log says, and each
+ * must be refused: a record behind the last one, a field that a wrong description puts past its record's end, an invalidation
+ * bit that one puts past the group's invalidation bytes, a payload whose position is read from a wrong place, and a block that
+ * is too short for its place in the chain.
  *
  *     refusals FILE
  *
@@ -11,11 +12,14 @@
 #include <stdio.h>
 #include <stdlib.h>
 
+#include "cells.h"
 #include "listing.h"
 #include "mdf_blame.h"
 
 static mdf_lists lists;
 static mdf_channel channels[MDF_MOST_CHANNELS];
+
+/* ---- records and fields ----------------------------------------------------------------------------------------- */
 
 static int show_record_behind(mdf_file *file, const mdf_group *group, uint64_t length)
 {
@@ -26,23 +30,90 @@ static int show_record_behind(mdf_file *file, const mdf_group *group, uint64_t l
     return reply == MF4_NO_SUCH_RECORD || mdf_trouble(file, "the record behind the last one should be refused");
 }
 
+/* Says how a field with a wrong description is refused, as it must be with that number. */
+static int show_refusal(mdf_file *file, const mdf_group *group, const mf4_channel *wrong, uint32_t due)
+{
+    const mf4_valid_value_reply value = mdf_field_reply(group, wrong);
+    print_refusal(group, wrong, value);
+    return value.reply == due || mdf_trouble(file, "it should be refused with %" PRIu32, due);
+}
+
+/* Whether the channel's field is a number that is read. */
+static int is_number_field(const mdf_group *group, const mf4_channel *channel)
+{
+    const uint32_t kind = mdf_field_reply(group, channel).kind;
+    return mdf_place_of(channel) == MDF_FIELD && kind >= MF4_KIND_UNSIGNED && kind <= MF4_KIND_DOUBLE;
+}
+
 /* Lets the last number of the records begin where they end, in a copy of its description. */
 static int show_field_outside(mdf_file *file, const mdf_group *group, size_t left)
 {
     while (left-- > 0) {
-        mf4_channel described = channels[left].described;
-        mf4_value_reply value = mdf_field_reply(group, &described);
-        if (value.kind < MF4_KIND_UNSIGNED || value.kind > MF4_KIND_DOUBLE)
+        mf4_channel wrong = channels[left].described;
+        if (!is_number_field(group, &wrong))
             continue;
-        described.byte_offset = (uint32_t)group->record_size;
-        value = mdf_field_reply(group, &described);
+        wrong.byte_offset = (uint32_t)group->record_size;
         printf("\nthe same log with a description that puts %s at byte %" PRIu32 ":\n  ", channels[left].name,
-               described.byte_offset);
-        print_refusal(group, value);
-        return value.reply == MF4_FIELD_OUTSIDE || mdf_trouble(file, "the field outside its record should be refused");
+               wrong.byte_offset);
+        return show_refusal(file, group, &wrong, MF4_FIELD_OUTSIDE);
     }
     return 1;
 }
+
+/* ---- an invalidation bit outside -------------------------------------------------------------------------------- */
+
+/* Whether each record has a bit that says whether the channel's value is invalid. */
+static int has_invalidation_bit(const mf4_channel *channel)
+{
+    return (channel->flags & MF4_CHANNEL_ALL_INVALID) == 0 && (channel->flags & MF4_CHANNEL_INVALIDATION_BIT) != 0;
+}
+
+/* Reads the first record that marks the channel's value as invalid; gives 0 where there is none. */
+static int find_invalid(mdf_record *record, const mf4_channel *channel, uint64_t records)
+{
+    for (; record->number < records && mdf_read_record(record).reply == MF4_ANSWER; record->number++)
+        if (!mdf_read_value(record, channel).told.is_valid)
+            return 1;
+    return 0;
+}
+
+/* What a planner would have been shown: a value that the log marks as invalid, as one that was measured. */
+static void show_taken_for_measured(const mdf_file *file, const mdf_group *group, const mdf_channel *channel,
+                                    const mf4_channel *wrong, uint64_t records)
+{
+    mdf_record record = { .file = file, .group = group };
+    const char *unit = mdf_is_applied(&channel->conversion) ? channel->unit : "raw";
+    mdf_channel unmarked = *channel;
+    char cell[CELL_ROOM];
+    if (!find_invalid(&record, &channel->described, records)
+        || !mf4_check_validity_unbounded(record.bytes, (size_t)group->record_size, group->layout, *wrong))
+        return;
+    unmarked.described.flags = 0;
+    spell_value(&record, &unmarked, cell);
+    printf("  without this refusal a bit of another record would decide, or every value would pass for a measured one:\n"
+           "  record %" PRIu64 " would show %s as %s%s%s, though the log marks that value as invalid\n", record.number,
+           channel->name, cell, unit[0] != '\0' ? " " : "", unit);
+}
+
+/* Puts the last field's invalidation bit behind the group's invalidation bytes, in a copy of its description. */
+static int show_bit_outside(mdf_file *file, const mdf_group *group, size_t left, uint64_t records)
+{
+    while (left-- > 0) {
+        mf4_channel wrong = channels[left].described;
+        int is_refused;
+        if (!is_number_field(group, &wrong) || !has_invalidation_bit(&wrong))
+            continue;
+        wrong.pos_invalidation_bit = 8 * group->layout.invalidation_bytes;
+        printf("\nthe same log with a description that puts the invalidation bit of %s at bit %" PRIu32 ":\n  ",
+               channels[left].name, wrong.pos_invalidation_bit);
+        is_refused = show_refusal(file, group, &wrong, MF4_BIT_OUTSIDE);
+        show_taken_for_measured(file, group, &channels[left], &wrong, records);
+        return is_refused;
+    }
+    return 1;
+}
+
+/* ---- payloads and blocks ---------------------------------------------------------------------------------------- */
 
 /* Reads the position of record 0's last payload from the record's front, by a copy of its description. A log that has some
  * position there shows nothing. */
@@ -99,8 +170,9 @@ static int show_file(mdf_file *file)
         return 0;
     if (length == 0)
         return mdf_trouble(file, "the first group has no data");
-    printf("\nFour damages, made up here, and what the library says of each:\n");
-    if (!show_record_behind(file, &group, length) || !show_field_outside(file, &group, count))
+    printf("\nFive damages, made up here, and what the library says of each:\n");
+    if (!show_record_behind(file, &group, length) || !show_field_outside(file, &group, count)
+        || !show_bit_outside(file, &group, count, length / group.record_size))
         return 0;
     show_payload_outside(file, &group, count);
     return show_short_block(file, &group);

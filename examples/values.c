@@ -122,7 +122,8 @@ int main(int count, char **words)
     stop_if(number_at(channel_group + 24, 8) != 0, "a data group with two channel groups: sort the log first");
     group.record_id_size = number_at(data_group + 56, 1);
     group.data_bytes = (uint32_t)number_at(channel_group + 96, 4);
-    size = group.record_id_size + group.data_bytes + number_at(channel_group + 100, 4);
+    group.invalidation_bytes = (uint32_t)number_at(channel_group + 100, 4);
+    size = group.record_id_size + group.data_bytes + group.invalidation_bytes;
     start = chain_at(number_at(data_group + 40, 8), data_group);
     size_t found = read_channels(number_at(channel_group + 32, 8));
     uint32_t reply = mf4_read_record(file, file_len, start, 0, size, record, sizeof record).reply;

@@ -34,10 +34,15 @@ fn value(record: &[u8], id_size: u64, channel: c::Channel) -> u64 {
     word_of(record, &unsafe { c::mf4_decode_value(record.as_ptr(), record.len(), id_size, channel) })
 }
 
-pub fn valid_values(records: Pieces, data_bytes: u32, channel: &c::Channel) -> u64 {
-    let (channel, group) = black_box((*channel, c::Group { record_id_size: 0, data_bytes }));
+pub type ValidValueCall = unsafe extern "C" fn(*const u8, usize, c::Group, c::Channel) -> c::ValidValueReply;
+
+/// What the records have behind their data bytes are invalidation bytes.
+#[inline(always)]
+pub fn valid_values(call: ValidValueCall, records: Pieces, data_bytes: u32, channel: &c::Channel) -> u64 {
+    let invalidation_bytes = records.size as u32 - data_bytes;
+    let (channel, group) = black_box((*channel, c::Group { record_id_size: 0, data_bytes, invalidation_bytes }));
     records.sum(|record| {
-        let answer = unsafe { c::mf4_decode_valid_value(record.as_ptr(), record.len(), group, channel) };
+        let answer = unsafe { call(record.as_ptr(), record.len(), group, channel) };
         word_of(record, &answer.value()).wrapping_add(u64::from(answer.is_valid))
     })
 }

@@ -21,6 +21,8 @@ pub const NO_BITS: Refusal = Refusal { number: 18, told: 0 };
 pub const BAD_BIT_OFFSET: Refusal = Refusal { number: 19, told: 0 };
 pub const INTEGER_TOO_WIDE: Refusal = Refusal { number: 20, told: 0 };
 pub const BAD_FLOAT_WIDTH: Refusal = Refusal { number: 22, told: 0 };
+pub const OTHER_LENGTH: Refusal = Refusal { number: 28, told: 0 };
+pub const BIT_OUTSIDE: Refusal = Refusal { number: 29, told: 0 };
 
 pub fn too_few_bytes(needed: u64) -> Refusal {
     Refusal { number: 2, told: needed }

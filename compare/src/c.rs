@@ -69,6 +69,7 @@ pub struct Channel {
 pub struct Group {
     pub record_id_size: u64,
     pub data_bytes: u32,
+    pub invalidation_bytes: u32,
 }
 
 #[repr(C)]
@@ -127,6 +128,14 @@ pub struct ValueReply {
     pub number: u64,
     pub at: u64,
     pub length: u64,
+}
+
+#[repr(C)]
+#[derive(Clone, Copy)]
+pub struct ValidityReply {
+    pub reply: u32,
+    pub told: u64,
+    pub is_valid: u8,
 }
 
 #[repr(C)]
@@ -236,8 +245,15 @@ extern "C" {
     pub fn mf4_read_channel(bytes: *const u8, bytes_len: usize) -> ChannelReply;
     pub fn mf4_write_channel(block: ChannelBlock, out: *mut u8, out_room: usize) -> WrittenReply;
     pub fn mf4_decode_value(record: *const u8, record_len: usize, record_id_size: u64, channel: Channel) -> ValueReply;
-    pub fn mf4_check_validity(record: *const u8, record_len: usize, group: Group, channel: Channel) -> u8;
+    pub fn mf4_check_validity(record: *const u8, record_len: usize, group: Group, channel: Channel) -> ValidityReply;
     pub fn mf4_decode_valid_value(
+        record: *const u8,
+        record_len: usize,
+        group: Group,
+        channel: Channel,
+    ) -> ValidValueReply;
+    pub fn mf4_check_validity_unbounded(record: *const u8, record_len: usize, group: Group, channel: Channel) -> u8;
+    pub fn mf4_decode_valid_value_unbounded(
         record: *const u8,
         record_len: usize,
         group: Group,

@@ -75,6 +75,11 @@ pub struct Field {
 }
 
 impl Field {
+    /// The bytes that the record has behind its id and its data, which lines do not tell.
+    pub fn invalidation_bytes(&self) -> u32 {
+        (self.record.len() as u64).saturating_sub(self.id_size).saturating_sub(u64::from(self.data_bytes)) as u32
+    }
+
     /// The same field of another record.
     pub fn with_record(&self, record: &[u8]) -> Field {
         Field { record: record.to_vec(), ..self.clone() }

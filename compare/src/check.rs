@@ -1,6 +1,6 @@
 //! One input, asked of both sides.
 
-use crate::answers::{Answer, Place, Said, Text, Value, NAN_BITS};
+use crate::answers::{Answer, Place, Reply, Said, Text, Value, NAN_BITS};
 use crate::cases::{Case, Encoding, Field};
 use crate::library::{self, Owed};
 use crate::original::{self, Stopped};
@@ -39,7 +39,9 @@ fn contradiction(case: &Case, ours: &Owed<Answer>, due: &Result<Said, Stopped>) 
         (Err(why), _) => Some(format!("the library gives {why}")),
         (Ok(ours), Err(stopped)) => Some(format!("the library gives {ours:x?}; the crate stops: {}", stopped.0)),
         (Ok(ours), Ok(due)) if !due.allows(ours) => Some(format!("the library gives {ours:x?}; due is {due:x?}")),
-        (Ok(ours), _) => wrong_text(case, ours).or_else(|| wrong_record(case, ours)),
+        (Ok(ours), _) => {
+            wrong_text(case, ours).or_else(|| wrong_record(case, ours)).or_else(|| wrong_bounded(case, ours))
+        }
     }
 }
 
@@ -60,8 +62,8 @@ pub fn ask_library(case: &Case) -> Owed<Answer> {
         Case::ChannelRead { bytes } => Answer::Channel(library::read_channel(bytes)?),
         Case::ChannelWrite { block, room } => Answer::Written(library::write_channel(block, *room)?),
         Case::Value(field) => Answer::Value(library::decode_value(field)?),
-        Case::Validity(field) => Answer::Validity(library::check_validity(field)?),
-        Case::Both(field) => Answer::Both(library::decode_valid_value(field)?),
+        Case::Validity(field) => Answer::Validity(library::check_validity_unbounded(field)?),
+        Case::Both(field) => Answer::Both(library::decode_valid_value_unbounded(field)?),
         Case::Double(field) => Answer::Double(library::decode_double(field)),
         Case::Text { encoding, bytes, room } => Answer::Text(library::text(*encoding, bytes, *room)?),
         Case::Carried { field, into } => Answer::Value(library::carried(field, into)?.map(|(value, _)| value)),
@@ -85,6 +87,24 @@ fn wrong_record(case: &Case, answer: &Answer) -> Option<String> {
         Ok(Ok((_, Some(back)))) if back == *into => None,
         other => Some(format!("the record was {into:x?}, and is then {other:x?}")),
     }
+}
+
+/// The calls in which the invalidation bytes have an end give the same answer, but for 28 and 29 where these are due.
+fn wrong_bounded(case: &Case, answer: &Answer) -> Option<String> {
+    match (case, answer) {
+        (Case::Validity(field), Answer::Validity(is_valid)) => {
+            unequal(library::check_validity(field), outside::bounded(field, *is_valid))
+        }
+        (Case::Both(field), Answer::Both(both)) => {
+            unequal(library::decode_valid_value(field), both.and_then(|both| outside::bounded(field, both)))
+        }
+        _ => None,
+    }
+}
+
+fn unequal<T: PartialEq + std::fmt::Debug>(given: Owed<Reply<T>>, due: Reply<T>) -> Option<String> {
+    let due = Ok(due);
+    (given != due).then(|| format!("with an end, the library gives {given:x?}; due is {due:x?}"))
 }
 
 /// A text is told by its place, so the string must come out of the bytes there.

@@ -209,7 +209,8 @@ fn channel_of(channel: &c::Channel) -> Channel {
 // ---- values
 
 fn group_of(field: &Field) -> c::Group {
-    c::Group { record_id_size: field.id_size, data_bytes: field.data_bytes }
+    let (data_bytes, invalidation_bytes) = (field.data_bytes, field.invalidation_bytes());
+    c::Group { record_id_size: field.id_size, data_bytes, invalidation_bytes }
 }
 
 pub fn decode_value(field: &Field) -> Owed<Reply<Value>> {
@@ -247,15 +248,28 @@ fn store(field: &Field, number: c::Number, into: &[u8]) -> Owed<(c::DoneReply, V
     Ok((answer, record))
 }
 
-pub fn check_validity(field: &Field) -> Owed<bool> {
-    let record = &field.record;
-    flag(unsafe { c::mf4_check_validity(start(record), record.len(), group_of(field), channel_to(&field.channel)) })
+pub fn check_validity(field: &Field) -> Owed<Reply<bool>> {
+    let (record, group, channel) = (&field.record, group_of(field), channel_to(&field.channel));
+    let answer = unsafe { c::mf4_check_validity(start(record), record.len(), group, channel) };
+    reply(answer.reply, answer.told, answer.is_valid == 0, flag(answer.is_valid)?)
+}
+
+pub fn check_validity_unbounded(field: &Field) -> Owed<bool> {
+    let (record, group, channel) = (&field.record, group_of(field), channel_to(&field.channel));
+    flag(unsafe { c::mf4_check_validity_unbounded(start(record), record.len(), group, channel) })
 }
 
 pub fn decode_valid_value(field: &Field) -> Owed<Reply<(Value, bool)>> {
-    let record = &field.record;
-    let answer =
-        unsafe { c::mf4_decode_valid_value(start(record), record.len(), group_of(field), channel_to(&field.channel)) };
+    let (record, group, channel) = (&field.record, group_of(field), channel_to(&field.channel));
+    valid_value_reply(unsafe { c::mf4_decode_valid_value(start(record), record.len(), group, channel) })
+}
+
+pub fn decode_valid_value_unbounded(field: &Field) -> Owed<Reply<(Value, bool)>> {
+    let (record, group, channel) = (&field.record, group_of(field), channel_to(&field.channel));
+    valid_value_reply(unsafe { c::mf4_decode_valid_value_unbounded(start(record), record.len(), group, channel) })
+}
+
+fn valid_value_reply(answer: c::ValidValueReply) -> Owed<Reply<(Value, bool)>> {
     let is_valid = flag(answer.is_valid)?;
     match value_reply(&answer.value())? {
         Ok(value) => Ok(Ok((value, is_valid))),

@@ -8,6 +8,9 @@
 //! 18 to 22 counts as equal. Outside it, the difference must be a listed one and the library must give what is due
 //! there; `outside.rs` knows both. The exit status is 1 where an answer is neither.
 //!
+//! Validity is compared in the crate's reading, in which the invalidation bytes have no end: that of the calls that end in
+//! _unbounded. The two calls in which they have one must give the same, or 28 or 29 where these are due.
+//!
 //! # Lines
 //!
 //! A line is words with one blank between them: the kind, the input's words, and in a sample `=` and the answer's

@@ -5,7 +5,7 @@ use std::cmp::Ordering;
 
 use crate::answers::{
     field_outside, into_room, too_few_bytes, Answer, ChannelBlock, Header, Refusal, Reply, Value, BAD_BIT_OFFSET,
-    BAD_FLOAT_WIDTH, INTEGER_TOO_WIDE, NAN_BITS, NO_BITS, TOO_FEW_LINKS, UNWRITABLE_LIST,
+    BAD_FLOAT_WIDTH, BIT_OUTSIDE, INTEGER_TOO_WIDE, NAN_BITS, NO_BITS, OTHER_LENGTH, TOO_FEW_LINKS, UNWRITABLE_LIST,
 };
 use crate::cases::{Case, Channel, Field};
 use crate::original;
@@ -255,6 +255,19 @@ fn both(field: &Field) -> Due<Reply<(Value, bool)>> {
         None => original::validity(field).ok()?,
     };
     Some((difference, decoded(field)?.map(|value| (value, is_valid))))
+}
+
+/// What becomes of an answer of the crate's reading where the invalidation bytes have an end.
+pub fn bounded<T>(field: &Field, answer: T) -> Reply<T> {
+    let (bytes, channel) = (u64::from(field.invalidation_bytes()), &field.channel);
+    let has_bit = channel.flags & 3 == 2;
+    if sum(&[field.id_size, u64::from(field.data_bytes), bytes]) != field.record.len() as u128 {
+        Err(OTHER_LENGTH)
+    } else if has_bit && u64::from(channel.pos_invalidation_bit) >= 8 * bytes {
+        Err(BIT_OUTSIDE)
+    } else {
+        Ok(answer)
+    }
 }
 
 fn start_terms(field: &Field) -> [u64; 2] {

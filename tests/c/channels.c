@@ -264,7 +264,8 @@ typedef struct described {
     const char *fields; /* up to the invalidation bit's position */
     uint64_t data;
     const char *record;
-    mf4_group group;
+    uint64_t id_size;
+    uint32_t data_bytes;
     expected value;
     uint8_t is_valid;
 } described;
@@ -274,43 +275,53 @@ typedef struct described {
     kinds " " byte_offset " 00 00 00 " bit_count " 00 00 00 " flags " 00 00 00 " position " 00 00 00"
 
 static const described descriptions[] = {
-    { DESCRIBED("00 00 00 00", "01", "10", "00", "00"), 0, "FF 34 12", { 0, 0 }, UNSIGNED_IS(4660), 1 },
-    { DESCRIBED("00 01 01 00", "01", "10", "00", "00"), 0, "FF 34 12", { 0, 0 }, UNSIGNED_IS(13330), 1 },
-    { DESCRIBED("00 00 00 04", "00", "08", "00", "00"), 0, "34 12", { 0, 0 }, UNSIGNED_IS(35), 1 },
-    { DESCRIBED("00 00 01 04", "00", "08", "00", "00"), 0, "34 12", { 0, 0 }, UNSIGNED_IS(65), 1 },
+    { DESCRIBED("00 00 00 00", "01", "10", "00", "00"), 0, "FF 34 12", 0, 0, UNSIGNED_IS(4660), 1 },
+    { DESCRIBED("00 01 01 00", "01", "10", "00", "00"), 0, "FF 34 12", 0, 0, UNSIGNED_IS(13330), 1 },
+    { DESCRIBED("00 00 00 04", "00", "08", "00", "00"), 0, "34 12", 0, 0, UNSIGNED_IS(35), 1 },
+    { DESCRIBED("00 00 01 04", "00", "08", "00", "00"), 0, "34 12", 0, 0, UNSIGNED_IS(65), 1 },
     /* byte 5, and bit 5 in its place */
-    { DESCRIBED("00 00 00 00", "05", "08", "00", "00"), 0, "00 FF 00 00 00 2A", { 0, 0 }, UNSIGNED_IS(42), 1 },
-    { DESCRIBED("00 00 00 05", "00", "08", "00", "00"), 0, "00 FF 00 00 00 2A", { 0, 0 }, UNSIGNED_IS(248), 1 },
-    { DESCRIBED("00 00 03 04", "00", "04", "00", "00"), 0, "F0", { 0, 0 }, SIGNED_IS(-1), 1 },
-    { DESCRIBED("00 00 04 00", "02", "20", "00", "00"), 9, "FF FF FF 00 00 80 3F", { 1, 0 },
+    { DESCRIBED("00 00 00 00", "05", "08", "00", "00"), 0, "00 FF 00 00 00 2A", 0, 0, UNSIGNED_IS(42), 1 },
+    { DESCRIBED("00 00 00 05", "00", "08", "00", "00"), 0, "00 FF 00 00 00 2A", 0, 0, UNSIGNED_IS(248), 1 },
+    { DESCRIBED("00 00 03 04", "00", "04", "00", "00"), 0, "F0", 0, 0, SIGNED_IS(-1), 1 },
+    { DESCRIBED("00 00 04 00", "02", "20", "00", "00"), 9, "FF FF FF 00 00 80 3F", 1, 0,
       DOUBLE_IS(UINT64_C(0x3FF0000000000000)), 1 },
     /* each of a field's refusals: no bits, bit offset 8, 65 bits, too few bytes, half a float */
-    { DESCRIBED("00 00 00 00", "00", "00", "00", "00"), 0, "34 12", { 0, 0 }, REFUSED_WITH(18), 0 },
-    { DESCRIBED("00 00 00 08", "00", "08", "00", "00"), 0, "34 12", { 0, 0 }, REFUSED_WITH(19), 0 },
-    { DESCRIBED("00 00 02 00", "00", "41", "00", "00"), 0, "34 12", { 0, 0 }, REFUSED_WITH(20), 0 },
-    { DESCRIBED("00 00 00 00", "03", "10", "00", "00"), 0, "FF FF 34 12", { 2, 0 }, OUTSIDE(7), 0 },
-    { DESCRIBED("01 00 00 00", "63", "18", "00", "00"), 7, "34 12", { 3, 0 }, OUTSIDE(3), 0 },
-    { DESCRIBED("00 00 05 00", "00", "10", "00", "00"), 0, "3F 80 00 00", { 0, 0 }, REFUSED_WITH(22), 0 },
-    { DESCRIBED("00 00 07 00", "01", "18", "00", "00"), 0, "50 58 31 00", { 0, 0 }, TEXT_STANDS(1, 2), 1 },
-    { DESCRIBED("00 00 0A 00", "01", "18", "00", "00"), 0, "50 58 31 00", { 0, 0 }, STANDS(MF4_KIND_BYTES, 1, 3), 1 },
+    { DESCRIBED("00 00 00 00", "00", "00", "00", "00"), 0, "34 12", 0, 0, REFUSED_WITH(18), 0 },
+    { DESCRIBED("00 00 00 08", "00", "08", "00", "00"), 0, "34 12", 0, 0, REFUSED_WITH(19), 0 },
+    { DESCRIBED("00 00 02 00", "00", "41", "00", "00"), 0, "34 12", 0, 0, REFUSED_WITH(20), 0 },
+    { DESCRIBED("00 00 00 00", "03", "10", "00", "00"), 0, "FF FF 34 12", 2, 0, OUTSIDE(7), 0 },
+    { DESCRIBED("01 00 00 00", "63", "18", "00", "00"), 7, "34 12", 3, 0, OUTSIDE(3), 0 },
+    { DESCRIBED("00 00 05 00", "00", "10", "00", "00"), 0, "3F 80 00 00", 0, 0, REFUSED_WITH(22), 0 },
+    { DESCRIBED("00 00 07 00", "01", "18", "00", "00"), 0, "50 58 31 00", 0, 0, TEXT_STANDS(1, 2), 1 },
+    { DESCRIBED("00 00 0A 00", "01", "18", "00", "00"), 0, "50 58 31 00", 0, 0, STANDS(MF4_KIND_BYTES, 1, 3), 1 },
     /* a payload; no data link; another channel type */
-    { DESCRIBED("01 00 07 00", "63", "08", "00", "00"), 7, "50 58 31 00", { 3, 0 }, TEXT_STANDS(0, 3), 1 },
-    { DESCRIBED("01 00 07 00", "01", "08", "00", "00"), 0, "50 58 31 00", { 0, 0 }, TEXT_STANDS(1, 1), 1 },
-    { DESCRIBED("02 00 07 00", "01", "08", "00", "00"), 7, "50 58 31 00", { 0, 0 }, TEXT_STANDS(1, 1), 1 },
+    { DESCRIBED("01 00 07 00", "63", "08", "00", "00"), 7, "50 58 31 00", 3, 0, TEXT_STANDS(0, 3), 1 },
+    { DESCRIBED("01 00 07 00", "01", "08", "00", "00"), 0, "50 58 31 00", 0, 0, TEXT_STANDS(1, 1), 1 },
+    { DESCRIBED("02 00 07 00", "01", "08", "00", "00"), 7, "50 58 31 00", 0, 0, TEXT_STANDS(1, 1), 1 },
     /* types without decoding here, unknown codes among them, inside the record and not */
-    { DESCRIBED("00 00 10 00", "00", "10", "00", "00"), 0, "34 12", { 0, 0 }, UNKNOWN_IS, 1 },
-    { DESCRIBED("00 00 11 00", "00", "10", "00", "00"), 0, "34 12", { 0, 0 }, UNKNOWN_IS, 1 },
-    { DESCRIBED("00 00 80 00", "00", "10", "00", "00"), 0, "34 12", { 0, 0 }, UNKNOWN_IS, 1 },
-    { DESCRIBED("00 00 FE 00", "00", "10", "00", "00"), 0, "34 12", { 0, 0 }, UNKNOWN_IS, 1 },
-    { DESCRIBED("00 00 FF 00", "00", "10", "00", "00"), 0, "34 12", { 0, 0 }, UNKNOWN_IS, 1 },
-    { DESCRIBED("00 00 11 00", "00", "11", "00", "00"), 0, "34 12", { 0, 0 }, OUTSIDE(3), 0 },
-    { DESCRIBED("01 00 11 00", "63", "40", "00", "00"), 7, "34 12", { 0, 0 }, UNKNOWN_IS, 1 },
+    { DESCRIBED("00 00 10 00", "00", "10", "00", "00"), 0, "34 12", 0, 0, UNKNOWN_IS, 1 },
+    { DESCRIBED("00 00 11 00", "00", "10", "00", "00"), 0, "34 12", 0, 0, UNKNOWN_IS, 1 },
+    { DESCRIBED("00 00 80 00", "00", "10", "00", "00"), 0, "34 12", 0, 0, UNKNOWN_IS, 1 },
+    { DESCRIBED("00 00 FE 00", "00", "10", "00", "00"), 0, "34 12", 0, 0, UNKNOWN_IS, 1 },
+    { DESCRIBED("00 00 FF 00", "00", "10", "00", "00"), 0, "34 12", 0, 0, UNKNOWN_IS, 1 },
+    { DESCRIBED("00 00 11 00", "00", "11", "00", "00"), 0, "34 12", 0, 0, OUTSIDE(3), 0 },
+    { DESCRIBED("01 00 11 00", "63", "40", "00", "00"), 7, "34 12", 0, 0, UNKNOWN_IS, 1 },
     /* invalid by the flags, by the record's bit, and valid by another bit */
-    { DESCRIBED("00 00 00 00", "00", "10", "01", "09"), 0, "34 12 00 02", { 0, 2 }, UNSIGNED_IS(4660), 0 },
-    { DESCRIBED("00 00 00 00", "00", "10", "02", "09"), 0, "34 12 00 02", { 0, 2 }, UNSIGNED_IS(4660), 0 },
-    { DESCRIBED("00 00 00 00", "00", "10", "02", "08"), 0, "34 12 00 02", { 0, 2 }, UNSIGNED_IS(4660), 1 },
-    { DESCRIBED("00 00 00 00", "00", "10", "00", "09"), 0, "34 12 00 02", { 0, 2 }, UNSIGNED_IS(4660), 1 },
+    { DESCRIBED("00 00 00 00", "00", "10", "01", "09"), 0, "34 12 00 02", 0, 2, UNSIGNED_IS(4660), 0 },
+    { DESCRIBED("00 00 00 00", "00", "10", "02", "09"), 0, "34 12 00 02", 0, 2, UNSIGNED_IS(4660), 0 },
+    { DESCRIBED("00 00 00 00", "00", "10", "02", "08"), 0, "34 12 00 02", 0, 2, UNSIGNED_IS(4660), 1 },
+    { DESCRIBED("00 00 00 00", "00", "10", "00", "09"), 0, "34 12 00 02", 0, 2, UNSIGNED_IS(4660), 1 },
 };
+
+/* The record is a whole one of its group, so both readings of its validity agree. */
+static void check_decoded(described a, mf4_channel channel)
+{
+    lent record = hex(a.record);
+    const mf4_group group = group_filling(record.length, a.id_size, a.data_bytes);
+    CHECK(value_is(mf4_decode_value(record.bytes, record.length, a.id_size, channel), a.value));
+    CHECK(valid_value_is(mf4_decode_valid_value(record.bytes, record.length, group, channel), a.value, a.is_valid));
+    CHECK(valid_value_is(mf4_decode_valid_value_unbounded(record.bytes, record.length, group, channel), a.value, a.is_valid));
+}
 
 /* What is read goes into the decoder as it stands. */
 static void check_described(described a, size_t links)
@@ -318,15 +329,11 @@ static void check_described(described a, size_t links)
     uint8_t bytes[MOST_BLOCK];
     size_t size = bytes_with_links(links, bytes);
     mf4_channel_reply read;
-    lent record;
     from_hex(a.fields, bytes + HEADER + 8 * links);
     put_little(bytes + 64, a.data, 8);
     read = read_bytes(bytes, size);
     CHECK(read.reply == 0);
-    record = hex(a.record);
-    CHECK(value_is(mf4_decode_value(record.bytes, record.length, a.group.record_id_size, read.block.channel), a.value));
-    CHECK(valid_value_is(mf4_decode_valid_value(record.bytes, record.length, a.group, read.block.channel),
-                         a.value, a.is_valid));
+    check_decoded(a, read.block.channel);
 }
 
 static void check_descriptions(void)

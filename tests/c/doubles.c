@@ -58,8 +58,8 @@ static int has_bits(double value, uint64_t bits) { return memcmp(&value, &bits, 
 
 static void check_double_case(double_case a)
 {
-    const mf4_group group = group_of(0, 0);
     lent record = hex(a.record);
+    const mf4_group group = group_filling(record.length, 0, 0);
     CHECK(mf4_decode_double_bits(record.bytes, record.length, 0, a.channel) == a.bits);
     CHECK(has_bits(mf4_decode_double(record.bytes, record.length, 0, a.channel), a.bits));
     CHECK(has_bits(mf4_decode_valid_double(record.bytes, record.length, group, a.channel), a.bits));
@@ -68,10 +68,11 @@ static void check_double_case(double_case a)
     CHECK(has_bits(mf4_decode_valid_double(record.bytes, record.length, group, a.channel), NAN_BITS));
 }
 
-/* An id of one byte, 10 in the one data byte, and bit 1 of the last byte set: 10.0 where that bit is not the channel's. */
+/* An id of one byte, 10 in the one data byte, and bit 1 of the last byte set: 10.0 where the channel's bit is another one of
+ * that byte. */
 static void check_valid_doubles(void)
 {
-    const mf4_group group = group_of(1, 1);
+    const mf4_group group = group_of(1, 1, 1);
     mf4_channel channel = FIELD(MF4_TYPE_UNSIGNED_LE, 0, 0, 8);
     lent record = hex("FF 0A 02");
     uint32_t bit;
@@ -80,10 +81,25 @@ static void check_valid_doubles(void)
         channel.flags = MF4_CHANNEL_INVALIDATION_BIT, channel.pos_invalidation_bit = bit;
         CHECK(mf4_decode_double(record.bytes, record.length, 1, channel) == 10.0);
         CHECK(has_bits(mf4_decode_valid_double(record.bytes, record.length, group, channel),
-                       bit == 1 ? NAN_BITS : mf4_double(10.0).number));
+                       bit == 1 || bit == 8 ? NAN_BITS : mf4_double(10.0).number));
     }
-    name_case("a double of no record");
-    CHECK(has_bits(mf4_decode_valid_double(NULL, 0, group, channel), NAN_BITS));
+}
+
+/* A record of one byte, 10, or of none, and a channel without a bit: 10.0 where the length is the group's. */
+static void check_doubles_in_group(void)
+{
+    static const struct { mf4_group group; size_t length; uint64_t bits; } rows[] = {
+        { { 0, 1, 0 }, 1, UINT64_C(0x4024000000000000) }, { { 0, 0, 1 }, 1, UINT64_C(0x4024000000000000) },
+        { { 0, 0, 0 }, 1, NAN_BITS }, { { 0, 2, 0 }, 1, NAN_BITS }, { { 0, 1, 1 }, 1, NAN_BITS },
+        { { 0, 0, 0 }, 0, NAN_BITS }, { { 0, 1, 0 }, 0, NAN_BITS },
+    };
+    const mf4_channel channel = FIELD(MF4_TYPE_UNSIGNED_LE, 0, 0, 8);
+    size_t i;
+    for (i = 0; i < COUNT(rows); i++) {
+        lent record = rows[i].length == 0 ? no_bytes() : hex("0A");
+        name_row("a double in a group", i);
+        CHECK(has_bits(mf4_decode_valid_double(record.bytes, record.length, rows[i].group, channel), rows[i].bits));
+    }
 }
 
 void check_doubles(void)
@@ -97,4 +113,5 @@ void check_doubles(void)
     CHECK(mf4_decode_double_bits(NULL, 0, 0, double_cases[0].channel) == NAN_BITS);
     CHECK(mf4_decode_double_bits(NULL, 0, MOST, double_cases[0].channel) == NAN_BITS);
     check_valid_doubles();
+    check_doubles_in_group();
 }

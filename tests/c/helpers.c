@@ -112,6 +112,15 @@ static void check_names_of_refused_numbers(void)
     CHECK(MF4_MAX_CHANNELS == 256);
 }
 
+static void check_names_of_refused_areas(void)
+{
+    name_case("names of the refusals of a record's validity");
+    CHECK(MF4_OTHER_LENGTH == 28 && strcmp(mf4_reply_text(28), "the record is not as long as its group says") == 0);
+    CHECK(MF4_BIT_OUTSIDE == 29
+          && strcmp(mf4_reply_text(29), "the invalidation bit lies outside the group's invalidation bytes") == 0);
+    CHECK(MF4_CHANNEL_ALL_INVALID == 1 && MF4_CHANNEL_INVALIDATION_BIT == 2);
+}
+
 static void check_reply_of_helpers(void)
 {
     name_case("the helpers' own reply");
@@ -129,5 +138,6 @@ void check_helpers(void)
     check_names_of_refused_fields();
     check_names_of_refused_payloads();
     check_names_of_refused_numbers();
+    check_names_of_refused_areas();
     check_reply_of_helpers();
 }

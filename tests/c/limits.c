@@ -103,6 +103,7 @@ static void check_everything(void)
     check_channel_writing();
     check_values();
     check_refused_fields();
+    check_areas();
     check_doubles();
     check_written_values();
     check_overlaps();

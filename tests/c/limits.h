@@ -44,6 +44,7 @@ void check_channels(void);
 void check_channel_writing(void);
 void check_values(void);
 void check_refused_fields(void);
+void check_areas(void);
 void check_doubles(void);
 void check_written_values(void);
 void check_overlaps(void);

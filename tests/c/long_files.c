@@ -28,7 +28,7 @@ static const long_case long_cases[] = {
 };
 
 static const mf4_channel byte = FIELD(MF4_TYPE_UNSIGNED_LE, 0, 0, 8), position = PAYLOAD(MF4_TYPE_UTF8, 0, 64);
-static const mf4_group group = { 0, 8 };
+static const mf4_group group = { 0, 8, 0 };
 
 static mf4_payload_reply ask_payload(const uint8_t *file, long_case a, uint64_t record_size, mf4_channel channel,
                                      lent buffer)

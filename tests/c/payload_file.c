@@ -38,7 +38,8 @@ static void fill_records(const payload_plan *plan, uint8_t *records)
 question lay_payload_file(const payload_plan *plan)
 {
     const mf4_channel channel = { MF4_TYPE_BYTE_ARRAY, MF4_CHANNEL_VARIABLE_LENGTH, 0, BYTE_OFFSET, 64, 0, 0, 0 };
-    question asked = { 0, START, ASKED, RECORD_SIZE, { ID_SIZE, DATA_BYTES }, channel, RECORD_SIZE + 7, STREAM_SIZE + 5 };
+    question asked = { 0, START, ASKED, RECORD_SIZE, { ID_SIZE, DATA_BYTES, INVALIDATION_BYTES }, channel,
+                       RECORD_SIZE + 7, STREAM_SIZE + 5 };
     uint8_t records[RECORDS * RECORD_SIZE];
     start_file(0);
     fill_records(plan, records);
@@ -105,7 +106,7 @@ void check_answered(const payload_plan *plan, question asked, expected value, ui
         CHECK(payload_is(ask(asked, record, payload), value, length, is_valid));
         CHECK(holds_record(record, plan) && holds_payload(payload, plan));
         CHECK(value_is(mf4_decode_value(payload.bytes, length, asked.group.record_id_size, asked.channel), value));
-        CHECK(mf4_check_validity(record.bytes, RECORD_SIZE, asked.group, asked.channel) == is_valid);
+        CHECK(mf4_check_validity_unbounded(record.bytes, RECORD_SIZE, asked.group, asked.channel) == is_valid);
     }
 }
 

@@ -6,7 +6,8 @@
 #include "values.h"
 
 /* Three records: an id of one byte, two bytes of data, a position, a byte of invalidation bits. The second is asked for. */
-enum { RECORD_SIZE = 12, ID_SIZE = 1, BYTE_OFFSET = 2, DATA_BYTES = 10, ASKED = 1, RECORDS = 3, STREAM_SIZE = 32 };
+enum { RECORD_SIZE = 12, ID_SIZE = 1, BYTE_OFFSET = 2, DATA_BYTES = 10, INVALIDATION_BYTES = 1 };
+enum { ASKED = 1, RECORDS = 3, STREAM_SIZE = 32 };
 
 /* What the file is laid out from. stream: the joined data of the payloads. */
 typedef struct payload_plan {

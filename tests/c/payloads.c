@@ -188,11 +188,22 @@ static const struct { uint32_t flags, bit; uint8_t invalidation; uint32_t data_b
     { 2, 0, 0xFF, 11, 1 }, { 2, 0, 0xFF, UINT32_MAX, 1 },
 };
 
+/* However many invalidation bytes the group has. */
+static void check_validity(const payload_plan *plan, question asked, uint8_t is_valid)
+{
+    static const uint32_t invalidation_bytes[] = { 0, 1, 2, UINT32_MAX };
+    static const expected value = STANDS(MF4_KIND_BYTES, 0, 24);
+    size_t i;
+    for (i = 0; i < COUNT(invalidation_bytes); i++) {
+        asked.group.invalidation_bytes = invalidation_bytes[i];
+        check_answered(plan, asked, value, is_valid);
+    }
+}
+
 /* The payload's bits, all set or all clear, play no part. */
 static void check_validities(void)
 {
     static const uint8_t fills[] = { 0x00, 0xFF };
-    static const expected value = STANDS(MF4_KIND_BYTES, 0, 24);
     size_t i, j;
     for (i = 0; i < COUNT(validities); i++)
         for (j = 0; j < COUNT(fills); j++) {
@@ -206,7 +217,7 @@ static void check_validities(void)
             asked.channel.flags = validities[i].flags;
             asked.channel.pos_invalidation_bit = validities[i].bit;
             asked.group.data_bytes = validities[i].data_bytes;
-            check_answered(&plan, asked, value, validities[i].is_valid);
+            check_validity(&plan, asked, validities[i].is_valid);
         }
 }
 

@@ -83,11 +83,16 @@ static void check_repeated_block(void)
     CHECK(joins(9) && fetches(0, 9, "01 02 03 01 02 03 04 05 06"));
 }
 
-static mf4_valid_value_reply record_value(uint64_t number, uint64_t size, uint64_t id_size, mf4_channel channel, lent buffer)
+static mf4_valid_value_reply value_in_group(uint64_t number, uint64_t size, mf4_group group, mf4_channel channel, lent buffer)
 {
     lent file = lend_file();
-    return mf4_record_value(file.bytes, file.length, START, number, size, group_of(id_size, 2), channel, buffer.bytes,
-                            buffer.length);
+    return mf4_record_value(file.bytes, file.length, START, number, size, group, channel, buffer.bytes, buffer.length);
+}
+
+/* The group's records have that size, where it is enough for the id and the data. */
+static mf4_valid_value_reply record_value(uint64_t number, uint64_t size, uint64_t id_size, mf4_channel channel, lent buffer)
+{
+    return value_in_group(number, size, group_filling(size, id_size, 2), channel, buffer);
 }
 
 /* The records of 3 bytes are 01 02 03 and 04 05 06; with 2 data bytes the last byte holds the invalidation bits. */
@@ -104,8 +109,9 @@ static void check_record_value_answers(void)
     CHECK(valid_value_is(record_value(0, 3, 0, channel, buffer), first, 0) && holds_only_hex(buffer, "01 02 03"));
     buffer = lend_marked(OUTPUT, 9);
     CHECK(valid_value_is(record_value(1, 3, 0, channel, buffer), second, 1) && holds_only_hex(buffer, "04 05 06"));
-    channel.pos_invalidation_bit = 8;
+    channel.pos_invalidation_bit = 7;
     CHECK(valid_value_is(record_value(0, 3, 0, channel, buffer), first, 1));
+    channel.pos_invalidation_bit = 8;
     channel.flags = MF4_CHANNEL_INVALIDATION_BIT | MF4_CHANNEL_ALL_INVALID;
     CHECK(valid_value_is(record_value(0, 3, 0, channel, buffer), first, 0));
     CHECK(valid_value_is(record_value(1, 3, 1, text_channel, buffer), text, 1) && holds_only_hex(buffer, "04 05 06"));
@@ -129,36 +135,76 @@ static const refused_field refused_fields[] = {
     { 0, FIELD(MF4_TYPE_FLOAT_LE, 0, 0, 16), 22, 0 },
 };
 
-/* The field is refused and the record stays. The marks behind the record are no part of it. */
-static void check_record_value_refusals(void)
+/* The value is refused and the record stays. The marks behind the record are no part of it. */
+static void check_value_refused(mf4_group group, mf4_channel channel, uint32_t reply, uint64_t told)
+{
+    lent buffer = lend_marked(OUTPUT, 9);
+    CHECK(valid_value_refused(value_in_group(1, 3, group, channel, buffer), reply, told));
+    CHECK(holds_only_hex(buffer, "04 05 06"));
+    buffer = lend_marked(OUTPUT, 3);
+    CHECK(valid_value_refused(value_in_group(0, 3, group, channel, buffer), reply, told));
+    CHECK(holds_only_hex(buffer, "01 02 03"));
+}
+
+/* In a group of such records, and in one whose records are longer, which comes behind. */
+static void check_refused_fields_of_records(void)
 {
     size_t i;
     make_cut_file();
     for (i = 0; i < COUNT(refused_fields); i++) {
         const refused_field a = refused_fields[i];
-        lent buffer = lend_marked(OUTPUT, 9);
         name_row("a record's field refused", i);
-        CHECK(valid_value_refused(record_value(1, 3, a.id_size, a.channel, buffer), a.reply, a.told));
-        CHECK(holds_only_hex(buffer, "04 05 06"));
-        buffer = lend_marked(OUTPUT, 3);
-        CHECK(valid_value_refused(record_value(0, 3, a.id_size, a.channel, buffer), a.reply, a.told));
-        CHECK(holds_only_hex(buffer, "01 02 03"));
+        check_value_refused(group_filling(3, a.id_size, 2), a.channel, a.reply, a.told);
+        check_value_refused(group_of(a.id_size, 2, 4), a.channel, a.reply, a.told);
+    }
+}
+
+typedef struct refused_area {
+    mf4_group group;
+    uint32_t flags, position, reply;
+} refused_area;
+
+static const refused_area refused_areas[] = {
+    { { 0, 2, 0 }, 0, 0, 28 }, { { 0, 2, 2 }, 0, 0, 28 }, { { 0, 3, 1 }, 1, 0, 28 }, { { 1, 1, 0 }, 3, 0, 28 },
+    { { 2, 2, 0 }, 2, 0, 28 }, { { 0, 0, 0 }, 4, 0, 28 }, { { 0, UINT32_MAX, 4 }, 2, 0, 28 }, { { 0, 2, 2 }, 2, 16, 28 },
+    { { 0, 2, 1 }, 2, 8, 29 }, { { 0, 3, 0 }, 2, 0, 29 }, { { 1, 2, 0 }, 6, UINT32_MAX, 29 }, { { 2, 0, 1 }, 2, 9, 29 },
+};
+
+/* A field behind the id, and a text that is taken from the whole record. */
+static void check_refused_areas_of_records(void)
+{
+    mf4_channel byte = FIELD(MF4_TYPE_UNSIGNED_LE, 0, 0, 8), text = PAYLOAD(MF4_TYPE_UTF8, 0, 64);
+    size_t i;
+    make_cut_file();
+    name_case("a record's length beside a sum that would wrap to it");
+    check_value_refused(group_of(MOST, 2, 2), text, 28, 0);
+    for (i = 0; i < COUNT(refused_areas); i++) {
+        const refused_area a = refused_areas[i];
+        name_row("a record's invalidation bytes", i);
+        byte.flags = text.flags = a.flags;
+        byte.pos_invalidation_bit = text.pos_invalidation_bit = a.position;
+        check_value_refused(a.group, byte, a.reply, 0);
+        check_value_refused(a.group, text, a.reply, 0);
     }
 }
 
 static void check_refused_records(void)
 {
     const mf4_channel too_far = FIELD(MF4_TYPE_UNSIGNED_LE, 0, 2, 16), good = FIELD(MF4_TYPE_UNSIGNED_LE, 0, 0, 8);
+    const mf4_group other = group_of(0, 1, 1);
     lent buffer;
-    name_case("a record refused, with a field that is refused too");
+    name_case("a record refused, with a field and a length that are refused too");
     make_cut_file();
     buffer = lend_marked(OUTPUT, 9);
     CHECK(valid_value_refused(record_value(2, 3, 0, too_far, buffer), 16, 0) && is_unchanged(buffer));
     CHECK(valid_value_refused(record_value(0, 10, 0, too_far, buffer), 15, 0) && is_unchanged(buffer));
     CHECK(valid_value_refused(record_value(0, 0, 0, too_far, buffer), 15, 0) && is_unchanged(buffer));
     CHECK(valid_value_refused(record_value(0, 3, 0, good, no_bytes()), 15, 0));
+    CHECK(valid_value_refused(value_in_group(2, 3, other, good, buffer), 16, 0) && is_unchanged(buffer));
+    CHECK(valid_value_refused(value_in_group(0, 10, other, good, buffer), 15, 0) && is_unchanged(buffer));
     put(88, 4, 8);
     CHECK(valid_value_refused(record_value(0, 3, 0, good, buffer), 13, 0) && is_unchanged(buffer));
+    CHECK(valid_value_refused(value_in_group(0, 3, other, good, buffer), 13, 0) && is_unchanged(buffer));
     cut_file(95);
     CHECK(valid_value_refused(record_value(0, 3, 0, good, buffer), 2, 88) && is_unchanged(buffer));
 }
@@ -171,6 +217,7 @@ void check_records(void)
     check_no_data();
     check_repeated_block();
     check_record_value_answers();
-    check_record_value_refusals();
+    check_refused_fields_of_records();
+    check_refused_areas_of_records();
     check_refused_records();
 }

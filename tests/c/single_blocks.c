@@ -99,7 +99,7 @@ static void check_no_room_for_list(void)
 static void check_single_payloads(size_t cut)
 {
     static const expected text = TEXT_STANDS(0, 3);
-    const mf4_group group = group_of(0, 8);
+    const mf4_group group = group_of(0, 8, 0);
     mf4_channel channel = { MF4_TYPE_UTF8, MF4_CHANNEL_VARIABLE_LENGTH, 0, 0, 64, 0, 0, 0 };
     uint8_t position[8], stream[14];
     lent file, record = lend_marked(OUTPUT, 8), payload = lend_marked(TWIN_OUTPUT, 5);

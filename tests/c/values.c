@@ -1,10 +1,16 @@
 /* A channel's value and its validity, in records and payloads. */
 #include "values.h"
 
-mf4_group group_of(uint64_t record_id_size, uint32_t data_bytes)
+mf4_group group_of(uint64_t record_id_size, uint32_t data_bytes, uint32_t invalidation_bytes)
 {
-    const mf4_group group = { record_id_size, data_bytes };
+    const mf4_group group = { record_id_size, data_bytes, invalidation_bytes };
     return group;
+}
+
+mf4_group group_filling(uint64_t record_length, uint64_t record_id_size, uint32_t data_bytes)
+{
+    const uint64_t behind_id = record_length > record_id_size ? record_length - record_id_size : 0;
+    return group_of(record_id_size, data_bytes, behind_id > data_bytes ? (uint32_t)(behind_id - data_bytes) : 0);
 }
 
 int value_is(mf4_value_reply a, expected value)
@@ -29,6 +35,11 @@ static expected refusal_of(uint32_t reply, uint64_t told)
 {
     const expected refusal = { reply, told, MF4_KIND_NOTHING, 0, 0, 0 };
     return refusal;
+}
+
+int validity_is(mf4_validity_reply a, uint32_t reply, uint8_t is_valid)
+{
+    return a.reply == reply && a.told == 0 && a.is_valid == is_valid;
 }
 
 int valid_value_refused(mf4_valid_value_reply a, uint32_t reply, uint64_t told)
@@ -144,15 +155,27 @@ static const value_case payload_cases[] = {
     { "34 12", 0, { MF4_TYPE_UNSIGNED_LE, 2, 0, 1, 8, 0, 0, 7 }, UNSIGNED_IS(18) },  /* another channel type  */
 };
 
+/* Of a record that is shorter than its id, which is in no group, only what refuses the value comes before its length. */
+static void check_value_in_group(lent record, uint64_t id_size, mf4_channel channel, expected value)
+{
+    const mf4_group group = group_filling(record.length, id_size, 0);
+    const mf4_valid_value_reply both = mf4_decode_valid_value(record.bytes, record.length, group, channel);
+    if (value.reply == MF4_ANSWER && id_size > record.length)
+        CHECK(valid_value_refused(both, 28, 0));
+    else
+        CHECK(valid_value_is(both, value, value.reply == MF4_ANSWER));
+}
+
 void check_value(lent record, uint64_t id_size, mf4_channel channel, expected value)
 {
     const uint8_t is_answered = value.reply == MF4_ANSWER;
-    const mf4_group group = group_of(id_size, 0);
+    const mf4_group group = group_of(id_size, 0, 0);
     CHECK(value_is(mf4_decode_value(record.bytes, record.length, id_size, channel), value));
-    CHECK(valid_value_is(mf4_decode_valid_value(record.bytes, record.length, group, channel), value, is_answered));
+    CHECK(valid_value_is(mf4_decode_valid_value_unbounded(record.bytes, record.length, group, channel), value, is_answered));
+    check_value_in_group(record, id_size, channel, value);
     if (!is_answered) {
         CHECK(mf4_decode_double_bits(record.bytes, record.length, id_size, channel) == NAN_BITS);
-        CHECK(mf4_check_validity(record.bytes, record.length, group, channel) == 1);
+        CHECK(mf4_check_validity_unbounded(record.bytes, record.length, group, channel) == 1);
     }
 }
 
@@ -167,43 +190,48 @@ void check_value_cases(const char *table, const value_case *cases, size_t count)
 
 typedef struct validity_case {
     const char *record;
-    mf4_group group;
-    uint32_t flags, position;
+    uint64_t id_size;
+    uint32_t data_bytes, flags, position;
     uint8_t is_valid;
 } validity_case;
 
+/* The invalidation bytes have no end but the slice's. */
 static const validity_case validity_cases[] = {
-    { "34 12 00 02", { 0, 2 }, 2, 9, 0 },  { "34 12 00 02", { 0, 2 }, 2, 8, 1 },  { "34 12 00 02", { 0, 2 }, 2, 10, 1 },
-    { "34 12 00 02", { 0, 2 }, 2, 16, 1 }, { "34 12 00 02", { 0, 2 }, 3, 16, 0 }, { "34 12 00 02", { 0, 2 }, 1, 8, 0 },
-    { "34 12 00 02", { 0, 2 }, 0, 9, 1 },  { "34 12 00 02", { 1, 2 }, 2, 1, 0 },  { "34 12 00 80", { 3, 0 }, 2, 7, 0 },
-    { "34 12 00 80", { 3, 0 }, 2, 8, 1 },  { "FF FF", { MOST, 1 }, 2, 0, 1 },     { "FF FF", { MOST, 0 }, 2, 8, 1 },
-    { "FF FF", { 0, UINT32_MAX }, 2, 0, 1 }, { "FF FF", { 0, 0 }, 2, UINT32_MAX, 1 },
-    { "FF FF", { MOST, UINT32_MAX }, 2, UINT32_MAX, 1 },
-    { "FF FF", { 0, 0 }, UINT32_MAX - 3, 0, 1 }, { "FF FF", { 0, 0 }, UINT32_MAX - 1, 15, 0 }, { "", { 0, 0 }, 2, 0, 1 },
-    { "", { 0, 0 }, 1, 0, 0 }, { "", { 0, 0 }, 0, 0, 1 },
+    { "34 12 00 02", 0, 2, 2, 9, 0 },  { "34 12 00 02", 0, 2, 2, 8, 1 },  { "34 12 00 02", 0, 2, 2, 10, 1 },
+    { "34 12 00 02", 0, 2, 2, 16, 1 }, { "34 12 00 02", 0, 2, 3, 16, 0 }, { "34 12 00 02", 0, 2, 1, 8, 0 },
+    { "34 12 00 02", 0, 2, 0, 9, 1 },  { "34 12 00 02", 1, 2, 2, 1, 0 },  { "34 12 00 80", 3, 0, 2, 7, 0 },
+    { "34 12 00 80", 3, 0, 2, 8, 1 },  { "FF FF", MOST, 1, 2, 0, 1 },     { "FF FF", MOST, 0, 2, 8, 1 },
+    { "FF FF", 0, UINT32_MAX, 2, 0, 1 }, { "FF FF", 0, 0, 2, UINT32_MAX, 1 },
+    { "FF FF", MOST, UINT32_MAX, 2, UINT32_MAX, 1 },
+    { "FF FF", 0, 0, UINT32_MAX - 3, 0, 1 }, { "FF FF", 0, 0, UINT32_MAX - 1, 15, 0 }, { "", 0, 0, 2, 0, 1 },
+    { "", 0, 0, 1, 0, 0 }, { "", 0, 0, 0, 0, 1 },
 };
 
-static void check_validity_case(validity_case a)
+static void check_validity_case(validity_case a, uint32_t invalidation_bytes)
 {
+    const mf4_group group = group_of(a.id_size, a.data_bytes, invalidation_bytes);
     mf4_channel channel = FIELD(MF4_TYPE_UNSIGNED_LE, 0, 0, 8);
     lent record = hex_or_null(a.record);
     mf4_valid_value_reply both;
     channel.flags = a.flags;
     channel.pos_invalidation_bit = a.position;
-    CHECK(mf4_check_validity(record.bytes, record.length, a.group, channel) == a.is_valid);
-    if (a.group.record_id_size >= record.length)
+    CHECK(mf4_check_validity_unbounded(record.bytes, record.length, group, channel) == a.is_valid);
+    if (a.id_size >= record.length)
         return;
-    both = mf4_decode_valid_value(record.bytes, record.length, a.group, channel);
+    both = mf4_decode_valid_value_unbounded(record.bytes, record.length, group, channel);
     CHECK(both.reply == 0 && both.kind == MF4_KIND_UNSIGNED && both.is_valid == a.is_valid);
 }
 
+/* However many invalidation bytes the group has. */
 static void check_validity(void)
 {
-    size_t i;
-    for (i = 0; i < COUNT(validity_cases); i++) {
-        name_row("validity", i);
-        check_validity_case(validity_cases[i]);
-    }
+    static const uint32_t invalidation_bytes[] = { 0, 1, 2, UINT32_MAX };
+    size_t i, j;
+    for (i = 0; i < COUNT(validity_cases); i++)
+        for (j = 0; j < COUNT(invalidation_bytes); j++) {
+            name_row("validity", i);
+            check_validity_case(validity_cases[i], invalidation_bytes[j]);
+        }
 }
 
 void check_values(void)

@@ -7,7 +7,10 @@
 #define FIELD(type, bit_offset, byte_offset, bit_count) { (type), 0, (bit_offset), (byte_offset), (bit_count), 0, 0, 0 }
 #define PAYLOAD(type, bit_offset, bit_count) { (type), MF4_CHANNEL_VARIABLE_LENGTH, (bit_offset), 99, (bit_count), 0, 0, 7 }
 
-mf4_group group_of(uint64_t record_id_size, uint32_t data_bytes);
+mf4_group group_of(uint64_t record_id_size, uint32_t data_bytes, uint32_t invalidation_bytes);
+
+/* With the invalidation bytes that make its records so long, or with none if they are as long already, or longer. */
+mf4_group group_filling(uint64_t record_length, uint64_t record_id_size, uint32_t data_bytes);
 
 typedef mf4_value_reply expected;
 
@@ -25,10 +28,12 @@ int valid_value_is(mf4_valid_value_reply a, expected value, uint8_t is_valid);
 
 int payload_is(mf4_payload_reply a, expected value, uint64_t payload_length, uint8_t is_valid);
 
+int validity_is(mf4_validity_reply a, uint32_t reply, uint8_t is_valid);
 int valid_value_refused(mf4_valid_value_reply a, uint32_t reply, uint64_t told);
 int payload_refused(mf4_payload_reply a, uint32_t reply, uint64_t told);
 
-/* The value alone and with its validity; where it is refused, the double and the validity alone too. */
+/* The value alone and with its validity, which is asked of a group whose records are as long as this one, if there is any;
+ * where it is refused, the double and the validity alone too. */
 void check_value(lent record, uint64_t id_size, mf4_channel channel, expected value);
 
 typedef struct value_case {

@@ -3,6 +3,7 @@
 #include <string.h>
 
 #include "damage.h"
+#include "mf4.h"
 
 static void change_identification(void)
 {
@@ -64,7 +65,7 @@ static void change_fields(void)
 /* A channel whose field is refused then: below the channel stands once why, and in each of the six records the number. */
 static void changed_field(uint64_t at, uint64_t value, int size, unsigned number, const char *why)
 {
-    char refused[32], because[32], words[160];
+    char refused[32], because[32], words[256];
     snprintf(refused, sizeof refused, "refused (%u)", number);
     snprintf(because, sizeof because, "refused (%u): ", number);
     snprintf(words, sizeof words, "\n    %s%s\n", because, why);
@@ -88,6 +89,60 @@ static void refuse_fields(void)
     changed_field(oil + 8, 16, 4, 22, "the description gives the float neither 32 nor 64 bits");
 }
 
+/* A channel's flags, and behind them the place of its invalidation bit. */
+static uint64_t marked(uint32_t flags, uint32_t position)
+{
+    return flags | (uint64_t)position << 32;
+}
+
+#define BIT_OUTSIDE(position, bits) \
+    "the invalidation bit lies outside the group's invalidation bytes; it is bit " position ", the record has " bits \
+    ", from 0 on: have the log written again with a right description"
+
+/* One invalidation byte, so bits 0 to 7; the channel group tells it at 28 of its fields, a channel its flags at 12 and its bit
+ * at 16. */
+static void refuse_bits(void)
+{
+    const uint64_t bytes = block("##CG", 0) + 72 + 28, oil = fields_of(OIL) + 12;
+    changed_field(oil + 4, 8, 4, 29, BIT_OUTSIDE("8", "8"));
+    changed_field(oil + 4, UINT32_MAX, 4, 29, BIT_OUTSIDE("4294967295", "8"));
+    changed_field(oil, marked(0xFFFFFFFE, 8), 8, 29, BIT_OUTSIDE("8", "8"));
+    changed_field(bytes, 0, 4, 29, BIT_OUTSIDE("0", "0"));
+    must_hold(times_said("6 records of 47, 13 trailing bytes ignored") == 1, "no invalidation bytes", 0);
+    changed_field(fields_of(HOURS) + 12, marked(2, 8), 8, 29, BIT_OUTSIDE("8", "8"));
+    must_hold(times_said("  unknown: no record has valid hours\n") == 4, "hours whose validity is refused", 0);
+    changed_field(fields_of(SERIAL) + 12, marked(2, 8), 8, 29, BIT_OUTSIDE("8", "8"));
+    must_hold(times_said("damaged or no text: 6\n") == 1, "serials whose validity is refused", 0);
+}
+
+/* Inside the invalidation bytes, or where no bit is asked, nothing is refused. */
+static void accept_bits(void)
+{
+    const uint64_t bytes = block("##CG", 0) + 72 + 28, oil = fields_of(OIL) + 12;
+    changed(oil + 4, 1, 4, 0, "byte 23; invalid where invalidation bit 1 is set\n");
+    must_hold(times_said("  invalid  ") == 2, "another bit of the record", 0);
+    changed(oil + 4, 7, 4, 0, "byte 23; invalid where invalidation bit 7 is set\n");
+    must_hold(times_said("  invalid  ") == 1 && times_said("refused") == 0, "the last bit of the record", 0);
+    changed(oil, marked(3, 8), 8, 0, "byte 23; all invalid\n");
+    must_hold(times_said("  invalid  ") == 7 && times_said("refused") == 0, "all invalid, and a bit outside", 0);
+    changed(oil, marked(0, 8), 8, 0, "byte 23\n");
+    must_hold(times_said("  invalid  ") == 1 && times_said("refused") == 0, "a bit outside that is not asked", 0);
+    changed(bytes, 2, 4, 0, "6 records of 49, 1 trailing byte ignored");
+    must_hold(times_said("refused (29)") == 0, "two invalidation bytes", 0);
+}
+
+/* The hours without a field, and with an invalidation bit: what stands in place of a field is refused with it. */
+static void refuse_number(void)
+{
+    bad = good;
+    put(fields_of(HOURS), MF4_CHANNEL_VIRTUAL, 1);
+    put(fields_of(HOURS) + 12, marked(2, 7), 8);
+    must_say(&bad, "a virtual channel with a bit", 0, "  PX2                        1  ");
+    put(fields_of(HOURS) + 16, 8, 4);
+    must_say(&bad, "a virtual channel with a bit outside", 0, "\n    refused (29): " BIT_OUTSIDE("8", "8") "\n");
+    must_hold(times_said("refused (29)") == 7, "a virtual channel with a bit outside", 0);
+}
+
 void damage_fields(void)
 {
     change_identification();
@@ -95,4 +150,7 @@ void damage_fields(void)
     change_headers();
     change_fields();
     refuse_fields();
+    refuse_bits();
+    accept_bits();
+    refuse_number();
 }

@@ -69,6 +69,7 @@ static void change_contents(void)
     changed(remark + 2, 0, 1, 0, "  Orl\xC3\xA9" "ans            7306376951619478899\n");
     changed_payload(remark + 2, 0, 1, 21, 2);
     changed(remark + 12, 1, 4, 0, "  Orl\xC3\xA9" "ans           invalid\n");
+    changed(fields_of(SITE) + 16, 8, 4, 0, "  80 00   -                 sensor torn off"); /* behind the record: valid */
     changed(site + 4, 0x1B, 1, 0, "  \xC5\x81\xC3\xB3?\xC5\xBA, dock 3  ");
     changed(site, 0xFF, 1, 0, "  <Invalid UTF8>    -\n");
 }

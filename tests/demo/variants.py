@@ -10,7 +10,7 @@ import sys
 import legal
 
 MAX_LENGTH, VIRTUAL = 5, 6
-SERIAL, HOURS = 1, 2
+SERIAL, HOURS, OIL = 1, 2, 3
 
 
 def put(data, at, number, size):
@@ -43,6 +43,11 @@ def types(data):
     """The serial is of maximum length, and hours have no field."""
     for channel, kind in (SERIAL, MAX_LENGTH), (HOURS, VIRTUAL):
         put(data, addresses(data, "CN")[channel] + 88, kind, 1)
+
+
+def bit_outside(data):
+    """The oil's invalidation bit is the first one behind the group's invalidation bytes."""
+    put(data, addresses(data, "CN")[OIL] + 104, 8, 4)
 
 
 def single(data):
@@ -80,7 +85,7 @@ def cut_single(data):
 def main():
     with open(sys.argv[1], "rb") as file:
         good = file.read()
-    for change in no_link, no_size, unsorted, types, single, loop, long, cut_single:
+    for change in no_link, no_size, unsorted, types, bit_outside, single, loop, long, cut_single:
         data = bytearray(good)
         change(data)
         with open(os.path.join(sys.argv[2], change.__name__ + ".mf4"), "wb") as file:

@@ -78,7 +78,7 @@ static void exercise_record_value(query asked, mf4_done_reply fetched, lent reco
     lent buffer = lend_marked(TWIN_OUTPUT, asked.buffer_length);
     mf4_valid_value_reply answer = record_value(asked, asked.file.length, buffer), expected;
     memset(&expected, 0, sizeof expected);
-    check_reply(RECORD_VALUE, answer.reply, answer.told, RECORD_REPLIES | FIELD_REFUSALS);
+    check_reply(RECORD_VALUE, answer.reply, answer.told, RECORD_REPLIES | FIELD_REFUSALS | AREA_REFUSALS);
     note(RECORD_VALUE, 32 + answer.kind);
     if (fetched.reply == MF4_ANSWER)
         expected = mf4_decode_valid_value(record.bytes, (size_t)asked.record_size, asked.how.group, asked.how.channel);
@@ -120,8 +120,10 @@ void exercise_chain(const log_file *log, reading how)
 {
     query asked = choose_query(log, how);
     lent buffer = lend_marked(OUTPUT, asked.buffer_length);
-    mf4_length_reply length;
+    mf4_done_reply fetched;
     exercise_long_file(asked, buffer);
-    length = exercise_length(log, asked);
-    exercise_record_value(asked, exercise_record(log, asked, length, buffer), buffer);
+    fetched = exercise_record(log, asked, exercise_length(log, asked), buffer);
+    exercise_record_value(asked, fetched, buffer);
+    asked.how = fitted(how, asked.record_size);
+    exercise_record_value(asked, fetched, buffer);
 }

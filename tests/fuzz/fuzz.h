@@ -12,8 +12,8 @@ void fail(const char *claim, const char *file, int line);
 
 enum call {
     READ_HEADER, WRITE_HEADER, READ_LIST, WRITE_EQUAL, WRITE_VARIABLE, READ_CHANNEL, WRITE_CHANNEL, DECODE, VALIDITY,
-    DECODE_VALID, DECODE_DOUBLE, WRITE_VALUE, FIRST_OVERLAP, TEXT_LATIN1, TEXT_UTF8, TEXT_UTF16_LE, TEXT_UTF16_BE,
-    DATA_LENGTH, READ_RECORD, RECORD_VALUE, RECORD_PAYLOAD, CALLS
+    DECODE_VALID, VALIDITY_UNBOUNDED, DECODE_VALID_UNBOUNDED, DECODE_DOUBLE, WRITE_VALUE, FIRST_OVERLAP, TEXT_LATIN1,
+    TEXT_UTF8, TEXT_UTF16_LE, TEXT_UTF16_BE, DATA_LENGTH, READ_RECORD, RECORD_VALUE, RECORD_PAYLOAD, CALLS
 };
 
 /* Counts what a call answered, so that an input with a new answer is kept. */
@@ -21,6 +21,7 @@ void note(enum call call, unsigned what);
 
 #define REPLY(number) ((uint64_t)1 << (number))
 #define FIELD_REFUSALS (REPLY(18) | REPLY(19) | REPLY(20) | REPLY(21) | REPLY(22))
+#define AREA_REFUSALS (REPLY(28) | REPLY(29))
 
 /* The reply is one of those allowed, and tells something only where it may. */
 void check_reply(enum call call, uint32_t reply, uint64_t told, uint64_t allowed);
@@ -53,6 +54,10 @@ typedef struct reading {
 } reading;
 
 reading choose_reading(void);
+
+/* The same in a group whose numbers make that length, if they can with this id, or a sum that would wrap to it; and with a bit
+ * inside its invalidation bytes or right behind them. */
+reading fitted(reading how, uint64_t record_length);
 
 int same_valid_value(mf4_valid_value_reply a, mf4_valid_value_reply b);
 int same_written(mf4_written_reply a, mf4_written_reply b);

@@ -94,7 +94,7 @@ static void take_value(payload_query asked, payload_due *due)
     if (value.reply != MF4_ANSWER)
         return;
     due->answer.payload_length = due->payload_written;
-    due->answer.is_valid = mf4_check_validity(due->record, due->record_written, how.group, how.channel);
+    due->answer.is_valid = mf4_check_validity_unbounded(due->record, due->record_written, how.group, how.channel);
 }
 
 static void work_out(payload_query asked, payload_due *due)

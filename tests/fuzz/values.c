@@ -34,7 +34,23 @@ reading choose_reading(void)
     reading how;
     how.group.record_id_size = choose_below(9);
     how.group.data_bytes = (uint32_t)choose_number();
+    how.group.invalidation_bytes = (uint32_t)choose_number();
     how.channel = choose_channel();
+    return how;
+}
+
+/* Behind a long id the difference wraps, and so would the sum. */
+reading fitted(reading how, uint64_t record_length)
+{
+    mf4_group *group = &how.group;
+    const uint64_t behind_id = record_length - group->record_id_size;
+    uint64_t bits;
+    if (behind_id > UINT32_MAX)
+        return how;
+    group->invalidation_bytes = (uint32_t)(group->invalidation_bytes % (behind_id + 1));
+    group->data_bytes = (uint32_t)behind_id - group->invalidation_bytes;
+    bits = 8 * (uint64_t)group->invalidation_bytes;
+    how.channel.pos_invalidation_bit = (uint32_t)(how.channel.pos_invalidation_bit % (bits + 4));
     return how;
 }
 
@@ -194,21 +210,61 @@ int same_valid_value(mf4_valid_value_reply a, mf4_valid_value_reply b)
     return same_value(value_in(a), value_in(b)) && a.is_valid == b.is_valid;
 }
 
-static uint8_t exercise_validity(lent record, reading how)
+/* The sum saturates at more bytes than a record has, and the bit's byte is compared, so that nothing wraps. */
+static uint32_t area_due(size_t length, reading how)
 {
-    uint8_t is_valid = mf4_check_validity(record.bytes, record.length, how.group, how.channel);
-    note(VALIDITY, is_valid + 2u * (how.channel.flags % 4));
+    const uint64_t behind_id = (uint64_t)how.group.data_bytes + how.group.invalidation_bytes;
+    const int has_bit = how.channel.flags % 4 == MF4_CHANNEL_INVALIDATION_BIT;
+    if (length != sum_of(how.group.record_id_size, behind_id))
+        return MF4_OTHER_LENGTH;
+    if (has_bit && how.channel.pos_invalidation_bit / 8 >= how.group.invalidation_bytes)
+        return MF4_BIT_OUTSIDE;
+    return MF4_ANSWER;
+}
+
+/* The reading in which invalidation bytes have no end: their number plays no part. */
+static uint8_t exercise_unbounded(lent record, reading how, mf4_value_reply value)
+{
+    const uint8_t is_valid = mf4_check_validity_unbounded(record.bytes, record.length, how.group, how.channel);
+    mf4_valid_value_reply both = mf4_decode_valid_value_unbounded(record.bytes, record.length, how.group, how.channel);
+    note(VALIDITY_UNBOUNDED, is_valid + 2u * (how.channel.flags % 4));
+    check_reply(DECODE_VALID_UNBOUNDED, both.reply, both.told, REPLY(0) | FIELD_REFUSALS);
     MUST(is_valid <= 1);
-    MUST(is_valid == mf4_check_validity(record.bytes, record.length, how.group, how.channel));
+    MUST(same_value(value_in(both), value));
+    MUST(both.is_valid == (both.reply == MF4_ANSWER ? is_valid : 0));
+    how.group.invalidation_bytes = ~how.group.invalidation_bytes;
+    MUST(is_valid == mf4_check_validity_unbounded(record.bytes, record.length, how.group, how.channel));
+    MUST(same_valid_value(both, mf4_decode_valid_value_unbounded(record.bytes, record.length, how.group, how.channel)));
     return is_valid;
 }
 
-static void exercise_both(lent record, reading how, mf4_value_reply value, uint8_t is_valid)
+static int same_validity(mf4_validity_reply a, mf4_validity_reply b)
+{
+    return a.reply == b.reply && a.told == b.told && a.is_valid == b.is_valid;
+}
+
+/* An answer is that of the other reading. */
+static mf4_validity_reply exercise_validity(lent record, reading how, uint8_t unbounded)
+{
+    const mf4_validity_reply answer = mf4_check_validity(record.bytes, record.length, how.group, how.channel);
+    check_reply(VALIDITY, answer.reply, answer.told, REPLY(0) | AREA_REFUSALS);
+    note(VALIDITY, 32 + answer.is_valid + 2u * (how.channel.flags % 4));
+    MUST(answer.reply == area_due(record.length, how));
+    MUST(answer.is_valid == (answer.reply == MF4_ANSWER ? unbounded : 0));
+    MUST(same_validity(answer, mf4_check_validity(record.bytes, record.length, how.group, how.channel)));
+    return answer;
+}
+
+/* What refuses the value, then what refuses the validity; or both of them. */
+static void exercise_both(lent record, reading how, mf4_value_reply value, mf4_validity_reply validity)
 {
     mf4_valid_value_reply both = mf4_decode_valid_value(record.bytes, record.length, how.group, how.channel);
-    check_reply(DECODE_VALID, both.reply, both.told, REPLY(0) | FIELD_REFUSALS);
-    MUST(same_value(value_in(both), value));
-    MUST(both.is_valid == (both.reply == MF4_ANSWER ? is_valid : 0));
+    mf4_value_reply due = { validity.reply, 0, MF4_KIND_NOTHING, 0, 0, 0 };
+    check_reply(DECODE_VALID, both.reply, both.told, REPLY(0) | FIELD_REFUSALS | AREA_REFUSALS);
+    if (value.reply != MF4_ANSWER || validity.reply == MF4_ANSWER)
+        due = value;
+    MUST(same_value(value_in(both), due));
+    MUST(both.is_valid == (both.reply == MF4_ANSWER ? validity.is_valid : 0));
     MUST(same_valid_value(both, mf4_decode_valid_value(record.bytes, record.length, how.group, how.channel)));
 }
 
@@ -222,16 +278,23 @@ static void check_inline_doubles(lent record, reading how, uint64_t bits, uint8_
     MUST(bits_of(valid) == (is_valid ? due : NAN_BITS));
 }
 
+static void exercise_in_group(lent record, reading how, mf4_value_reply value, uint64_t bits)
+{
+    const mf4_validity_reply validity = exercise_validity(record, how, exercise_unbounded(record, how, value));
+    exercise_both(record, how, value, validity);
+    check_inline_doubles(record, how, bits, validity.is_valid);
+}
+
 void exercise_value(lent record, reading how)
 {
-    const uint8_t is_valid = exercise_validity(record, how);
     mf4_value_reply value = mf4_decode_value(record.bytes, record.length, how.group.record_id_size, how.channel);
     uint64_t bits = mf4_decode_double_bits(record.bytes, record.length, how.group.record_id_size, how.channel);
     check_value(record, how, value);
     MUST(same_value(value, mf4_decode_value(record.bytes, record.length, how.group.record_id_size, how.channel)));
-    exercise_both(record, how, value, is_valid);
     check_double(bits, value, how.channel);
-    check_inline_doubles(record, how, bits, is_valid);
     MUST(bits == mf4_decode_double_bits(record.bytes, record.length, how.group.record_id_size, how.channel));
+    exercise_in_group(record, how, value, bits);
+    exercise_in_group(record, fitted(how, record.length), value, bits);
+    exercise_in_group(record, fitted(how, record.length + 1), value, bits);
     MUST(is_unchanged(record));
 }

@@ -189,22 +189,57 @@ def span_size(channel):
     return max(1, (channel.bit_offset + min(channel.bit_count, 4096) + 7) // 8)
 
 
-def with_validity(rng, channel, record_size):
-    """The channel with flags and a position that often falls inside the record."""
-    position = rng.choice([rng.randint(0, 8 * record_size + 16), rng.randint(0, 70), edge_number(rng, U32)])
+def whole_group(record_size, id_size=0, invalidation_bytes=0):
+    """One whose records have that size."""
+    return Group(id_size, record_size - id_size - invalidation_bytes, invalidation_bytes)
+
+
+def any_group(rng, record_size, id_size):
+    return Group(id_size, rng.choice([0, 1, record_size, edge_number(rng, U32)]), edge_number(rng, U32))
+
+
+def some_group(rng, record_size, id_size):
+    """Mostly one whose records have that size, at times a byte less or more."""
+    wanted = record_size + rng.choice([0] * 14 + [-1, 1])
+    if wanted < id_size or rng.random() < 0.1:
+        return any_group(rng, record_size, id_size)
+    behind_id = wanted - id_size
+    invalidation_bytes = rng.choice([0, 1, 1, 2, 3, behind_id, rng.randint(0, behind_id)])
+    return whole_group(wanted, id_size, min(invalidation_bytes, behind_id))
+
+
+def around_bits(rng, invalidation_bytes):
+    """Positions of bits, mostly among those of so many bytes, also the last of them and the first behind."""
+    end = 8 * invalidation_bytes
+    inside = [rng.randint(0, max(0, end - 1)) for _ in range(4)]
+    return [min(U32, position) for position in inside + [max(0, end - 1), end, end + rng.randint(1, 9)]]
+
+
+def with_validity(rng, channel, record_size, invalidation_bytes):
+    """The channel with flags and a position that often falls inside the invalidation bytes, or else inside the record."""
+    others = [rng.randint(0, 8 * record_size + 16), rng.randint(0, 70), edge_number(rng, U32)]
+    position = rng.choice(around_bits(rng, invalidation_bytes) + others)
     return channel._replace(flags=rng.choice([0, 1, 2, 2, 2, 3, 4, 6, U32 - 1, U32]), pos_invalidation_bit=position)
 
 
-VALUE_CALLS = ("decode_value", "decode_valid_value", "decode_double_bits", "decode_valid_double")
+CALLS_WITH_VALUE = ("decode_value", "decode_valid_value", "decode_valid_value_unbounded")
+CALLS_WITH_DOUBLE = ("decode_double_bits", "decode_valid_double")
+VALUE_CALLS = CALLS_WITH_VALUE + CALLS_WITH_DOUBLE
+CALLS_WITHOUT_GROUP = ("decode_value", "decode_double_bits")
+
+
+def group_for(rng, call, record_size, id_size):
+    """A call that knows where the invalidation bytes end gets a group that mostly fits."""
+    return (any_group if call.endswith("_unbounded") else some_group)(rng, record_size, id_size)
 
 
 def value_cases(rng, record, id_size, channel, calls=VALUE_CALLS):
     for call in calls:
-        if call in ("decode_valid_value", "decode_valid_double"):
-            marked = with_validity(rng, channel, len(record))
-            yield call, (record, Group(id_size, rng.choice([0, 1, len(record), edge_number(rng, U32)])), marked)
-        else:
+        if call in CALLS_WITHOUT_GROUP:
             yield call, (record, id_size, channel)
+        else:
+            group = group_for(rng, call, len(record), id_size)
+            yield call, (record, group, with_validity(rng, channel, len(record), group.invalidation_bytes))
 
 
 def as_payload(rng, channel):
@@ -235,6 +270,7 @@ def type_field_boundaries(rng):
         for length in (5, 4):
             yield from value_cases(rng, some_bytes(rng, length), 0, channel)
         yield from value_cases(rng, some_bytes(rng, 4), edge_number(rng, U64), as_payload(rng, channel))
+        yield "decode_valid_value", (some_bytes(rng, 5), whole_group(5), channel)
 
 
 def place_boundaries(rng):
@@ -261,7 +297,7 @@ def refusal_boundaries(rng):
         channel = Channel(data_type, rng.choice([0, 2]), bit_offset, byte_offset, bit_count)
         span = span_size(channel)
         needed = id_size + byte_offset + span
-        calls = [*VALUE_CALLS[:2], rng.choice(VALUE_CALLS[2:])]
+        calls = [*CALLS_WITH_VALUE, rng.choice(CALLS_WITH_DOUBLE)]
         for length in (0, max(0, needed - 1), needed):
             yield from value_cases(rng, some_bytes(rng, length), id_size, channel, calls)
         far = channel._replace(byte_offset=rng.choice([0, byte_offset, U32]))
@@ -292,23 +328,129 @@ def text_field_boundaries(rng):
             yield "decode_value", (bytes(field), 5, as_payload(rng, channel))
 
 
+def validity_channel(rng, flags, position):
+    """Of any type, since only the flags and the position play a part."""
+    return Channel(rng.choice(TYPE_CODES), rng.choice([0, 1]), 0, 0, 8, flags, position, rng.choice([0, 9]))
+
+
 def validity_boundaries(rng):
+    """Invalidation bytes that have no end but the record's, however many the group has."""
+    def asked(record, id_size, data_bytes, channel):
+        return "check_validity_unbounded", (record, Group(id_size, data_bytes, edge_number(rng, U32)), channel)
+
     positions = (0, 1, 7, 8, 9, 15, 16, 24, U32)
     for flags, position, id_size in itertools.product((0, 1, 2, 3, 4, U32 - 1), positions, (0, 1, 2)):
         for data_bytes in (0, 1, 2):
-            record = some_bytes(rng, rng.randint(0, 6))
-            channel = Channel(rng.choice(TYPE_CODES), rng.choice([0, 1]), 0, 0, 8, flags, position, rng.choice([0, 9]))
-            yield "check_validity", (record, Group(id_size, data_bytes), channel)
+            yield asked(some_bytes(rng, rng.randint(0, 6)), id_size, data_bytes, validity_channel(rng, flags, position))
     for id_size, data_bytes, record_size in itertools.product(HUGE_ID_SIZES, (0, 1, 2, 9, 10, U32), (0, 1, 4, 16)):
         for position in (0, 8, 16, 64, 80, U32):  # sums at 2^64 and a little past it
-            record = b"\xff" * record_size
-            yield "check_validity", (record, Group(id_size, data_bytes), Channel(flags=2, pos_invalidation_bit=position))
+            yield asked(b"\xff" * record_size, id_size, data_bytes, Channel(flags=2, pos_invalidation_bit=position))
     for size in range(1, 5):  # the byte at, one before and one past the record's end
         for position in range(8 * size + 9):
             record = rng.randbytes(size + 1)
-            yield "check_validity", (record, Group(1, 0), Channel(flags=2, pos_invalidation_bit=position))
+            yield asked(record, 1, 0, Channel(flags=2, pos_invalidation_bit=position))
             lower = Channel(flags=2, pos_invalidation_bit=position - position // 16 * 8)
-            yield "check_validity", (record, Group(0, size), lower)
+            yield asked(record, 0, size, lower)
+
+
+# ---- where the invalidation bytes end
+
+ALL_FLAGS = (0, 1, 2, 3, 4, 5, 6, 7, U32 - 3, U32 - 2, U32 - 1, U32)
+# Those with which the bit plays no part, and those with which it tells.
+BLIND_FLAGS, BIT_FLAGS = (0, 1, 3, U32 - 3, U32), (2, U32 - 1)
+
+
+def area_cases(rng, record, group, flags, position):
+    """The validity alone, with a field that is answered or refused as it comes, and with a payload that is answered."""
+    channel = validity_channel(rng, flags, position)
+    payload = as_payload(rng, channel._replace(data_type=rng.choice(TYPE_CODES[6:])))
+    yield "check_validity", (record, group, channel)
+    yield rng.choice(["decode_valid_value", "decode_valid_value", "decode_valid_double"]), (record, group, channel)
+    yield "decode_valid_value", (record, group, payload)
+
+
+def end_positions(invalidation_bytes):
+    """The first bit, those around the end of so many bytes, of one less and of one more, and the last of all."""
+    near = {8 * invalidation_bytes + step for step in (-9, -8, -7, -1, 0, 1, 7, 8)}
+    return sorted(position for position in near | {0, U32} if 0 <= position <= U32)
+
+
+def area_boundaries(rng):
+    """Every length around the sum with every flag, and every position around the last bit."""
+    for id_size, data_bytes, invalidation_bytes in itertools.product((0, 1, 3), (0, 1, 2, 9), (0, 1, 2, 3)):
+        group = Group(id_size, data_bytes, invalidation_bytes)
+        size = sum(group)
+        positions = end_positions(invalidation_bytes)
+        for length, flags in itertools.product(range(max(0, size - 2), size + 3), ALL_FLAGS):
+            yield from area_cases(rng, some_bytes(rng, length), group, flags, rng.choice(positions))
+        for position, flags in itertools.product(positions, ALL_FLAGS):
+            yield from area_cases(rng, some_bytes(rng, size), group, flags, position)
+
+
+def area_bit_boundaries(rng):
+    """One bit set in a record of zeros, or clear in one of ones: each bit of the invalidation bytes is its own, and no other
+    bit of the record plays a part."""
+    for id_size, data_bytes, invalidation_bytes in itertools.product((0, 1), (0, 1, 2), (1, 2, 3)):
+        group = Group(id_size, data_bytes, invalidation_bytes)
+        size = sum(group)
+        for bit, position in itertools.product(range(8 * size), range(8 * invalidation_bytes)):
+            ones = (2**bit).to_bytes(size, "little")
+            record = rng.choice([ones, bytes(byte ^ 0xFF for byte in ones)])
+            yield "check_validity", (record, group, Channel(flags=2, pos_invalidation_bit=position))
+
+
+def far_groups():
+    """With sums below, at and past 2^32, 2^33 and 2^64."""
+    ends = (0, 1, 2, 5, 2**29 - 1, 2**29, U32 - 1, U32)
+    for data_bytes, invalidation_bytes in itertools.product(ends, repeat=2):
+        behind_id = data_bytes + invalidation_bytes
+        around = {2**64 - behind_id + step for step in (-2, -1, 0, 1, 2, 5)} | {2**63 - 1 - behind_id}
+        for id_size in sorted(around | {0, 3, *HUGE_ID_SIZES}):
+            if 0 <= id_size <= U64:
+                yield Group(id_size, data_bytes, invalidation_bytes)
+
+
+def long_record_case(rng, length, group):
+    """Asked so that no byte of it is needed: of another length, or with a bit that is outside or plays no part."""
+    end = 8 * group.invalidation_bytes
+    position = min(U32, end + rng.choice([0, 1, 7]))
+    is_refused = length != sum(group) or position >= end
+    flags = rng.choice(BLIND_FLAGS + BIT_FLAGS if is_refused else BLIND_FLAGS)
+    return "check_validity", (LongFile(length), group, validity_channel(rng, flags, position))
+
+
+def far_sum_boundaries(rng):
+    """Lengths at the exact sum, beside it, and at those that it would wrap to."""
+    for group in far_groups():
+        size = sum(group)
+        for length in sorted({size + step for step in (-1, 0, 1)} | {size % 2**64, size % 2**32, size % 2**33, 0, 7}):
+            if 0 <= length <= 40:
+                yield from area_cases(rng, some_bytes(rng, length), group, rng.choice(ALL_FLAGS), edge_number(rng, U32))
+            elif 0 <= length < 2**63:
+                yield long_record_case(rng, length, group)
+
+
+def area_order_boundaries(rng):
+    """What refuses the value comes before another length, and that before a bit outside: each beside each other one."""
+    widths = (0, 1, 16, 31, 32, 64, 65, U32)
+    for data_type, bit_offset, bit_count in itertools.product(TYPE_CODES, (0, 7, 8), widths):
+        channel = Channel(data_type, rng.choice([0, 2]), bit_offset, rng.randint(0, 9), bit_count, rng.choice(BIT_FLAGS))
+        id_size, invalidation_bytes = rng.choice(ID_SIZES), rng.randint(1, 3)
+        needed = id_size + channel.byte_offset + span_size(channel)
+        least = id_size + invalidation_bytes
+        for length, step, is_outside in itertools.product((needed - 1, needed, needed + 3), (-1, 0, 1), (0, 1)):
+            group = whole_group(max(least, length + step), id_size, invalidation_bytes)
+            marked = channel._replace(pos_invalidation_bit=8 * invalidation_bytes - 1 + is_outside)
+            asked = rng.choice([marked, marked, as_payload(rng, marked)])
+            yield "decode_valid_value", (some_bytes(rng, max(0, length)), group, asked)
+
+
+def random_area_case(rng):
+    """A record that mostly is of its group, with any flags and a bit around the end of the invalidation bytes."""
+    group = Group(rng.choice([0, 0, 1, 2, 8]), rng.randint(0, 9), rng.choice([0, 1, 1, 2, 3, 8]))
+    record = some_bytes(rng, max(0, sum(group) + rng.choice([0] * 8 + [-1, 1])))
+    position = rng.choice(around_bits(rng, group.invalidation_bytes))
+    return rng.choice(list(area_cases(rng, record, group, rng.choice(ALL_FLAGS + BIT_FLAGS), position)))
 
 
 def bits_in_record(rng, field, bit_count, bit_offset, is_big):
@@ -399,15 +541,15 @@ def random_number_case(rng):
     return number_case(rng, data_type, bit_count, rng.randint(0, 7), hard_integer(rng, bit_count))
 
 
-def random_channel(rng, record_size, id_size):
+def random_channel(rng, record_size, group):
     data_type = rng.choice(TYPE_CODES[:13] * 3 + TYPE_CODES + [rng.randint(17, 255)])
     bit_count = rng.choice([8, 16, 32, 64, rng.randint(0, 70), 8 * rng.randint(0, 12), 8 * record_size,
                             edge_number(rng, U32)])
     channel = Channel(data_type, rng.choice([0, 0, 0, 1, 2, 255]), rng.choice([0, 0, 0, 4, rng.randint(0, 9), 255]), 0,
                       bit_count, data_addr=rng.choice([0, 0, 0, 1, U64]))
-    last = max(0, record_size - span_size(channel) - min(id_size, 9))
+    last = max(0, record_size - span_size(channel) - min(group.record_id_size, 9))
     byte_offset = rng.choice([0, last, last, rng.randint(0, last), rng.randint(0, last), last + 1, edge_number(rng, U32)])
-    return with_validity(rng, channel._replace(byte_offset=byte_offset), record_size)
+    return with_validity(rng, channel._replace(byte_offset=byte_offset), record_size, group.invalidation_bytes)
 
 
 def random_value_case(rng):
@@ -415,12 +557,10 @@ def random_value_case(rng):
         return random_number_case(rng)
     record = some_bytes(rng, rng.choice([0, 1, 2, 8, 9, rng.randint(0, 24), rng.randint(0, 24)]))
     id_size = rng.choice([0, 0, 0, 1, 2, 8, rng.choice(ID_SIZES), rng.choice(HUGE_ID_SIZES)])
-    channel = random_channel(rng, len(record), id_size)
-    data_bytes = rng.choice([0, 1, rng.randint(0, len(record) + 1), edge_number(rng, U32)])
-    call = rng.choice(["check_validity", *VALUE_CALLS])
-    if call in ("decode_value", "decode_double_bits"):
-        return call, (record, id_size, channel)
-    return call, (record, Group(id_size, data_bytes), channel)
+    call = rng.choice(["check_validity", "check_validity_unbounded", *VALUE_CALLS])
+    group = group_for(rng, call, len(record), id_size)
+    channel = random_channel(rng, len(record), group)
+    return call, (record, id_size if call in CALLS_WITHOUT_GROUP else group, channel)
 
 
 # ---- numbers written into a record -------------------------------------------------------------------------------------
@@ -597,7 +737,7 @@ def random_write_case(rng):
         return write_case(rng, channel, random_number_given(rng, channel), rng.choice([0, 0, 1, 2, 8]))
     record = some_bytes(rng, rng.choice([0, 1, 2, 8, 9, rng.randint(0, 24)]))
     id_size = rng.choice([0, 0, 0, 1, 2, 8, rng.choice(ID_SIZES), rng.choice(HUGE_ID_SIZES)])
-    channel = random_channel(rng, len(record), id_size)
+    channel = random_channel(rng, len(record), Group(id_size))
     return "write_value", (id_size, channel, random_number_given(rng, channel), record)
 
 
@@ -1216,9 +1356,9 @@ def chain_query(rng, file, start, joined_size, record_size=None, number=None):
     if rng.random() < 0.5:
         return "read_record", (file, start, number, record_size, buffer)
     id_size = rng.choice([0, 0, 0, 1, 2, rng.choice(ID_SIZES), U64])
-    channel = random_channel(rng, min(record_size, 40), id_size)
-    data_bytes = rng.choice([0, 1, min(record_size, U32), edge_number(rng, U32)])
-    return "record_value", (file, start, number, record_size, Group(id_size, data_bytes), channel, buffer)
+    group = some_group(rng, min(record_size, 20000), id_size)
+    channel = random_channel(rng, min(record_size, 40), group)
+    return "record_value", (file, start, number, record_size, group, channel, buffer)
 
 
 def random_chain_case(rng):
@@ -1308,7 +1448,7 @@ def long_file_boundaries(rng):
                 for size, room in ((1, 1), (0, 1), (16384, 16384), (16385, 16385), (2, 1)):
                     yield "read_record", (LongFile(length), start, 0, size, out_buffer(rng, room))
                 channel = Channel(0, 0, 0, 0, 8)
-                yield "record_value", (LongFile(length), start, 0, 1, Group(), channel, out_buffer(rng, 1))
+                yield "record_value", (LongFile(length), start, 0, 1, whole_group(1), channel, out_buffer(rng, 1))
 
 
 def loop_boundaries(rng):
@@ -1460,8 +1600,8 @@ def large_record_boundaries(rng):
                                    (0, 16383, 16390)):
             yield "read_record", (file, chain.start, number, size, bytes(room))
         channel = Channel(0, 0, 4, 16384 - 9, 64, 2, 131071)
-        yield "record_value", (file, chain.start, 0, 16384, Group(), channel, bytes(16384))
-        yield "record_value", (file, chain.start, 0, 16384, Group(1), channel, bytes(16384))
+        for group in (Group(0, 0, 16384), Group(0, 1, 16383), Group(0, 0, 16383), Group(1, 0, 16383)):
+            yield "record_value", (file, chain.start, 0, 16384, group, channel, bytes(16384))
 
 
 def record_value_boundaries(rng):
@@ -1471,10 +1611,10 @@ def record_value_boundaries(rng):
     for data_type, byte_offset, bit_count in itertools.product(TYPE_CODES, (0, 1, 2, 3, 4, 5, 6), (0, 7, 8, 16, 32, 65)):
         channel = Channel(data_type, 0, 0, byte_offset, bit_count, rng.choice([0, 1, 2, 2, 3]), rng.randint(0, 40))
         number, room = rng.choice([(0, 5), (1, 5), (1, 9), (2, 5), (0, 4)])
-        group = Group(rng.choice([0, 1]), rng.choice([2, 3]))
+        group = whole_group(5, rng.choice([0, 1]), rng.choice([0, 1, 2]))
         yield "record_value", (file, chain.start, number, 5, group, channel, b"\xee" * room)
         if byte_offset == 0:
-            yield "record_value", (file, chain.start, number, 5, Group(1, 2), as_payload(rng, channel), b"\xee" * room)
+            yield "record_value", (file, chain.start, number, 5, Group(1, 2, 2), as_payload(rng, channel), b"\xee" * room)
 
 
 def record_refusal_boundaries(rng):
@@ -1485,10 +1625,27 @@ def record_refusal_boundaries(rng):
     for data_type, bit_offset, bit_count in itertools.product(NUMBER_TYPES, (0, 7, 8, 255), widths):
         for number, id_size in itertools.product((0, 1), (0, 1, rng.choice(HUGE_ID_SIZES))):
             channel = Channel(data_type, 0, bit_offset, rng.choice([0, 0, 1, 5, U32]), bit_count, rng.choice([0, 1, 2]))
-            buffer = out_buffer(rng, rng.choice([5, 9]))
-            yield "record_value", (file, chain.start, number, 5, Group(id_size, 4), channel, buffer)
+            buffer, group = out_buffer(rng, rng.choice([5, 9])), some_group(rng, 5, id_size)
+            yield "record_value", (file, chain.start, number, 5, group, channel, buffer)
             if id_size == 0:
-                yield "record_value", (file, chain.start, number, 5, Group(id_size, 4), as_payload(rng, channel), buffer)
+                yield "record_value", (file, chain.start, number, 5, group, as_payload(rng, channel), buffer)
+
+
+def record_area_boundaries(rng):
+    """A record of five bytes, mostly as its group has it, with a bit around the end of the invalidation bytes. What is refused
+    here stays in the buffer; that a record is not fetched is told first."""
+    chain = Chain(rng, [b"\1\x34\x12", b"\0\2\x3f\x80\0\0\1"], [[0, 1]])
+    file = chain.file()
+    for size, flags, step in itertools.product((1, 4, 5, 5, 5, 6), ALL_FLAGS, (-9, -1, 0, 1, U32)):
+        for number, id_size, room in ((0, 0, 5), (1, 1, 9), (2, 0, 5), (0, 0, 4)):
+            invalidation_bytes = rng.randint(0, min(3, max(0, size - id_size)))
+            group = whole_group(max(size, id_size + invalidation_bytes), id_size, invalidation_bytes)
+            channel = Channel(0, 0, 0, 0, 8, flags, min(U32, max(0, 8 * invalidation_bytes + step)))
+            yield "record_value", (file, chain.start, number, 5, group, channel, out_buffer(rng, room))
+            yield "record_value", (file, chain.start, number, 5, group, as_payload(rng, channel), out_buffer(rng, room))
+    for group in far_groups():
+        if sum(group) % 2**64 == 5 or sum(group) % 2**32 == 5:
+            yield "record_value", (file, chain.start, 0, 5, group, as_payload(rng, Channel(10)), out_buffer(rng, 5))
 
 
 # ---- files with payloads -----------------------------------------------------------------------------------------------
@@ -1551,7 +1708,7 @@ class PayloadCall:
         before = rng.choice([0, 0, 1, 5]) if before is None else before
         behind = rng.randbytes(rng.choice([0, 0, 1, 3])) if behind is None else behind
         self.record_size = self.id_size + before + 8 + len(behind)
-        self.data_bytes = before + 8
+        self.data_bytes, self.invalidation_bytes = before + 8, len(behind)
         records = b"".join(bytes(self.id_size + before) + position.to_bytes(8, "little") + behind for position in positions)
         self.lay_out(records + rng.randbytes(rng.choice([0, 0, 1, 7])), cut)
         self.long_file = None
@@ -1584,8 +1741,9 @@ class PayloadCall:
         return self.long_file or file_of(sorted((self.records, self.payloads), key=lambda chain: chain.end))
 
     def case(self):
-        return "record_payload", (self.file(), self.start, self.number, self.record_size,
-                                  Group(self.id_size, self.data_bytes), self.channel, self.record, self.payload)
+        group = Group(self.id_size, self.data_bytes, self.invalidation_bytes)
+        return "record_payload", (self.file(), self.start, self.number, self.record_size, group, self.channel, self.record,
+                                  self.payload)
 
 
 def payload_cut_boundaries(rng):
@@ -1635,7 +1793,8 @@ def payload_type_boundaries(rng):
 
 
 def payload_validity_boundaries(rng):
-    """Flags and bits inside the record and behind it, where the payload and what is behind the record tell the contrary."""
+    """Flags and bits inside the record and behind it, where the payload and what is behind the record tell the contrary; how
+    many invalidation bytes the group has plays no part."""
     bits = (0, 1, 7, 8, 15, 16, 23, 24, 25, 32, 64, 100, U32)
     for flags, bit, fill, surplus in itertools.product((0, 1, 2, 3, 4, 6, U32 - 1), bits, (b"\0", b"\xff"), (0, 20)):
         contrary = b"\xff" if fill == b"\0" else b"\0"
@@ -1644,6 +1803,7 @@ def payload_validity_boundaries(rng):
         call.ask(1, rng.choice([0, 5]))
         call.record = contrary * (call.record_size + surplus)
         call.data_bytes = rng.choice([call.data_bytes] * 3 + [0, call.record_size, U32])
+        call.invalidation_bytes = rng.choice([3, 0, 1, 2, U32])
         call.channel = call.channel._replace(flags=flags, pos_invalidation_bit=bit)
         yield call.case()
 
@@ -1826,7 +1986,7 @@ def asked_by_every_call(chain_cases):
         if call == "read_record" and arguments[:2] != asked:
             asked = arguments[:2]
             yield "data_length", asked
-            yield "record_value", (*arguments[:4], Group(), Channel(bit_count=8), arguments[4])
+            yield "record_value", (*arguments[:4], Group(0, min(arguments[3], U32)), Channel(bit_count=8), arguments[4])
             yield from as_either_chain(*arguments)
 
 
@@ -1840,8 +2000,9 @@ def random_payload_call(rng):
     call = PayloadCall(rng, stream, positions, rng.choice(TYPE_CODES + [10, 7, 8, rng.randint(17, 255)]),
                        is_equal=rng.random() < 0.5, most=rng.randint(1, 9))
     call.ask(rng.randrange(len(positions)), rng.choice([0, 0, 0, 1, 9, -1]))
-    call.channel = with_validity(rng, call.channel, call.record_size)
+    call.channel = with_validity(rng, call.channel, call.record_size, call.invalidation_bytes)
     call.data_bytes = rng.choice([call.data_bytes] * 3 + [0, edge_number(rng, U32)])
+    call.invalidation_bytes = rng.choice([call.invalidation_bytes] * 3 + [0, edge_number(rng, U32)])
     return call
 
 
@@ -1863,7 +2024,8 @@ BOUNDARIES = (version_boundaries,
               header_boundaries, type_boundaries, list_read_boundaries, list_id_and_link_boundaries, list_write_boundaries,
               channel_read_boundaries, channel_id_and_link_boundaries, channel_type_boundaries, channel_limit_boundaries,
               channel_write_boundaries, field_boundaries, type_field_boundaries, place_boundaries, refusal_boundaries,
-              payload_boundaries, text_field_boundaries, validity_boundaries, number_boundaries, text_boundaries,
+              payload_boundaries, text_field_boundaries, validity_boundaries, area_boundaries, area_bit_boundaries,
+              far_sum_boundaries, area_order_boundaries, number_boundaries, text_boundaries,
               text_helper_boundaries, write_width_boundaries, write_bit_boundaries, write_same_boundaries,
               write_float_boundaries, write_kind_boundaries, write_refusal_boundaries, write_place_boundaries,
               write_payload_boundaries, overlap_pair_boundaries, overlap_bit_boundaries, overlap_list_boundaries,
@@ -1871,19 +2033,20 @@ BOUNDARIES = (version_boundaries,
 
 CHAIN_BOUNDARIES = (cut_boundaries, query_boundaries, long_file_boundaries, loop_boundaries, order_boundaries,
                     limit_boundaries, form_boundaries, breach_boundaries, large_record_boundaries, record_value_boundaries,
-                    record_refusal_boundaries)
+                    record_refusal_boundaries, record_area_boundaries)
 
 PAYLOAD_BOUNDARIES = (payload_cut_boundaries, payload_place_boundaries, payload_type_boundaries,
                       payload_validity_boundaries, position_field_boundaries, payload_link_boundaries,
                       payload_buffer_boundaries, large_payload_boundaries, payload_order_boundaries)
 
 RANDOM_CASES = ([random_header_case] + [random_list_case] * 2 + [random_channel_block_case] * 2 + [random_value_case] * 6
-                + [random_write_case] * 4 + [random_overlap_case] * 2 + [random_text_case] * 4 + [random_chain_case] * 5
-                + [random_payload_case] * 4)
+                + [random_area_case] * 2 + [random_write_case] * 4 + [random_overlap_case] * 2 + [random_text_case] * 4
+                + [random_chain_case] * 5 + [random_payload_case] * 4)
 
 # The replies of each call that has any, which the boundary cases reach. Reply 14 has no case: 4,096 fragments of at most
 # 2^40 bytes never pass 2^63-1.
 FIELD_REPLIES = {0, 18, 19, 20, 21, 22}
+AREA_REPLIES = {0, 28, 29}
 CHAIN_REPLIES = {0, 2, 3, 4, 7, 8, 9, 10, 11, 12, 13}
 REPLIES = {
     "read_header": {0, 2},
@@ -1894,14 +2057,16 @@ REPLIES = {
     "read_channel": {0, 2, 3, 17},
     "write_channel": {0, 6},
     "decode_value": FIELD_REPLIES,
-    "decode_valid_value": FIELD_REPLIES,
+    "check_validity": AREA_REPLIES,
+    "decode_valid_value": FIELD_REPLIES | AREA_REPLIES,
+    "decode_valid_value_unbounded": FIELD_REPLIES,
     "write_value": FIELD_REPLIES | {24, 25},
     "first_overlap": {0, 26, 27},
     **{call: {0, 6} for call in TEXT_CALLS},
     "text_by_type": {0, 6, 256},
     "data_length": CHAIN_REPLIES,
     "read_record": CHAIN_REPLIES | {15, 16},
-    "record_value": CHAIN_REPLIES | FIELD_REPLIES | {15, 16},
+    "record_value": CHAIN_REPLIES | FIELD_REPLIES | AREA_REPLIES | {15, 16},
     "record_payload": CHAIN_REPLIES | {6, 15, 16, 21, 23, 35},
 }
 

@@ -90,10 +90,10 @@ class Tally:
     def report(self, show_replies):
         for call in protocol.CALLS:
             if self.compared[call]:
-                print(f"{call:20} {self.compared[call]:8} compared {self.different[call]:6} different")
+                print(f"{call:28} {self.compared[call]:8} compared {self.different[call]:6} different")
                 if show_replies:
                     self.report_replies(call)
-        print(f"{'all':20} {sum(self.compared.values()):8} compared {sum(self.different.values()):6} different")
+        print(f"{'all':28} {sum(self.compared.values()):8} compared {sum(self.different.values()):6} different")
 
     def report_replies(self, call):
         numbers = self.replies_of(call)

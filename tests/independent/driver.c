@@ -21,7 +21,7 @@ enum { GUARD = 32, GUARD_BYTE = 0xC3, MOST_SLICES = 4 };
 typedef struct slice {
     uint8_t *bytes;   /* what the call is given                                        */
     size_t length;    /* the count that the call is given                              */
-    size_t held;      /* the bytes that are there; less than length only for a long file */
+    size_t held;      /* the bytes that are there, which are fewer if the slice is long */
     uint8_t *copy;    /* an input's bytes before the call                              */
     uint8_t *memory;  /* what is to be freed                                           */
     int is_output;
@@ -277,6 +277,7 @@ static mf4_group next_group(void)
     mf4_group group;
     group.record_id_size = next_u64();
     group.data_bytes = next_u32();
+    group.invalidation_bytes = next_u32();
     return group;
 }
 
@@ -600,25 +601,51 @@ static void decode_value(void)
     print_value(mf4_decode_value(record->bytes, record->length, record_id_size, channel));
 }
 
-static void check_validity(void)
+/* A record of a group, and a channel of it. */
+typedef struct asked {
+    const slice *record;
+    mf4_group group;
+    mf4_channel channel;
+} asked;
+
+static asked next_asked(void)
 {
-    slice *record = next_input();
-    mf4_group group = next_group();
-    mf4_channel channel = next_channel();
-    if (is_malformed)
-        return;
-    print_number("answer", mf4_check_validity(record->bytes, record->length, group, channel));
+    asked a;
+    a.record = next_input();
+    a.group = next_group();
+    a.channel = next_channel();
+    return a;
 }
 
-static void decode_valid_value(void)
+static void check_validity(void)
 {
-    slice *record = next_input();
-    mf4_group group = next_group();
-    mf4_channel channel = next_channel();
+    asked a = next_asked();
+    mf4_validity_reply answer;
     if (is_malformed)
         return;
-    print_valid_value(mf4_decode_valid_value(record->bytes, record->length, group, channel));
+    answer = mf4_check_validity(a.record->bytes, a.record->length, a.group, a.channel);
+    print_reply(answer.reply, answer.told);
+    print_number("is_valid", answer.is_valid);
 }
+
+static void check_validity_unbounded(void)
+{
+    asked a = next_asked();
+    if (is_malformed)
+        return;
+    print_number("answer", mf4_check_validity_unbounded(a.record->bytes, a.record->length, a.group, a.channel));
+}
+
+static void valid_value(mf4_valid_value_reply (*call)(const uint8_t *, size_t, mf4_group, mf4_channel))
+{
+    asked a = next_asked();
+    if (is_malformed)
+        return;
+    print_valid_value(call(a.record->bytes, a.record->length, a.group, a.channel));
+}
+
+static void decode_valid_value(void) { valid_value(mf4_decode_valid_value); }
+static void decode_valid_value_unbounded(void) { valid_value(mf4_decode_valid_value_unbounded); }
 
 static void decode_double_bits(void)
 {
@@ -632,12 +659,12 @@ static void decode_double_bits(void)
 
 static void decode_valid_double(void)
 {
-    slice *record = next_input();
-    mf4_group group = next_group();
-    mf4_channel channel = next_channel();
+    asked a = next_asked();
+    double answer;
     if (is_malformed)
         return;
-    print_number("answer", mf4_double(mf4_decode_valid_double(record->bytes, record->length, group, channel)).number);
+    answer = mf4_decode_valid_double(a.record->bytes, a.record->length, a.group, a.channel);
+    print_number("answer", mf4_double(answer).number);
 }
 
 static void write_value(void)
@@ -778,6 +805,8 @@ static const struct {
     {"decode_value", decode_value},
     {"check_validity", check_validity},
     {"decode_valid_value", decode_valid_value},
+    {"check_validity_unbounded", check_validity_unbounded},
+    {"decode_valid_value_unbounded", decode_valid_value_unbounded},
     {"decode_double_bits", decode_double_bits},
     {"decode_valid_double", decode_valid_double},
     {"write_value", write_value},

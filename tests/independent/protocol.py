@@ -5,9 +5,9 @@ A case is a call's name and its arguments in the order of reference.py. As words
     number      decimal
     bytes       x and hex digits; "HEX*COUNT" repeats, "+" joins:  x0102  xa5*100  x01+00*30+02
                 an empty slice is "x", or "-" for a NULL pointer with the count 0
-    long file   z and a length: a file of that length, of which no byte may be looked at
+    long file   z and a length: a file or a record of that length, of which no byte may be looked at
     numbers     u and decimals with commas between:  u1,2,3   (empty: "u", or "-" for NULL)
-    header      4 numbers, channel: 8 numbers, group: 2 numbers, number to be written: 2 numbers, channel block: 31
+    header      4 numbers, channel: 8 numbers, group: 3 numbers, number to be written: 2 numbers, channel block: 31
                 numbers, in the order of their C structs
     channels    c and the numbers of each channel, with commas between; channels with "/" between  (empty: "c", or "-")
 
@@ -22,7 +22,7 @@ SHORTEST_REPEAT = 16
 
 
 class LongFile:
-    """A file that is too long to make. The rules refuse it before they look at a byte of it."""
+    """A file or a record that is too long to make. The rules reply to it before they look at a byte of it."""
 
     def __init__(self, length):
         self.length = length
@@ -57,6 +57,8 @@ CALLS = {
     "decode_value": (reference.decode_value, ON_RECORD),
     "check_validity": (reference.check_validity, ON_RECORD_WITH_VALIDITY),
     "decode_valid_value": (reference.decode_valid_value, ON_RECORD_WITH_VALIDITY),
+    "check_validity_unbounded": (reference.check_validity_unbounded, ON_RECORD_WITH_VALIDITY),
+    "decode_valid_value_unbounded": (reference.decode_valid_value_unbounded, ON_RECORD_WITH_VALIDITY),
     "decode_double_bits": (reference.decode_double_bits, ON_RECORD),
     "decode_valid_double": (reference.decode_valid_double, ON_RECORD_WITH_VALIDITY),
     "write_value": (reference.write_value, (NUMBER, CHANNEL, NUMBER_GIVEN, BYTES)),

@@ -54,6 +54,8 @@ DOES_NOT_FIT = 24
 OTHER_KIND = 25
 TOO_MANY_CHANNELS = 26
 NO_FIXED_NUMBER = 27
+OTHER_LENGTH = 28
+BIT_OUTSIDE = 29
 NO_POSITION = 35
 NO_TEXT_TYPE = 256  # of a helper of mf4.h, not of the library
 
@@ -129,6 +131,7 @@ class Channel(NamedTuple):
 class Group(NamedTuple):
     record_id_size: int = 0
     data_bytes: int = 0
+    invalidation_bytes: int = 0
 
 
 class ChannelBlock(NamedTuple):
@@ -170,6 +173,12 @@ class Value(NamedTuple):
     number: int = 0
     at: int = 0
     length: int = 0
+
+
+class Validity(NamedTuple):
+    reply: int = ANSWER
+    told: int = 0
+    is_valid: int = 0
 
 
 class ValidValue(NamedTuple):
@@ -223,7 +232,7 @@ class Length(NamedTuple):
 
 # ---- the version -------------------------------------------------------------------------------------------------------
 
-MAJOR, MINOR, PATCH = 0, 4, 0
+MAJOR, MINOR, PATCH = 0, 5, 0
 
 
 def version():
@@ -562,7 +571,35 @@ def decode_value(record, id_size, channel):
         return Value(refusal.number, told=refusal.told)
 
 
+def validity_of(record, group, channel):
+    """In a whole record of the group, whose last bytes are the invalidation bytes."""
+    before = group.record_id_size + group.data_bytes
+    refuse_if(len(record) != before + group.invalidation_bytes, OTHER_LENGTH)
+    is_all_invalid, has_bit = channel.flags % 2 == 1, channel.flags // 2 % 2 == 1
+    if is_all_invalid or not has_bit:
+        return 0 if is_all_invalid else 1
+    refuse_if(channel.pos_invalidation_bit >= 8 * group.invalidation_bytes, BIT_OUTSIDE)
+    invalidation_bits = int.from_bytes(record[before:], "little")
+    return 1 - invalidation_bits // 2**channel.pos_invalidation_bit % 2
+
+
 def check_validity(record, group, channel):
+    try:
+        return Validity(is_valid=validity_of(record, group, channel))
+    except Refusal as refusal:
+        return Validity(refusal.number, refusal.told)
+
+
+def decode_valid_value(record, group, channel):
+    try:
+        value = value_of(record, group.record_id_size, channel)
+        return ValidValue(**value._asdict(), is_valid=validity_of(record, group, channel))
+    except Refusal as refusal:
+        return ValidValue(refusal.number, told=refusal.told)
+
+
+def check_validity_unbounded(record, group, channel):
+    """Where the invalidation bytes have no end, and a bit that is not in the record is clear."""
     if channel.flags & 1:
         return 0
     if not channel.flags & 2:
@@ -573,9 +610,9 @@ def check_validity(record, group, channel):
     return 0 if record[place] >> channel.pos_invalidation_bit % 8 & 1 else 1
 
 
-def decode_valid_value(record, group, channel):
+def decode_valid_value_unbounded(record, group, channel):
     value = decode_value(record, group.record_id_size, channel)
-    is_valid = check_validity(record, group, channel) if value.reply == ANSWER else 0
+    is_valid = check_validity_unbounded(record, group, channel) if value.reply == ANSWER else 0
     return ValidValue(**value._asdict(), is_valid=is_valid)
 
 
@@ -594,7 +631,8 @@ def decode_double_bits(record, id_size, channel):
 
 def decode_valid_double(record, group, channel):
     """The bits of what mf4.h's own function gives."""
-    return decode_double_bits(record, group.record_id_size, channel) if check_validity(record, group, channel) else NAN
+    is_valid = check_validity(record, group, channel).is_valid
+    return decode_double_bits(record, group.record_id_size, channel) if is_valid else NAN
 
 
 # ---- a number written into a record ------------------------------------------------------------------------------------
@@ -929,7 +967,7 @@ def record_value(file, start, number, record_size, group, channel, buffer):
     fetched, after = read_record(file, start, number, record_size, buffer)
     if fetched.reply != ANSWER:
         return ValidValue(fetched.reply, told=fetched.told), after
-    # The field is read from the record's bytes alone, and the record stays even if its field is refused.
+    # The field is read from the record's bytes alone, and the record stays even if its field or its length is refused.
     return decode_valid_value(after[:record_size], group, channel), after
 
 
@@ -969,7 +1007,7 @@ def record_payload(file, start, number, record_size, group, channel, record, pay
         content = payload_at(joined_data(file, channel.data_addr, SIGNAL_ID), position)
         payload = placed(content, payload)
         value = value_of(content, group.record_id_size, channel)
-        is_valid = check_validity(fetched, group, channel)
+        is_valid = check_validity_unbounded(fetched, group, channel)
         return Payload(**value._asdict(), payload_length=len(content), is_valid=is_valid), record, payload
     except Refusal as refusal:
         return Payload(refusal.number, told=refusal.told), record, payload

@@ -42,7 +42,8 @@ class Words:
         return reference.Channel(*(self.number() for _ in reference.Channel._fields))
 
     def group(self):
-        return reference.Group(*(self.number() for _ in reference.Group._fields))
+        """The lines do not say how many invalidation bytes there are."""
+        return reference.Group(self.number(), self.number())
 
     def given_number(self):
         return reference.Number(*(self.number() for _ in reference.Number._fields))
@@ -136,11 +137,11 @@ def value_answer(words):
 
 
 def validity_answer(words):
-    return number_words(reference.check_validity(*field(words)))
+    return number_words(reference.check_validity_unbounded(*field(words)))
 
 
 def both_answer(words):
-    return valid_value_words(reference.decode_valid_value(*field(words)))
+    return valid_value_words(reference.decode_valid_value_unbounded(*field(words)))
 
 
 def double_answer(words):
@@ -175,9 +176,14 @@ def record_answer(words):
     return number_words(reply.reply, reply.told) + fetched_word(buffer, size, reply.reply == 0)
 
 
+def group_filling(record_size, group):
+    """The group with the invalidation bytes that make its records so long."""
+    return group._replace(invalidation_bytes=max(0, record_size - sum(group)))
+
+
 def record_value_answer(words):
     file, start, number, size = words.bytes(), words.number(), words.number(), words.number()
-    before, group = words.buffer(), words.group()
+    before, group = words.buffer(), group_filling(size, words.group())
     reply, buffer = reference.record_value(file, start, number, size, group, words.channel(), before)
     return valid_value_words(reply) + fetched_word(buffer, size, buffer != before)
 

@@ -121,13 +121,38 @@ def example_refusals():
         check(f"65 bits in {length} bytes", r.decode_value(bytes(length), 0, field(r.UNSIGNED_LE, 65)), refused(20))
 
 
+def marked(flags, position):
+    return field(r.UNSIGNED_LE, 16, flags=flags, pos_invalidation_bit=position)
+
+
+def validity(reply, is_valid, record, group, channel):
+    """What is asked of a record of 4660, alone and with the value."""
+    check(f"{channel} in {group}", r.check_validity(record, group, channel), r.Validity(reply, 0, is_valid))
+    both = r.ValidValue(kind=r.UNSIGNED_KIND, number=4660, is_valid=is_valid) if reply == 0 else r.ValidValue(reply)
+    check("both", r.decode_valid_value(record, group, channel), both)
+
+
 def example_validity():
+    record, group = hexed("34 12 00 02"), Group(0, 2, 2)
+    for flags, position, reply, is_valid in ((2, 9, 0, 0), (2, 8, 0, 1), (2, 15, 0, 1), (2, 16, 29, 0), (3, 9, 0, 0),
+                                             (3, 16, 0, 0), (0, 9, 0, 1), (0, 16, 0, 1), (1, 16, 0, 0), (6, 16, 29, 0)):
+        validity(reply, is_valid, record, group, marked(flags, position))
+        for other in (Group(0, 2, 1), Group(0, 2, 3), Group(0, 2), Group(1, 2, 2), Group(0, 3, 2)):
+            validity(28, 0, record, other, marked(flags, position))
+    next_record = hexed("34 12 00 ff ff ff")
+    validity(28, 0, next_record, Group(0, 2, 1), marked(2, 24))
+    validity(29, 0, next_record[:3], Group(0, 2, 1), marked(2, 24))
+    check("the next record's bit", r.check_validity_unbounded(next_record, Group(0, 2, 1), marked(2, 24)), 0)
+
+
+def example_unbounded_validity():
     record = hexed("34 12 00 02")
     for flags, position, wanted in ((2, 9, 0), (2, 16, 1), (3, 9, 0), (3, 16, 0), (0, 9, 1), (1, 16, 0)):
-        channel = field(r.UNSIGNED_LE, 16, flags=flags, pos_invalidation_bit=position)
-        check(f"validity, flags {flags}, position {position}", r.check_validity(record, Group(0, 2), channel), wanted)
-        check("both", r.decode_valid_value(record, Group(0, 2), channel),
-              r.ValidValue(kind=r.UNSIGNED_KIND, number=4660, is_valid=wanted))
+        channel = marked(flags, position)
+        for group in (Group(0, 2), Group(0, 2, 2), Group(0, 2, 2**32 - 1)):
+            check(f"{channel} in {group}", r.check_validity_unbounded(record, group, channel), wanted)
+            check("both", r.decode_valid_value_unbounded(record, group, channel),
+                  r.ValidValue(kind=r.UNSIGNED_KIND, number=4660, is_valid=wanted))
 
 
 def example_lists():
@@ -187,6 +212,10 @@ def example_channels():
     check("no room", r.write_channel(CHANNEL_IN_NUMBERS, b"\7" * 159), (r.Written(6, 160), b"\7" * 159))
 
 
+# A text of no bytes, for which every record has room, and the last bit of the first invalidation byte.
+TEXT_WITH_BIT = field(r.UTF8, 0, flags=2, pos_invalidation_bit=7)
+
+
 def example_chain():
     data = hexed("01 02 03 04 05 06")
     rng = random.Random(1)
@@ -200,6 +229,11 @@ def example_chain():
               (r.ValidValue(kind=r.UNSIGNED_KIND, number=0x0403, is_valid=1), hexed("03 04")))
         check("refused field of record 1", r.record_value(chain.file(), chain.start, 1, 2, Group(1, 2), field(0, 16), b".."),
               (r.ValidValue(21, told=3), hexed("03 04")))
+        for group, wanted in (
+                (Group(0, 1), r.ValidValue(28)), (Group(0, 2, 1), r.ValidValue(28)), (Group(1, 2), r.ValidValue(28)),
+                (Group(0, 2), r.ValidValue(29)), (Group(0, 1, 1), r.ValidValue(kind=r.TEXT_KIND, is_valid=1))):
+            check(f"record 1 in {group}", r.record_value(chain.file(), chain.start, 1, 2, group, TEXT_WITH_BIT, b".."),
+                  (wanted, hexed("03 04")))
 
 
 # At 8 a list of records, whose block at 64 has three of them; at 115 a list of payloads, whose blocks at 187 and 216 have
@@ -343,8 +377,8 @@ def cases_of_types():
             first = protocol.result_line(call, arguments).split()[0]
             if first == "reply=0" or first.startswith("answer="):
                 reached[call].add(code_given(call, arguments))
-    calls = ("type_code", "default_bits", "decode_value", "decode_valid_value", "decode_double_bits", "decode_valid_double",
-             "read_channel", "write_channel")
+    calls = ("type_code", "default_bits", "decode_value", "decode_valid_value", "decode_valid_value_unbounded",
+             "decode_double_bits", "decode_valid_double", "read_channel", "write_channel")
     check("codes reached", {call: len(codes) for call, codes in reached.items()}, dict.fromkeys(calls, 256))
 
 
@@ -414,15 +448,22 @@ def rules_of_values():
     check("text as a double", r.decode_double_bits(b"1", 0, field(r.UTF8, 8)), r.NAN)
 
 
+VALID = r.Validity(is_valid=1)
+
+
 def rules_of_refusals():
-    """The first cause that holds, in the order of the rules; beside it the one NaN, and the validity alone."""
+    """The first cause that holds, in the order of the rules, whatever the length of the group's records; beside it the one
+    NaN, and the validity alone."""
     def asked(wanted, record, id_size, channel):
         check(f"{channel} in {len(record)} bytes", r.decode_value(record, id_size, channel), wanted)
-        both = r.decode_valid_value(record, Group(id_size), channel)
-        check("with validity", both, r.ValidValue(**wanted._asdict(), is_valid=int(wanted.reply == 0)))
-        if wanted.reply != 0:
-            check("as a double", r.decode_double_bits(record, id_size, channel), r.NAN)
-            check("validity alone", r.check_validity(record, Group(id_size), channel), 1)
+        group = Group(id_size, max(0, len(record) - id_size))
+        for other in (group, group._replace(invalidation_bytes=1)):
+            check("with validity", r.decode_valid_value(record, other, channel), r.ValidValue(wanted.reply, wanted.told))
+            check("unbounded", r.decode_valid_value_unbounded(record, other, channel), r.ValidValue(wanted.reply, wanted.told))
+        check("as a double", r.decode_double_bits(record, id_size, channel), r.NAN)
+        check("as a valid double", r.decode_valid_double(record, group, channel), r.NAN)
+        check("validity alone", r.check_validity_unbounded(record, group, channel), 1)
+        check("of a group", r.check_validity(record, group, channel), r.Validity(28) if sum(group) > len(record) else VALID)
 
     for data_type in r.NUMBERS:
         for record in (b"", bytes(20)):
@@ -470,9 +511,75 @@ def cases_of_refusals():
                 value = result[0] if call == "record_value" else result
                 reached[call, value.reply] += 1
                 reached[call, "2^64 - 1"] += value.told == 2**64 - 1
-    for call in ("decode_value", "decode_valid_value", "record_value"):
+    for call in ("decode_value", "decode_valid_value", "decode_valid_value_unbounded", "record_value"):
         for what in (*r.FIELD_REFUSALS, "2^64 - 1"):
             check(f"{call} {what} is reached often", reached[call, what] >= 20, True)
+
+
+def rules_of_sums():
+    """The length against a sum that never wraps, whatever the flags."""
+    for group, length, reply in (
+            (Group(), 0, 0), (Group(), 1, 28), (Group(1, 2, 3), 6, 0), (Group(1, 2, 3), 5, 28), (Group(1, 2, 3), 7, 28),
+            (Group(2**64 - 1, 1), 0, 28), (Group(2**64 - 1, 0, 1), 0, 28), (Group(2**64 - 1, 2, 2), 3, 28),
+            (Group(2**64 - 2**32, 2**32 - 1, 1), 0, 28), (Group(0, 2**32 - 1, 5), 4, 28), (Group(2**32, 2, 2), 4, 28),
+            (Group(2**63, 4), 4, 28)):
+        for flags in cases.BLIND_FLAGS:
+            is_valid = int(reply == 0 and flags % 2 == 0)
+            check(f"{length} bytes in {group}", r.check_validity(bytes(length), group, marked(flags, 2**32 - 1)),
+                  r.Validity(reply, 0, is_valid))
+        for flags in cases.BIT_FLAGS:
+            check(f"{length} bytes in {group}, and a bit outside",
+                  r.check_validity(bytes(length), group, marked(flags, 2**32 - 1)), r.Validity(reply or 29))
+    largest = Group(2**63 - 2**33, 2**32 - 1, 2**32 - 1)
+    for step, wanted in ((-1, r.Validity(28)), (0, VALID), (1, r.Validity(28))):
+        check("a long record", r.check_validity(protocol.LongFile(sum(largest) + step), largest, marked(0, 0)), wanted)
+
+
+def python_areas():
+    """The bit in a string of the invalidation bits. Where there is an answer, both readings have the same one."""
+    rng = random.Random(25)
+    seen = collections.Counter()
+    for _ in range(6000):
+        _call, (record, group, channel) = cases.random_area_case(rng)
+        bits = "".join(f"{byte:08b}"[::-1] for byte in record[len(record) - group.invalidation_bytes:])
+        if len(record) != sum(group):
+            wanted = r.Validity(28)
+        elif channel.flags % 4 == 2 and channel.pos_invalidation_bit >= len(bits):
+            wanted = r.Validity(29)
+        elif channel.flags % 4 == 2:
+            wanted = r.Validity(is_valid="10".index(bits[channel.pos_invalidation_bit]))
+        else:
+            wanted = r.Validity(is_valid=1 - channel.flags % 2)
+        seen[wanted] += 1
+        check(f"{channel} in {group} of {record.hex()}", r.check_validity(record, group, channel), wanted)
+        if wanted.reply == 0:
+            check("the other reading", r.check_validity_unbounded(record, group, channel), wanted.is_valid)
+            check("its value", r.decode_valid_value_unbounded(record, group, channel),
+                  r.decode_valid_value(record, group, channel))
+    check("each is seen often", len(seen) == 4 and min(seen.values()) >= 300, True)
+
+
+def cases_of_areas():
+    """The cases reach both refusals and answers often, in each call that has them, and sums that pass 2^64; and what refuses
+    the value beside each of the two."""
+    reached = collections.Counter()
+    for boundaries in (cases.area_boundaries, cases.far_sum_boundaries, cases.area_order_boundaries,
+                       cases.record_area_boundaries):
+        for call, arguments in boundaries(random.Random(26)):
+            result = protocol.CALLS[call][0](*arguments)
+            if call == "decode_valid_double":
+                continue
+            reply = result[0].reply if call == "record_value" else result.reply
+            group, channel = arguments[-3:-1] if call == "record_value" else arguments[1:]
+            reached[call, reply] += 1
+            reached[call, "2^64"] += sum(group) >= 2**64
+            if call == "decode_valid_value" and reply in r.FIELD_REFUSALS:
+                reached[reply, r.check_validity(arguments[0], group, channel).reply] += 1
+    for call in ("check_validity", "decode_valid_value", "record_value"):
+        for what in (0, 28, 29, "2^64"):
+            check(f"{call} {what} is reached often", reached[call, what] >= 50, True)
+    for first, second in itertools.product(r.FIELD_REFUSALS, (28, 29)):
+        check(f"{first} before {second} is reached often", reached[first, second] >= 20, True)
 
 
 def rules_of_text_helpers():
@@ -971,6 +1078,7 @@ def main():
     section("example: texts", example_texts)
     section("example: refusals of a field", example_refusals)
     section("example: validity", example_validity)
+    section("example: validity without an end", example_unbounded_validity)
     section("example: lists", example_lists)
     section("example: channels", example_channels)
     section("example: chain", example_chain)
@@ -986,6 +1094,8 @@ def main():
     section("rules of a field's refusals", rules_of_refusals)
     section("rules of the bytes told", rules_of_told_bytes)
     section("cases of a field's refusals", cases_of_refusals)
+    section("rules of a record's length", rules_of_sums)
+    section("cases of a record's length and bit", cases_of_areas)
     section("rules of the helpers for texts", rules_of_text_helpers)
     section("rules of chains", rules_of_chains)
     section("rules of long files", rules_of_long_files)
@@ -1002,6 +1112,7 @@ def main():
     section("Unicode vectors", outside_unicode)
     section("against float() and struct", python_floats)
     section("against bit strings", python_integers)
+    section("against strings of invalidation bits", python_areas)
     section("against what reads back", python_written)
     section("against what stood there", python_written_over)
     section("against packed floats", python_narrowed)

@@ -86,7 +86,7 @@ fn value_fetched(chain: &Chain, number: u64, buffer: &mut [u8]) -> u64 {
     let (file, len, size) = (chain.file.as_ptr(), chain.file.len(), SIZE as u64);
     let (out, room) = (buffer.as_mut_ptr(), buffer.len());
     let field = c::Channel { flags: 2, pos_invalidation_bit: 3, ..channel(UNSIGNED_LE, 4, 32) };
-    let group = c::Group { record_id_size: 0, data_bytes: 23 };
+    let group = c::Group { record_id_size: 0, data_bytes: 23, invalidation_bytes: 1 };
     let answer = unsafe { c::mf4_record_value(file, len, chain.start, number, size, group, field, out, room) };
     answer.number
 }

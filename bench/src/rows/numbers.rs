@@ -61,7 +61,8 @@ fn values() -> Vec<Plan> {
         value("f64", field(FLOAT_LE, 64), double_le),
         value("8 bytes", field(BYTE_ARRAY, 64), random),
         value("text of 8 bytes", field(UTF8, 64), letters),
-        valid_value("u32", c::Channel { flags: 2, pos_invalidation_bit: 3, ..field(UNSIGNED_LE, 32) }, random),
+        valid_value("u32", VALID_VALUES),
+        valid_value("u32, unbounded", UNBOUNDED_VALUES),
     ]
 }
 
@@ -93,9 +94,15 @@ type Sides = [fn(Pieces, &c::Channel) -> u64; 3];
 const DOUBLES: Sides = [library::doubles, border::doubles, inlined::doubles];
 const VALUES: Sides = [library::values, border::values, inlined::values];
 const VALID_VALUES: Sides = [
-    |records, channel| library::valid_values(records, DATA_BYTES, channel),
+    |records, channel| library::valid_values(c::mf4_decode_valid_value, records, DATA_BYTES, channel),
     |records, channel| border::valid_values(records, DATA_BYTES, channel),
     |records, channel| inlined::valid_values(records, DATA_BYTES, channel),
+];
+/// The crate's own reading, in which the invalidation bytes have no end.
+const UNBOUNDED_VALUES: Sides = [
+    |records, channel| library::valid_values(c::mf4_decode_valid_value_unbounded, records, DATA_BYTES, channel),
+    VALID_VALUES[1],
+    VALID_VALUES[2],
 ];
 
 fn double(name: &str, channel: c::Channel, put: Put) -> Plan {
@@ -106,8 +113,9 @@ fn value(name: &str, channel: c::Channel, put: Put) -> Plan {
     plan(&format!("value of {name}"), SIZE, channel, put, VALUES)
 }
 
-fn valid_value(name: &str, channel: c::Channel, put: Put) -> Plan {
-    plan(&format!("value and validity of {name}"), SIZE, channel, put, VALID_VALUES)
+fn valid_value(name: &str, sides: Sides) -> Plan {
+    let channel = c::Channel { flags: 2, pos_invalidation_bit: 3, ..field(UNSIGNED_LE, 32) };
+    plan(&format!("value and validity of {name}"), SIZE, channel, random, sides)
 }
 
 fn plan(name: &str, size: usize, channel: c::Channel, put: Put, sides: Sides) -> Plan {

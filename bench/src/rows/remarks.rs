@@ -44,7 +44,8 @@ fn row(size: usize, fragments: usize) -> Row {
 fn fetched(log: &Log, item: usize, buffer: &mut [u8]) -> u64 {
     let (record, payload) = buffer.split_at_mut(RECORD_SIZE);
     let (file, len, number) = (log.file.as_ptr(), log.file.len(), (item % RECORDS) as u64);
-    let (size, group) = (RECORD_SIZE as u64, c::Group { record_id_size: 0, data_bytes: RECORD_SIZE as u32 });
+    let group = c::Group { record_id_size: 0, data_bytes: RECORD_SIZE as u32, invalidation_bytes: 0 };
+    let size = RECORD_SIZE as u64;
     let (out, room, to, to_room) = (record.as_mut_ptr(), record.len(), payload.as_mut_ptr(), payload.len());
     let answer = unsafe {
         c::mf4_record_payload(file, len, log.start, number, size, group, log.channel, out, room, to, to_room)
