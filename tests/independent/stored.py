@@ -42,8 +42,11 @@ class Words:
         return reference.Channel(*(self.number() for _ in reference.Channel._fields))
 
     def group(self):
-        """The lines do not say how many invalidation bytes there are."""
+        """Lines of the kinds without a bound do not say how many invalidation bytes there are: it plays no part."""
         return reference.Group(self.number(), self.number())
+
+    def bounded_group(self):
+        return reference.Group(*(self.number() for _ in reference.Group._fields))
 
     def given_number(self):
         return reference.Number(*(self.number() for _ in reference.Number._fields))
@@ -131,6 +134,10 @@ def field(words):
     return words.bytes(), words.group(), words.channel()
 
 
+def bounded_field(words):
+    return words.bytes(), words.bounded_group(), words.channel()
+
+
 def value_answer(words):
     record, group, channel = field(words)
     return reply_words(reference.decode_value(record, group.record_id_size, channel), value_words)
@@ -140,8 +147,16 @@ def validity_answer(words):
     return number_words(reference.check_validity_unbounded(*field(words)))
 
 
+def bounded_validity_answer(words):
+    return reply_words(reference.check_validity(*bounded_field(words)), lambda r: number_words(r.is_valid))
+
+
 def both_answer(words):
     return valid_value_words(reference.decode_valid_value_unbounded(*field(words)))
+
+
+def bounded_both_answer(words):
+    return valid_value_words(reference.decode_valid_value(*bounded_field(words)))
 
 
 def double_answer(words):
@@ -170,27 +185,35 @@ def written_word(after, before):
     return [bytes_word(after.rstrip(bytes([LEFT_ALONE])) if after != before else b"")]
 
 
+def fetch(words):
+    return words.bytes(), words.number(), words.number(), words.number(), words.buffer()
+
+
 def record_answer(words):
-    file, start, number, size = words.bytes(), words.number(), words.number(), words.number()
-    reply, buffer = reference.read_record(file, start, number, size, words.buffer())
+    file, start, number, size, before = fetch(words)
+    reply, buffer = reference.read_record(file, start, number, size, before)
     return number_words(reply.reply, reply.told) + fetched_word(buffer, size, reply.reply == 0)
 
 
-def group_filling(record_size, group):
-    """The group with the invalidation bytes that make its records so long."""
-    return group._replace(invalidation_bytes=max(0, record_size - sum(group)))
-
-
 def record_value_answer(words):
-    file, start, number, size = words.bytes(), words.number(), words.number(), words.number()
-    before, group = words.buffer(), group_filling(size, words.group())
-    reply, buffer = reference.record_value(file, start, number, size, group, words.channel(), before)
+    file, start, number, size, before = fetch(words)
+    group, channel = words.group(), words.channel()
+    reply, buffer = reference.read_record(file, start, number, size, before)
+    if reply.reply == 0:
+        reply = reference.decode_valid_value_unbounded(buffer[:size], group, channel)
+    return valid_value_words(reply) + fetched_word(buffer, size, buffer != before)
+
+
+def bounded_record_value_answer(words):
+    file, start, number, size, before = fetch(words)
+    group, channel = words.bounded_group(), words.channel()
+    reply, buffer = reference.record_value(file, start, number, size, group, channel, before)
     return valid_value_words(reply) + fetched_word(buffer, size, buffer != before)
 
 
 def record_payload_answer(words):
-    file, start, number, size = words.bytes(), words.number(), words.number(), words.number()
-    record, payload, group = words.buffer(), words.buffer(), words.group()
+    file, start, number, size, record = fetch(words)
+    payload, group = words.buffer(), words.group()
     reply, left, kept = reference.record_payload(file, start, number, size, group, words.channel(), record, payload)
     return (reply_words(reply, lambda r: value_words(r) + number_words(r.is_valid, r.payload_length))
             + fetched_word(left, size, left != record) + written_word(kept, payload))
@@ -214,6 +237,9 @@ ANSWERS = {
     "record-value": record_value_answer,
     "record-payload": record_payload_answer,
     "write": write_answer,
+    "bounded-validity": bounded_validity_answer,
+    "bounded-both": bounded_both_answer,
+    "bounded-record-value": bounded_record_value_answer,
 }
 
 

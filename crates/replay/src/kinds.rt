@@ -3,8 +3,7 @@ use crate::blocks_read::replay_block;
 use crate::blocks_written::replay_header_write;
 use crate::blocks_written::replay_list_write_equal;
 use crate::blocks_written::replay_list_write_variable;
-use crate::chains::replay_record;
-use crate::chains::replay_record_value;
+use crate::chains::replay_fetch;
 use crate::channels::replay_channel_read;
 use crate::channels::replay_channel_write;
 use crate::fields::replay_field;
@@ -51,11 +50,17 @@ pub(crate) const RECORD_PAYLOAD: usize = 15;
 
 pub(crate) const WRITE: usize = 16;
 
-pub(crate) const UNKNOWN: usize = 17;
+pub(crate) const BOUNDED_VALIDITY: usize = 17;
+
+pub(crate) const BOUNDED_BOTH: usize = 18;
+
+pub(crate) const BOUNDED_RECORD_VALUE: usize = 19;
+
+pub(crate) const UNKNOWN: usize = 20;
 
 // One string, each name with a blank behind it: checking a string for each name takes far longer
-const NAMES: [u8; 185] =
-    *b"type header-read header-write list-read list-write-equal list-write-variable value validity both double text record record-value channel-read channel-write record-payload write unknown ";
+const NAMES: [u8; 236] =
+    *b"type header-read header-write list-read list-write-equal list-write-variable value validity both double text record record-value channel-read channel-write record-payload write bounded-validity bounded-both bounded-record-value unknown ";
 
 // Whether the line's first word is the name that begins at `from`
 fn begins(line: &[u8], names: &[u8], from: usize) -> bool {
@@ -130,10 +135,13 @@ pub(crate) fn replay(line: &[u8], kind: usize, at: usize) -> usize {
         HEADER_WRITE => replay_header_write(line, at),
         LIST_WRITE_EQUAL => replay_list_write_equal(line, at),
         LIST_WRITE_VARIABLE => replay_list_write_variable(line, at),
-        VALUE | VALIDITY | BOTH | DOUBLE => replay_field(line, kind, at),
+        VALUE | VALIDITY | BOTH | DOUBLE | BOUNDED_VALIDITY | BOUNDED_BOTH => replay_field(
+            line,
+            kind,
+            at,
+        ),
         TEXT => replay_text(line, at),
-        RECORD => replay_record(line, at),
-        RECORD_VALUE => replay_record_value(line, at),
+        RECORD | RECORD_VALUE | BOUNDED_RECORD_VALUE => replay_fetch(line, kind, at),
         CHANNEL_READ => replay_channel_read(line, at),
         CHANNEL_WRITE => replay_channel_write(line, at),
         RECORD_PAYLOAD => replay_record_payload(line, at),

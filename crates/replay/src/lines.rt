@@ -13,7 +13,7 @@ const MOST_SHOWN: u64 = 20;
 
 pub(crate) struct Run {
     // by kind, and last the lines of no known kind
-    counts: [u64; 18],
+    counts: [u64; 21],
     different: u64,
     // the bytes of the present line so far, or WRONG where it does not fit
     fill: usize,
@@ -28,7 +28,7 @@ fn one_more(count: u64) -> u64 {
 impl Run {
     pub(crate) fn new() -> Self {
         Run {
-            counts: [0; 18],
+            counts: [0; 21],
             different: 0,
             fill: 0,
             line: 0,
@@ -44,7 +44,7 @@ impl Run {
     }
 
     fn counted(mut self, kind: usize) -> Self {
-        if kind < 18 {
+        if kind < 21 {
             self.counts[kind] = one_more(self.counts[kind]);
         }
         self
@@ -184,10 +184,10 @@ fn print_count(kind: usize, count: u64) {
 }
 
 // Lines of no known kind are told only where there are some
-fn print_counts(counts: [u64; 18]) -> u64 {
+fn print_counts(counts: [u64; 21]) -> u64 {
     let mut total: u64 = 0;
     let mut kind: usize = 0;
-    while kind < 18 {
+    while kind < 21 {
         let count = counts[kind];
         if kind < UNKNOWN || count > 0 {
             print_count(kind, count);

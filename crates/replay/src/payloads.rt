@@ -32,7 +32,7 @@ pub(crate) fn replay_record_payload(line: &[u8], at: usize) -> usize {
     let mut kept = [FILL; 512];
     let asked = fetch_words(line, at, &mut file, &out);
     let lent = room(line, asked.next, &kept);
-    let field = field_words(line, lent.next);
+    let field = field_words(line, lent.next, false);
     let group = field.group;
     let channel = field.channel;
     let file_count = asked.file_count;

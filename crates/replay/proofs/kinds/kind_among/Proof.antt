@@ -8,7 +8,7 @@ abbrev Inv-loop : tie.InvT-loop
 Inv-loop line names kind₀ from₀ kind from = Unit {0}
 
 abbrev μ-loop : tie.MeasureT-loop
-μ-loop line names kind₀ from₀ kind from = 17 - kind
+μ-loop line names kind₀ from₀ kind from = 20 - kind
 
 pub kind-among-spec : {M : Type 1} → statement M
 kind-among-spec =

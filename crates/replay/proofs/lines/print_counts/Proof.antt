@@ -8,7 +8,7 @@ abbrev Inv-loop : tie.InvT-loop
 Inv-loop counts total₀ kind₀ total kind = Unit {0}
 
 abbrev μ-loop : tie.MeasureT-loop
-μ-loop counts total₀ kind₀ total kind = 18 - kind
+μ-loop counts total₀ kind₀ total kind = 21 - kind
 
 pub print-counts-spec : {M : Type 1} → statement M
 print-counts-spec =
