@@ -3,8 +3,9 @@
 use crate::cases::Case;
 use crate::check::{ask_library, judge, Verdict};
 
-/// Kinds of lines that are not for the crate: it reads no chains, and writes no number by itself.
-const OTHERS: [&str; 2] = ["record", "write "];
+/// Kinds of lines that are not for the crate: it reads no chains, writes no number by itself, and knows no end of the
+/// invalidation bytes.
+const OTHERS: [&str; 3] = ["record", "write ", "bounded-"];
 
 /// What `replay` holds the library to.
 fn lines() -> impl Iterator<Item = &'static str> {
