@@ -1,15 +1,18 @@
 -- Two files whose accepted chains join to the same bytes have as much data, give the same records, and the same values in them.
 use mathlib.Core.Path.{_≡_, sym, ap, _∙_}
+use mathlib.Core.Bool.{false}
 use mathlib.Core.List.{List}
-use Prim.Native.Nat.{ℕ, _≤_}
+use Prim.Native.Nat.{ℕ, _+_, _*_, _≤_}
 use lib.ListN.{length}
 use borrow.Author.Tests.{le-ltb}
 use Rattle.definitions.specs.Reply.{Outcome, answer, refusal, if_then_else_}
-use Rattle.definitions.specs.Channel.{Channel, Group, ValidValue}
+use Rattle.definitions.specs.Bytes.{span}
+use Rattle.definitions.specs.Channel.{Channel, Group, ValidValue, recordLength, boundedValueOf}
 use Rattle.definitions.specs.Chain.{Block, idDT, fileLimit, joined, total, chainOf, totalOf, dataLength, badSize, recordOf, fetched, fieldOf, valueFetched}
 use Rattle.definitions.specs.Accepted.{Accepted}
 use Rattle.chain.proofs.Chains.{joined-length, chain-stands}
 use Rattle.theorems.proofs.Chains.AcceptedChains.{accepts}
+use Rattle.theorems.proofs.Calls.Answers.{size-fits, value-of-record, value-fetched-exactly}
 
 -- a file within the limit of 7, with an accepted chain of blocks with that id that joins to j
 pub record JoinsBy (id f : List ℕ) (start : ℕ) (j : List ℕ) : Type 0 where
@@ -47,6 +50,27 @@ module _ (f : List ℕ) (start : ℕ) (j : List ℕ) (h : Joins f start j) where
       → valueFetched f start k size group c out ≡ valueIn j k size group c out
   unfolding valueFetched
   value-of-joined k size group c out = ap (fieldOf size group c) (record-of-joined k size out)
+
+  -- and of a record inside them, the field and its validity in the record's own bytes, 28 and 29 included
+  pub value-on-joined : (k size : ℕ) (group : Group) (c : Channel) (out : List ℕ) → badSize size (length out) ≡ false → k * size + size ≤ length j
+      → valueFetched f start k size group c out .reply ≡ boundedValueOf (span j (k * size) size) group c
+  value-on-joined k size group c out fits inside =
+      let sized = size-fits size (length out) fits in
+      value-of-record f start k size out group c (record {
+        some = sized .0;
+        small = sized .1;
+        room = sized .2;
+        short = h .short;
+        blocks = h .blocks;
+        accepted = h .accepted;
+        inside = rw (h .same) inside;
+      })
+      ∙ ap (λ (s : List ℕ). boundedValueOf (span s (k * size) size) group c) (h .same)
+
+-- there is a value only where the record size is the group's sum
+pub value-sized : (f : List ℕ) (start k size : ℕ) (group : Group) (c : Channel) (out : List ℕ) (v : ValidValue)
+    → valueFetched f start k size group c out .reply ≡ answer v → size ≡ recordLength group
+value-sized f start k size group c out v e = value-fetched-exactly f start k size out group c .only v e .area .long
 
 -- so two such files are not told apart
 module _ (f g : List ℕ) (a b : ℕ) (j : List ℕ) (h : Joins f a j) (i : Joins g b j) where

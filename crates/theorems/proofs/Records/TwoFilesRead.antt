@@ -7,14 +7,14 @@ use Prim.Native.Nat.{ℕ}
 use contract.Lifetimes.{Lfts}
 use lib.ListN.{length}
 use Rattle.definitions.specs.Reply.{Outcome, answer}
-use Rattle.definitions.specs.Channel.{ValidValue}
+use Rattle.definitions.specs.Channel.{ValidValue, recordLength}
 use Rattle.chain.specs.Meaning.{chainReply}
 use Rattle.records.specs.Meaning.{fetchedBy, valueFetchedBy}
 use Rattle.places.specs.declared.place.FileAddress.{FileAddress}
 use Rattle.chain.specs.declared.acceptance.ChainRead.{ChainRead}
 use Rattle.records.specs.declared.record.RecordRead.{RecordRead}
 use Rattle.records.proofs.Back.{record-one}
-use Rattle.fields.specs.Meaning.{channelMeant, groupMeant}
+use Rattle.fields.specs.Meaning.{channelMeant, groupMeant, validValueReply}
 use Rattle.fields.specs.declared.channel.Channel.{Channel}
 use Rattle.fields.specs.declared.group.Group.{Group}
 use Rattle.fields.specs.declared.value.ValidValueRead.{ValidValueRead}
@@ -31,7 +31,8 @@ use Rattle.replies.specs.declared.valid_values.Mf4ValidValueReply.{Mf4ValidValu
 use Rattle.mf4.specs.Clauses.{Slice}
 use Rattle.theorems.specs.Clauses.{ReadsLength, ReadsRecord, ReadsRecordValue}
 use Rattle.theorems.specs.ClausesToC.{ReadsLengthC, ReadsRecordC, ReadsRecordValueC}
-use Rattle.theorems.proofs.Records.TwoFiles.{Joins, recordIn, valueIn, length-of-joined, record-of-joined, value-of-joined}
+use Rattle.theorems.proofs.Calls.AnswersToC.{record-value-zero}
+use Rattle.theorems.proofs.Records.TwoFiles.{Joins, recordIn, valueIn, length-of-joined, record-of-joined, value-of-joined, value-sized}
 
 -- Of a call that is given a file, a start and a buffer, with all else fixed: `Says` is its clause, of a result and of what
 -- the buffer holds afterwards; `meaning` is what those two mean, and `given` what the definitions give on the joined bytes
@@ -116,6 +117,13 @@ module _ (κs : Lfts 2) (j : List ℕ) (number size : ℕ) where
         (λ y z after later e. (valid-value-one y z (ap (λ (o : Outcome ValidValue). o .reply) e), ap (λ (o : Outcome ValidValue). o .buffer) e))
         read-value-of-joined
 
+    -- a value is answered only where the record size is the group's sum
+    pub read-value-sized : (file : Slice) (start : FileAddress) (buffer : Slice) (y : ValidValueRead) (after : List ℕ) (v : ValidValue)
+        → ValueSays file start buffer y after → validValueReply y ≡ answer v → size ≡ recordLength (groupMeant group)
+    read-value-sized file start buffer y after v p e =
+        value-sized (file .now) (start .0) number size (groupMeant group) (channelMeant channel) (buffer .now) v
+        (sym (ap (λ (o : Outcome ValidValue). o .reply) p) ∙ e)
+
   -- ---- mf4_record_value
 
   module _ (group : Mf4Group) (channel : Mf4Channel) where
@@ -134,3 +142,8 @@ module _ (κs : Lfts 2) (j : List ℕ) (number size : ℕ) where
         alike (λ s. s) j ValueSaysC returned valueGivenC
         (λ y z after later e. (ap (λ (l : Returned Mf4ValidValueReply). l .result) e, ap (λ (l : Returned Mf4ValidValueReply). l .buffer) e))
         mf4-record-value-of-joined
+
+    pub mf4-record-value-sized : (file : Slice) (start : ℕ) (buffer : Slice) (y : Mf4ValidValueReply) (after : List ℕ)
+        → ValueSaysC file start buffer y after → y .reply ≡ 0 → size ≡ recordLength (groupGiven group)
+    mf4-record-value-sized file start buffer y after p e =
+        record-value-zero κs file start number size group channel buffer y after p .only e .area .long
