@@ -10,8 +10,8 @@ use contract.Lifetimes.{Lfts}
 use lib.ListN.{length, getD}
 use Rattle.definitions.specs.Reply.{Reply, answer, refusal, andThen}
 use Rattle.definitions.specs.Bytes.{bit}
-use Rattle.definitions.specs.Channel.{Channel, Group, Value, valueOf, validOf, validValueOf, recordLength, hasInvalidationBit, areaOf, boundedValidOf, boundedValueOf}
-use Rattle.fields.specs.Meaning.{channelMeant, groupMeant, validValueReply, validityReply}
+use Rattle.definitions.specs.Channel.{Channel, Group, validOf, validValueOf, recordLength, hasInvalidationBit, areaOf, boundedValidOf, boundedValueOf}
+use Rattle.fields.specs.Meaning.{channelMeant, groupMeant, validityReply}
 use Rattle.fields.specs.declared.channel.Channel.{Channel as Description}
 use Rattle.fields.specs.declared.group.Group.{Group as Grouped}
 use Rattle.fields.specs.declared.value.ValidValueRead.{ValidValueRead}
@@ -19,7 +19,6 @@ use Rattle.fields.specs.declared.validity.ValidityRead.{ValidityRead}
 use Rattle.fields.proofs.Back.{valid-value-one, validity-one}
 use Rattle.fields.proofs.OneBit.{invalidationByte, bit-in-area}
 use Rattle.block_replies.specs.Channels.{channelGiven}
-use Rattle.replies.specs.Replies.{flagC}
 use Rattle.replies.specs.Values.{groupGiven, validValueC, validityC}
 use Rattle.block_replies.specs.declared.channel.Mf4Channel.{Mf4Channel}
 use Rattle.replies.specs.declared.group.Mf4Group.{Mf4Group}

@@ -1,6 +1,6 @@
 -- When each of 18 to 22 is given, and of 28 and 29, exactly, and that there is no other reply without a value.
 use mathlib.Core.Path.{_≡_}
-use mathlib.Core.Bool.{Bool, true, not, _&&_}
+use mathlib.Core.Bool.{Bool, true, _&&_}
 use mathlib.Core.List.{List}
 use Prim.Native.Nat.{ℕ, _*_}
 use lib.ListN.{length}
