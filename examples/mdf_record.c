@@ -28,13 +28,21 @@ static mf4_payload_reply ask_for_payload(mdf_record *record, mf4_channel channel
                               channel, record->bytes, sizeof record->bytes, record->payload, record->payload_room);
 }
 
+/* The call for payloads knows no end of the invalidation bytes: where the record's validity is refused, the payload is too. */
+static mf4_payload_reply in_area(mf4_payload_reply read, mf4_validity_reply validity)
+{
+    const mf4_payload_reply refused = { .reply = validity.reply, .told = validity.told };
+    return read.reply == MF4_ANSWER && validity.reply != MF4_ANSWER ? refused : read;
+}
+
 /* The library is lent the room of the payload before; where that is too short it tells what suffices, and is asked again. */
 mf4_payload_reply mdf_read_payload(mdf_record *record, mf4_channel channel)
 {
+    const mdf_group *group = record->group;
     mf4_payload_reply read = ask_for_payload(record, channel);
     if (read.reply == MF4_NO_ROOM && make_room(record, read.told))
         read = ask_for_payload(record, channel);
-    return read;
+    return in_area(read, mf4_check_validity(record->bytes, (size_t)group->record_size, group->layout, channel));
 }
 
 /* A payload's value is told as a field's is. */

@@ -107,7 +107,8 @@ static void refuse_bits(void)
     changed_field(oil + 4, 8, 4, 29, BIT_OUTSIDE("8", "8"));
     changed_field(oil + 4, UINT32_MAX, 4, 29, BIT_OUTSIDE("4294967295", "8"));
     changed_field(oil, marked(0xFFFFFFFE, 8), 8, 29, BIT_OUTSIDE("8", "8"));
-    changed_field(bytes, 0, 4, 29, BIT_OUTSIDE("0", "0"));
+    changed(bytes, 0, 4, 0, "\n    refused (29): " BIT_OUTSIDE("0", "0") "\n");
+    must_hold(times_said("\n    refused (29): ") == 2, "both channels with a bit, and no invalidation bytes", 0);
     must_hold(times_said("6 records of 47, 13 trailing bytes ignored") == 1, "no invalidation bytes", 0);
     changed_field(fields_of(HOURS) + 12, marked(2, 8), 8, 29, BIT_OUTSIDE("8", "8"));
     must_hold(times_said("  unknown: no record has valid hours\n") == 4, "hours whose validity is refused", 0);

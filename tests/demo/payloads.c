@@ -60,6 +60,16 @@ static void change_chains(void)
     changed(sites, block("##DL", 3), 8, 0, "          71.5         86.75  00 01   -  ");
 }
 
+/* The sites' invalidation bit behind the record, and the last one of the record. */
+static void change_bit(void)
+{
+    const uint64_t bit = fields_of(SITE) + 16;
+    changed(bit, 8, 4, 0, "\n    refused (29): the invalidation bit lies outside the group's invalidation bytes; it is bit 8, ");
+    must_hold(times_said("refused (29)") == 7, "payloads with a bit outside", 0);
+    changed(bit, 7, 4, 0, "  80 00   -                 sensor torn off");
+    must_hold(times_said("refused") == 0, "payloads with the last bit of the record", 0);
+}
+
 /* What the bytes of a payload stand for: the remarks have 0, 33, 12, 27, 21 and 0. */
 static void change_contents(void)
 {
@@ -69,7 +79,6 @@ static void change_contents(void)
     changed(remark + 2, 0, 1, 0, "  Orl\xC3\xA9" "ans            7306376951619478899\n");
     changed_payload(remark + 2, 0, 1, 21, 2);
     changed(remark + 12, 1, 4, 0, "  Orl\xC3\xA9" "ans           invalid\n");
-    changed(fields_of(SITE) + 16, 8, 4, 0, "  80 00   -                 sensor torn off"); /* behind the record: valid */
     changed(site + 4, 0x1B, 1, 0, "  \xC5\x81\xC3\xB3?\xC5\xBA, dock 3  ");
     changed(site, 0xFF, 1, 0, "  <Invalid UTF8>    -\n");
 }
@@ -100,5 +109,6 @@ void damage_payloads(void)
     change_positions();
     change_chains();
     change_contents();
+    change_bit();
     lengthen_payload();
 }
