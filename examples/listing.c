@@ -104,8 +104,8 @@ void print_refusal(const mdf_group *group, const mf4_channel *channel, mf4_valid
     if (refused.told != 0)
         printf("; it needs %" PRIu64 " bytes, the record has %" PRIu64, refused.told, group->record_size);
     if (refused.reply == MF4_BIT_OUTSIDE)
-        printf("; it is bit %" PRIu32 ", the record has %" PRIu64 ", from 0 on: have the log written again with a right "
-               "description", channel->pos_invalidation_bit, 8 * (uint64_t)group->layout.invalidation_bytes);
+        printf("; it is bit %" PRIu32 ", counted from 0, and the group has %" PRIu64 " bits: have the log written again with a "
+               "right description", channel->pos_invalidation_bit, 8 * (uint64_t)group->layout.invalidation_bytes);
     printf("\n");
 }
 

@@ -96,8 +96,8 @@ static uint64_t marked(uint32_t flags, uint32_t position)
 }
 
 #define BIT_OUTSIDE(position, bits) \
-    "the invalidation bit lies outside the group's invalidation bytes; it is bit " position ", the record has " bits \
-    ", from 0 on: have the log written again with a right description"
+    "the invalidation bit lies outside the group's invalidation bytes; it is bit " position ", counted from 0, and the " \
+    "group has " bits " bits: have the log written again with a right description"
 
 /* One invalidation byte, so bits 0 to 7; the channel group tells it at 28 of its fields, a channel its flags at 12 and its bit
  * at 16. */

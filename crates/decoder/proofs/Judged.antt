@@ -11,8 +11,8 @@ use Rattle.fields.specs.Meaning.{valueMeant, valueReply, validityReply}
 use Rattle.fields.specs.declared.value.DecodedValue.{DecodedValue}
 use Rattle.fields.specs.declared.value.ValueRead.{ValueRead}
 use Rattle.fields.specs.declared.value.ValueRead.the-variants.{Value as Valued, Refused as NotValued}
-use Rattle.fields.specs.declared.validity.ValidityRead.{ValidityRead}
-use Rattle.fields.specs.declared.validity.ValidityRead.the-variants.{Validity, Refused as NotTold}
+use Rattle.fields.specs.declared.area.ValidityRead.{ValidityRead}
+use Rattle.fields.specs.declared.area.ValidityRead.the-variants.{Validity, Refused as NotTold}
 use Rattle.decoder.specs.Meaning.{judgedReply}
 
 abbrev judgedOf : ValueRead → ValidityRead → Reply ValidValue

@@ -19,8 +19,8 @@ use Rattle.fields.specs.Meaning.{channelMeant, valueMeant, valueReply, v
 use Rattle.fields.specs.Known.{FieldTold, FieldPlaced}
 use Rattle.fields.specs.declared.area.AreaChecked.{AreaChecked}
 use Rattle.fields.specs.declared.area.AreaChecked.the-variants.{Inside, Refused as NotInside}
-use Rattle.fields.specs.declared.validity.ValidityRead.{ValidityRead}
-use Rattle.fields.specs.declared.validity.ValidityRead.the-variants.{Validity, Refused as NotTold}
+use Rattle.fields.specs.declared.area.ValidityRead.{ValidityRead}
+use Rattle.fields.specs.declared.area.ValidityRead.the-variants.{Validity, Refused as NotTold}
 use Rattle.fields.specs.declared.field.FieldFound.{FieldFound}
 use Rattle.fields.specs.declared.field.FieldFound.the-variants.{Field, Refused}
 use Rattle.fields.specs.declared.value.DecodedValue.{DecodedValue}

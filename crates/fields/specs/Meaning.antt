@@ -14,8 +14,8 @@ use Rattle.fields.specs.declared.value.DecodedChannelValue.{DecodedChann
 use Rattle.fields.specs.declared.group.Group.{Group}
 use Rattle.fields.specs.declared.area.AreaChecked.{AreaChecked}
 use Rattle.fields.specs.declared.area.AreaChecked.the-variants.{Inside, Refused as NotInside}
-use Rattle.fields.specs.declared.validity.ValidityRead.{ValidityRead}
-use Rattle.fields.specs.declared.validity.ValidityRead.the-variants.{Validity, Refused as NotTold}
+use Rattle.fields.specs.declared.area.ValidityRead.{ValidityRead}
+use Rattle.fields.specs.declared.area.ValidityRead.the-variants.{Validity, Refused as NotTold}
 use Rattle.fields.specs.declared.value.ValidValueRead.{ValidValueRead}
 use Rattle.fields.specs.declared.value.ValidValueRead.the-variants.{Value as Judged, Refused as NotJudged}
 

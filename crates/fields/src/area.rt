@@ -1,17 +1,24 @@
-// Whether a record has the length of its group's records, and its invalidation bit is inside: by the numbers alone.
+// Validity where the invalidation bytes have an end. Whether a record is as long as its group's, and its invalidation bit inside, is
+// asked of the numbers alone.
 ghost use mathlib.Core.Path.{_≡_};
 ghost use mathlib.Core.Bool.{not, _&&_};
 ghost use Prim.Native.Nat.{_*_};
 ghost use lib.Dec.{ltb, eqb};
-ghost use Rattle.definitions.specs.Channel.{recordLength, hasInvalidationBit, areaOf};
-ghost use Rattle.fields.specs.Meaning.{channelMeant, groupMeant, areaReply};
+ghost use Rattle.definitions.specs.Channel.{recordLength, hasInvalidationBit, areaOf, boundedValidOf};
+ghost use Rattle.fields.specs.Meaning.{channelMeant, groupMeant, areaReply, validityReply};
 use crate::channel::Channel;
 use crate::group::Group;
 use crate::validity::bit_of;
+use crate::validity::check_value_validity;
 use refusals::Refusal;
 
 pub enum AreaChecked {
     Inside,
+    Refused(Refusal),
+}
+
+pub enum ValidityRead {
+    Validity(bool),
     Refused(Refusal),
 }
 
@@ -24,6 +31,19 @@ impl AreaChecked {
         match self {
             AreaChecked::Refused(why) => why,
             AreaChecked::Inside => Refusal::OtherLength,
+        }
+    }
+}
+
+impl ValidityRead {
+    // The same of a validity
+    pub fn refusal(self) -> Refusal
+        requires { ⌜ ((why : Refusal) × (self ≡ ValidityRead.Refused why)) ⌝ }
+        ensures { λ r. ⌜ self ≡ ValidityRead.Refused r ⌝ }
+    {
+        match self {
+            ValidityRead::Refused(why) => why,
+            ValidityRead::Validity(_) => Refusal::OtherLength,
         }
     }
 }
@@ -64,4 +84,14 @@ pub fn check_area(length: usize, group: Group, channel: Channel) -> AreaChecked
         return AreaChecked::Refused(Refusal::BitOutside);
     }
     AreaChecked::Inside
+}
+
+pub fn check_bounded_validity(record: &[u8], group: Group, channel: Channel) -> ValidityRead
+    ensures { λ r. ⌜ validityReply r ≡ boundedValidOf (now («record» .entry)) (groupMeant group) (channelMeant channel) ⌝ }
+{
+    let area = check_area(record.len(), group, channel);
+    let AreaChecked::Inside = area else {
+        return ValidityRead::Refused(area.refusal());
+    };
+    ValidityRead::Validity(check_value_validity(record, group, channel))
 }

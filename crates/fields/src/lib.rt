@@ -11,7 +11,9 @@ mod validity;
 mod value;
 
 pub use area::AreaChecked;
+pub use area::ValidityRead;
 pub use area::check_area;
+pub use area::check_bounded_validity;
 pub use channel::Channel;
 pub use content::content_at;
 pub use field::FieldFound;
@@ -29,8 +31,6 @@ pub use number::number_at;
 pub use number::number_value;
 pub use span::bytes_needed;
 pub use span::ends_outside;
-pub use validity::ValidityRead;
-pub use validity::check_bounded_validity;
 pub use validity::check_value_validity;
 pub use value::DecodedChannelValue;
 pub use value::DecodedValue;

@@ -3,19 +3,11 @@ ghost use mathlib.Core.Path.{_≡_};
 ghost use Prim.Native.Nat.{_+_, _/_, _<_};
 ghost use lib.ListN.{getD};
 ghost use Rattle.definitions.specs.Bytes.{bit};
-ghost use Rattle.definitions.specs.Channel.{validOf, boundedValidOf};
-ghost use Rattle.fields.specs.Meaning.{channelMeant, groupMeant, validityReply};
-use crate::area::AreaChecked;
-use crate::area::check_area;
+ghost use Rattle.definitions.specs.Channel.{validOf};
+ghost use Rattle.fields.specs.Meaning.{channelMeant, groupMeant};
 use crate::channel::Channel;
 use crate::group::Group;
 use bit_fields::cut;
-use refusals::Refusal;
-
-pub enum ValidityRead {
-    Validity(bool),
-    Refused(Refusal),
-}
 
 pub(crate) fn bit_of(word: u64, place: u32) -> u64
     requires { ⌜ place < 64 ⌝ }
@@ -62,28 +54,4 @@ pub fn check_value_validity(record: &[u8], group: Group, channel: Channel) -> bo
         (position / 8) as usize,
     );
     bit_of(byte, position % 8) == 0
-}
-
-// Where the invalidation bytes have an end, in a record of the group
-pub fn check_bounded_validity(record: &[u8], group: Group, channel: Channel) -> ValidityRead
-    ensures { λ r. ⌜ validityReply r ≡ boundedValidOf (now («record» .entry)) (groupMeant group) (channelMeant channel) ⌝ }
-{
-    let area = check_area(record.len(), group, channel);
-    let AreaChecked::Inside = area else {
-        return ValidityRead::Refused(area.refusal());
-    };
-    ValidityRead::Validity(check_value_validity(record, group, channel))
-}
-
-impl ValidityRead {
-    // Why there is none. Only a refusal is asked, so the second arm is never taken.
-    pub fn refusal(self) -> Refusal
-        requires { ⌜ ((why : Refusal) × (self ≡ ValidityRead.Refused why)) ⌝ }
-        ensures { λ r. ⌜ self ≡ ValidityRead.Refused r ⌝ }
-    {
-        match self {
-            ValidityRead::Refused(why) => why,
-            ValidityRead::Validity(_) => Refusal::OtherLength,
-        }
-    }
 }

@@ -32,7 +32,7 @@ use Rattle.fields.specs.declared.channel.Channel.{Channel}
 use Rattle.fields.specs.declared.group.Group.{Group}
 use Rattle.fields.specs.declared.value.ValueRead.{ValueRead}
 use Rattle.fields.specs.declared.value.ValidValueRead.{ValidValueRead}
-use Rattle.fields.specs.declared.validity.ValidityRead.{ValidityRead}
+use Rattle.fields.specs.declared.area.ValidityRead.{ValidityRead}
 use Rattle.chain.specs.Meaning.{chainReply}
 use Rattle.records.specs.Meaning.{recordReply}
 use Rattle.places.specs.declared.place.FileAddress.{FileAddress}

@@ -23,7 +23,7 @@ use Rattle.fields.specs.declared.channel.Channel.{Channel}
 use Rattle.fields.specs.declared.group.Group.{Group}
 use Rattle.fields.specs.declared.value.ValueRead.{ValueRead}
 use Rattle.fields.specs.declared.value.ValidValueRead.{ValidValueRead}
-use Rattle.fields.specs.declared.validity.ValidityRead.{ValidityRead}
+use Rattle.fields.specs.declared.area.ValidityRead.{ValidityRead}
 use Rattle.encoder.specs.Meaning.{givenMeant, writtenReply as storedReply}
 use Rattle.encoder.specs.declared.number.NumberGiven.{NumberGiven}
 use Rattle.encoder.specs.declared.encode.ValueWritten.{ValueWritten}

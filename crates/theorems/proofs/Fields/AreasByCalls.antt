@@ -15,7 +15,7 @@ use Rattle.fields.specs.Meaning.{channelMeant, groupMeant, validityReply}
 use Rattle.fields.specs.declared.channel.Channel.{Channel as Description}
 use Rattle.fields.specs.declared.group.Group.{Group as Grouped}
 use Rattle.fields.specs.declared.value.ValidValueRead.{ValidValueRead}
-use Rattle.fields.specs.declared.validity.ValidityRead.{ValidityRead}
+use Rattle.fields.specs.declared.area.ValidityRead.{ValidityRead}
 use Rattle.fields.proofs.Back.{valid-value-one, validity-one}
 use Rattle.fields.proofs.OneBit.{invalidationByte, bit-in-area}
 use Rattle.block_replies.specs.Channels.{channelGiven}

@@ -13,7 +13,7 @@ use Rattle.fields.specs.declared.channel.Channel.{Channel}
 use Rattle.fields.specs.declared.group.Group.{Group}
 use Rattle.fields.specs.declared.value.ValueRead.{ValueRead}
 use Rattle.fields.specs.declared.value.ValidValueRead.{ValidValueRead}
-use Rattle.fields.specs.declared.validity.ValidityRead.{ValidityRead}
+use Rattle.fields.specs.declared.area.ValidityRead.{ValidityRead}
 use Rattle.places.specs.declared.place.FileAddress.{FileAddress}
 use Rattle.block_replies.specs.Channels.{channelGiven}
 use Rattle.replies.specs.Values.{groupGiven}

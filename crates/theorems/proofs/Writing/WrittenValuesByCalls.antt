@@ -16,7 +16,7 @@ use Rattle.fields.specs.Meaning.{channelMeant, groupMeant, valueReply}
 use Rattle.fields.specs.declared.channel.Channel.{Channel}
 use Rattle.fields.specs.declared.group.Group.{Group}
 use Rattle.fields.specs.declared.value.ValueRead.{ValueRead}
-use Rattle.fields.specs.declared.validity.ValidityRead.{ValidityRead}
+use Rattle.fields.specs.declared.area.ValidityRead.{ValidityRead}
 use Rattle.fields.proofs.Back.{value-one, validity-one}
 use Rattle.encoder.specs.Meaning.{givenMeant, valueGiven, writtenReply, outcome}
 use Rattle.encoder.specs.declared.number.NumberGiven.{NumberGiven}

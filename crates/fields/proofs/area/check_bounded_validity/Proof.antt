@@ -1,8 +1,8 @@
 -- The area's refusal is handed on.
 use borrow.Author.Needs.{needs}
 use Rattle.fields.proofs.InArea.{not-told, told-inside}
-use Rattle.fields.proofs.validity.check_bounded_validity.Statement.{statement}
-use Rattle.fields.proofs.validity.check_bounded_validity.Tie as tie
+use Rattle.fields.proofs.area.check_bounded_validity.Statement.{statement}
+use Rattle.fields.proofs.area.check_bounded_validity.Tie as tie
 
 returns : tie.Need-returns
 returns c = not-told _ _ _ (c .before .before .before .check-area .ensures) (c .refusal .ensures)
