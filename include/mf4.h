@@ -9,8 +9,9 @@
  *
  * Every call returns, whatever the input. A call that can refuse returns a struct by value whose name ends in _reply: first
  * reply and told, then the answer's fields, which are all zero on a refusal. "Refuses with" lists the replies in the order of
- * the tests; the first test that fails decides. A refused call changes no buffer, except that mf4_record_value and
- * mf4_record_payload leave a record, or a payload, that they have fetched in its buffer if a later test fails.
+ * the tests; the first test that fails decides. A refused call changes no buffer, except that mf4_record_value,
+ * mf4_table_value and mf4_record_payload leave a record, or a payload, that they have fetched in its buffer if a later test
+ * fails.
  *
  * A buffer is a pointer and a count of elements. NAME with NAME_len is input (mf4_write_value changes its record in place);
  * NAME with NAME_room is output, and its room is how much fits. The pointer may be NULL if the count is 0. An output must
@@ -19,9 +20,9 @@
  * refuse it. mf4_decode_valid_value refuses every length but the group's.
  *
  * The calls are thread-safe and reentrant: they allocate nothing and keep no state. Lent bytes must not change during a call.
- * A fetch tests the whole chain first and copies the record afterwards: if the file changes in between, the record may be
- * wrong (though no call ever accesses memory outside the buffers). So copy a log that is still being written, and read the
- * copy; a MAP_PRIVATE mapping is not enough, as its pages may still follow the file.
+ * A fetch tests the whole chain, or the table, first and copies the record afterwards: if the file changes in between, the
+ * record may be wrong (though no call ever accesses memory outside the buffers). So copy a log that is still being written,
+ * and read the copy; a MAP_PRIVATE mapping is not enough, as its pages may still follow the file.
  *
  * Link with libmf4.a or libmf4.so, for x86-64 Linux (System V calling convention). C99, C++98 or later.
  */
@@ -34,8 +35,8 @@
 
 #define MF4_VERSION_MAJOR 0
 #define MF4_VERSION_MINOR 5
-#define MF4_VERSION_PATCH 0
-#define MF4_VERSION "0.5.0"
+#define MF4_VERSION_PATCH 1
+#define MF4_VERSION "0.5.1"
 #define MF4_VERSION_NUMBER (MF4_VERSION_MAJOR * 10000 + MF4_VERSION_MINOR * 100 + MF4_VERSION_PATCH)
 
 #ifdef __cplusplus
@@ -59,6 +60,7 @@ static inline int mf4_version_matches(void)
                                                  of a list that is written, else MF4_UNWRITABLE_LIST (5)             */
 #define MF4_MAX_RECORD_SIZE 16384             /* bytes of a record, else MF4_BAD_RECORD_SIZE (15)                    */
 #define MF4_MAX_CHANNELS 256                  /* channels given to mf4_first_overlap, else MF4_TOO_MANY_CHANNELS (26) */
+#define MF4_MAX_TABLE_FRAGMENTS 512           /* data blocks of a table, else MF4_TABLE_FULL (30)                    */
 
 /* ---- replies ---------------------------------------------------------------------------------------------------- */
 
@@ -93,6 +95,9 @@ enum mf4_reply {
     MF4_NO_FIXED_NUMBER = 27,    /* a channel that is not a number in the record; told: its index in the list      */
     MF4_OTHER_LENGTH = 28,       /* a record that is not as long as the group's id, data and invalidation bytes    */
     MF4_BIT_OUTSIDE = 29,        /* the channel's invalidation bit is behind the group's invalidation bytes        */
+    MF4_TABLE_FULL = 30,         /* a table of more than 512 data blocks                                           */
+    MF4_TABLE_EMPTY = 31,        /* a table without a data block to give up                                        */
+    MF4_BAD_TABLE = 32,          /* a table that cannot be right, or not of this file                              */
     MF4_NO_POSITION = 35,        /* a channel whose field in the record is not the position of a payload           */
 
     /* From 256 on: the replies of this header's inline functions, never the library's. */
@@ -132,6 +137,9 @@ static inline const char *mf4_reply_text(uint32_t reply)
     case MF4_NO_FIXED_NUMBER: return "a description in the list is that of no fixed number";
     case MF4_OTHER_LENGTH: return "the record is not as long as its group says";
     case MF4_BIT_OUTSIDE: return "the invalidation bit lies outside the group's invalidation bytes";
+    case MF4_TABLE_FULL: return "the table would have over 512 data blocks";
+    case MF4_TABLE_EMPTY: return "the table has no data block to give up";
+    case MF4_BAD_TABLE: return "the table is damaged, or a data block of it ends behind the file";
     case MF4_NO_POSITION: return "the channel holds no position of a payload";
     case MF4_NO_TEXT_TYPE: return "the data type is no text";
     default: return "no reply of this library";
@@ -595,6 +603,66 @@ mf4_done_reply mf4_read_record(const uint8_t *file, size_t file_len, uint64_t st
 mf4_valid_value_reply mf4_record_value(const uint8_t *file, size_t file_len, uint64_t start, uint64_t number,
                                        uint64_t record_size, mf4_group group, mf4_channel channel, uint8_t *buffer,
                                        size_t buffer_room);
+
+/* ---- records through a table ------------------------------------------------------------------------------------ */
+
+/* A fetch through a chain walks along it for every record. A table is that walk, kept: where each data block stands in the file,
+ * and where its data begins in the joined data. It is the caller's, and lent by pointer, never NULL; its bytes are all that a
+ * call knows of it. A table of zeros is the empty one:
+ *
+ *     static mf4_table table;
+ *     if (mf4_open_table(file, file_len, start, &table).reply == MF4_ANSWER)
+ *         while (mf4_table_record(file, file_len, &table, number, record_size, buffer, sizeof buffer).reply == MF4_ANSWER)
+ *             number++;
+ *
+ * A log without a list, whose data link is the address of a single ##DT block, is read by an empty table with that block:
+ *
+ *     memset(&table, 0, sizeof table);
+ *     done = mf4_extend_table(file, file_len, address, &table);
+ *
+ * A table belongs to the file that it was made from. With another file a fetch may give other bytes, but none outside it.
+ */
+
+/* One data block of a table: the address of the ##DT block in the file, and the position of its data in the joined data. */
+typedef struct mf4_fragment {
+    uint64_t block_addr;
+    uint64_t data_position;
+} mf4_fragment;
+
+/* 8208 bytes. fragments[0] to fragments[fragment_count - 1] are in use, and data_length is the length of their joined data; the
+ * others are zero if no one else wrote there.
+ *
+ * A table cannot be right, MF4_BAD_TABLE (32), if it has more than 512 fragments, or none and a data_length; if the first
+ * data_position is not 0, or one is less than the one before it or more than data_length; and, in a call that is given a file,
+ * if a fragment ends behind it, header and data (up to the next data_position, or data_length) counted from block_addr.
+ * Nothing else is tested: the blocks are not read again. */
+typedef struct mf4_table {
+    uint64_t fragment_count;
+    uint64_t data_length;
+    mf4_fragment fragments[MF4_MAX_TABLE_FRAGMENTS];
+} mf4_table;
+
+/* Makes the table of a chain, whatever stood in it; its unused fragments are then 0. Refuses as mf4_data_length does, then with
+ * MF4_TABLE_FULL (30) if the chain has more than 512 data blocks: fetch such records with mf4_read_record. */
+mf4_done_reply mf4_open_table(const uint8_t *file, size_t file_len, uint64_t start, mf4_table *table);
+
+/* Adds one more ##DT block at the end, by its address. Refuses with MF4_FILE_TOO_LONG (7), MF4_BAD_TABLE (32),
+ * MF4_NO_BLOCK_THERE (11), MF4_BAD_DATA_BLOCK (12), MF4_TABLE_FULL (30). Its length may be any: no list declares it. */
+mf4_done_reply mf4_extend_table(const uint8_t *file, size_t file_len, uint64_t block_addr, mf4_table *table);
+
+/* Takes the last data block off again, and sets its fragment to 0. Refuses with MF4_BAD_TABLE (32), MF4_TABLE_EMPTY (31). */
+mf4_done_reply mf4_shorten_table(mf4_table *table);
+
+/* As mf4_read_record, of the data that the table's blocks join to. Refuses with MF4_BAD_RECORD_SIZE (15), MF4_FILE_TOO_LONG (7),
+ * MF4_BAD_TABLE (32), MF4_NO_SUCH_RECORD (16), which so marks the end. */
+mf4_done_reply mf4_table_record(const uint8_t *file, size_t file_len, const mf4_table *table, uint64_t number,
+                                uint64_t record_size, uint8_t *buffer, size_t buffer_room);
+
+/* mf4_table_record and mf4_decode_valid_value in one call. Refuses as the first, then as the second; in the latter case the
+ * record is left in the buffer. */
+mf4_valid_value_reply mf4_table_value(const uint8_t *file, size_t file_len, const mf4_table *table, uint64_t number,
+                                      uint64_t record_size, mf4_group group, mf4_channel channel, uint8_t *buffer,
+                                      size_t buffer_room);
 
 /* ---- payloads through a second chain ---------------------------------------------------------------------------- */
 

@@ -13,3 +13,4 @@ pub mod DataList
 pub mod Chain
 pub mod Accepted
 pub mod Payload
+pub mod Table

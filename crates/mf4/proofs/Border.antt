@@ -14,6 +14,7 @@ use Rattle.definitions.specs.ChannelBlock.{channelBlockOf, channelWritten}
 use Rattle.definitions.specs.Channel.{valueOf, validOf, validValueOf, boundedValidOf, boundedValueOf, recordDouble}
 use Rattle.definitions.specs.WrittenValue.{valueWritten}
 use Rattle.definitions.specs.Chain.{dataLength, fetched, valueFetched}
+use Rattle.definitions.specs.Table.{opened, extended, shortened, tableFetched, tableValueFetched}
 use Rattle.definitions.specs.Payload.{payloadFetched}
 use Rattle.definitions.specs.Overlap.{overlapOf}
 use Rattle.mf4.specs.Clauses.{Slice, Allows}
@@ -90,6 +91,16 @@ use Rattle.mf4.proofs.mf4_record_payload.Kinds as mf4-record-payload-ki
 use Rattle.mf4.proofs.mf4_record_payload.Reads as mf4-record-payload
 use Rattle.mf4.proofs.mf4_write_value.Kinds as mf4-write-value-kinds
 use Rattle.mf4.proofs.mf4_write_value.Reads as mf4-write-value
+use Rattle.mf4.proofs.mf4_open_table.Kinds as mf4-open-table-kinds
+use Rattle.mf4.proofs.mf4_open_table.Reads as mf4-open-table
+use Rattle.mf4.proofs.mf4_extend_table.Kinds as mf4-extend-table-kinds
+use Rattle.mf4.proofs.mf4_extend_table.Reads as mf4-extend-table
+use Rattle.mf4.proofs.mf4_shorten_table.Kinds as mf4-shorten-table-kinds
+use Rattle.mf4.proofs.mf4_shorten_table.Reads as mf4-shorten-table
+use Rattle.mf4.proofs.mf4_table_record.Kinds as mf4-table-record-kinds
+use Rattle.mf4.proofs.mf4_table_record.Reads as mf4-table-record
+use Rattle.mf4.proofs.mf4_table_value.Kinds as mf4-table-value-kinds
+use Rattle.mf4.proofs.mf4_table_value.Reads as mf4-table-value
 use Rattle.mf4.proofs.mf4_version.Kinds as mf4-version-kinds
 use Rattle.mf4.proofs.mf4_version.Reads as mf4-version
 use Rattle.mf4.proofs.mf4_first_overlap as mf4-first-overlap
@@ -213,6 +224,31 @@ pub mf4-write-value-arguments : (κs : Lfts 1) (recordIdSize : ℕ) (channel : M
     → Allows 1 mf4-write-value-kinds.ps mf4-write-value-kinds.r mf4-write-value.Learnt κs (recordIdSize, (channel, (value, (bytes, tt)))) y (tt, (tt, (tt, (after, tt))))
     ≡ (returned y after ≡ returnedBy doneC (valueWritten (bytes .now) recordIdSize (channelGiven channel) (numberGiven value)))
 mf4-write-value-arguments κs recordIdSize channel value bytes y after = refl
+
+pub mf4-open-table-arguments : (κs : Lfts 2) (file : Slice) (start : ℕ) (table : Slice) (y : Mf4DoneReply) (after : List ℕ)
+    → Allows 2 mf4-open-table-kinds.ps mf4-open-table-kinds.r mf4-open-table.Learnt κs (file, (start, (table, tt))) y (tt, (tt, (after, tt)))
+    ≡ (returned y after ≡ returnedBy doneC (opened (file .now) start (table .now)))
+mf4-open-table-arguments κs file start table y after = refl
+
+pub mf4-extend-table-arguments : (κs : Lfts 2) (file : Slice) (blockAddr : ℕ) (table : Slice) (y : Mf4DoneReply) (after : List ℕ)
+    → Allows 2 mf4-extend-table-kinds.ps mf4-extend-table-kinds.r mf4-extend-table.Learnt κs (file, (blockAddr, (table, tt))) y (tt, (tt, (after, tt)))
+    ≡ (returned y after ≡ returnedBy doneC (extended (file .now) blockAddr (table .now)))
+mf4-extend-table-arguments κs file blockAddr table y after = refl
+
+pub mf4-shorten-table-arguments : (κs : Lfts 1) (table : Slice) (y : Mf4DoneReply) (after : List ℕ)
+    → Allows 1 mf4-shorten-table-kinds.ps mf4-shorten-table-kinds.r mf4-shorten-table.Learnt κs (table, tt) y (after, tt)
+    ≡ (returned y after ≡ returnedBy doneC (shortened (table .now)))
+mf4-shorten-table-arguments κs table y after = refl
+
+pub mf4-table-record-arguments : (κs : Lfts 3) (file table : Slice) (number recordSize : ℕ) (buffer : Slice) (y : Mf4DoneReply) (after : List ℕ)
+    → Allows 3 mf4-table-record-kinds.ps mf4-table-record-kinds.r mf4-table-record.Learnt κs (file, (table, (number, (recordSize, (buffer, tt))))) y (tt, (tt, (tt, (tt, (after, tt)))))
+    ≡ (returned y after ≡ returnedBy doneC (tableFetched (file .now) (table .now) number recordSize (buffer .now)))
+mf4-table-record-arguments κs file table number recordSize buffer y after = refl
+
+pub mf4-table-value-arguments : (κs : Lfts 3) (file table : Slice) (number recordSize : ℕ) (group : Mf4Group) (channel : Mf4Channel) (buffer : Slice) (y : Mf4ValidValueReply) (after : List ℕ)
+    → Allows 3 mf4-table-value-kinds.ps mf4-table-value-kinds.r mf4-table-value.Learnt κs (file, (table, (number, (recordSize, (group, (channel, (buffer, tt))))))) y (tt, (tt, (tt, (tt, (tt, (tt, (after, tt)))))))
+    ≡ (returned y after ≡ returnedBy validValueC (tableValueFetched (file .now) (table .now) number recordSize (groupGiven group) (channelGiven channel) (buffer .now)))
+mf4-table-value-arguments κs file table number recordSize group channel buffer y after = refl
 
 -- proved by hand
 abbrev pub mf4-first-overlap-clauses : ClausesIn mf4-first-overlap.ended

@@ -23,7 +23,7 @@ pub enum RecordRead {
 }
 
 // Whether records of that size are none, or too long for the buffer's room
-fn bad_size(size: u64, room: u64) -> bool
+pub fn bad_size(size: u64, room: u64) -> bool
     ensures { λ r. ⌜ r ≡ badSize size room ⌝ }
 {
     if size == 0 {
@@ -36,7 +36,7 @@ fn bad_size(size: u64, room: u64) -> bool
 }
 
 // Whether a record ends behind the data. One division, since the product could wrap.
-fn ends_behind(total: u64, number: u64, size: u64) -> bool
+pub fn ends_behind(total: u64, number: u64, size: u64) -> bool
     requires { ⌜ 0 < size ⌝ }
     ensures { λ r. ⌜ r ≡ ltb total (number * size + size) ⌝ }
 {

@@ -5,16 +5,16 @@ use Prim.Native.Nat.{ℕ}
 use lib.ListN.{getD}
 use Rattle.refusals.specs.Meaning.{refusalNumber, toldOf}
 use Rattle.refusals.specs.declared.Refusal.{Refusal}
-use Rattle.refusals.specs.declared.Refusal.the-variants.{TooFewBytes, OtherId, NoLinks, UnwritableList, NoRoom, FileTooLong, TooManyLists, TooManyFragments, ListDisagrees, NoBlockThere, BadDataBlock, UntrueDeclaration, DataTooLong, BadRecordSize, NoSuchRecord, TooFewLinks, NoBits, BadBitOffset, IntegerTooWide, FieldOutside, BadFloatWidth, PayloadOutside, DoesNotFit, OtherKind, TooManyChannels, NoFixedNumber, OtherLength, BitOutside, NoPosition}
+use Rattle.refusals.specs.declared.Refusal.the-variants.{TooFewBytes, OtherId, NoLinks, UnwritableList, NoRoom, FileTooLong, TooManyLists, TooManyFragments, ListDisagrees, NoBlockThere, BadDataBlock, UntrueDeclaration, DataTooLong, BadRecordSize, NoSuchRecord, TooFewLinks, NoBits, BadBitOffset, IntegerTooWide, FieldOutside, BadFloatWidth, PayloadOutside, DoesNotFit, OtherKind, TooManyChannels, NoFixedNumber, OtherLength, BitOutside, TableFull, TableEmpty, BadTable, NoPosition}
 
--- the refusals by their numbers, where they tell t; no refusal has 0 or 1, nor one from 30 to 34
+-- the refusals by their numbers, where they tell t; no refusal has 0 or 1, nor 33 or 34
 abbrev pub numbered : ℕ → List Refusal
 numbered t =
     OtherId ∷ OtherId ∷ TooFewBytes t ∷ OtherId ∷ NoLinks ∷ UnwritableList ∷ NoRoom t ∷ FileTooLong ∷ TooManyLists
     ∷ TooManyFragments ∷ ListDisagrees ∷ NoBlockThere ∷ BadDataBlock ∷ UntrueDeclaration ∷ DataTooLong ∷ BadRecordSize
     ∷ NoSuchRecord ∷ TooFewLinks ∷ NoBits ∷ BadBitOffset ∷ IntegerTooWide ∷ FieldOutside t ∷ BadFloatWidth ∷ PayloadOutside
     ∷ DoesNotFit ∷ OtherKind ∷ TooManyChannels ∷ NoFixedNumber t ∷ OtherLength ∷ BitOutside
-    ∷ OtherId ∷ OtherId ∷ OtherId ∷ OtherId ∷ OtherId ∷ NoPosition ∷ []
+    ∷ TableFull ∷ TableEmpty ∷ BadTable ∷ OtherId ∷ OtherId ∷ NoPosition ∷ []
 
 abbrev pub refusalOf : ℕ → ℕ → Refusal
 refusalOf n t = getD (numbered t) n OtherId
@@ -48,6 +48,9 @@ back TooManyChannels = refl
 back (NoFixedNumber place) = refl
 back OtherLength = refl
 back BitOutside = refl
+back TableFull = refl
+back TableEmpty = refl
+back BadTable = refl
 back NoPosition = refl
 
 pub one : (a b : Refusal) → refusalNumber a ≡ refusalNumber b → toldOf a ≡ toldOf b → a ≡ b

@@ -2,7 +2,7 @@
 use Prim.Native.Nat.{ℕ}
 use Rattle.definitions.specs.Reply.{Reply, refusal}
 use Rattle.refusals.specs.declared.Refusal.{Refusal}
-use Rattle.refusals.specs.declared.Refusal.the-variants.{TooFewBytes, OtherId, NoLinks, UnwritableList, NoRoom, FileTooLong, TooManyLists, TooManyFragments, ListDisagrees, NoBlockThere, BadDataBlock, UntrueDeclaration, DataTooLong, BadRecordSize, NoSuchRecord, TooFewLinks, NoBits, BadBitOffset, IntegerTooWide, FieldOutside, BadFloatWidth, PayloadOutside, DoesNotFit, OtherKind, TooManyChannels, NoFixedNumber, OtherLength, BitOutside, NoPosition}
+use Rattle.refusals.specs.declared.Refusal.the-variants.{TooFewBytes, OtherId, NoLinks, UnwritableList, NoRoom, FileTooLong, TooManyLists, TooManyFragments, ListDisagrees, NoBlockThere, BadDataBlock, UntrueDeclaration, DataTooLong, BadRecordSize, NoSuchRecord, TooFewLinks, NoBits, BadBitOffset, IntegerTooWide, FieldOutside, BadFloatWidth, PayloadOutside, DoesNotFit, OtherKind, TooManyChannels, NoFixedNumber, OtherLength, BitOutside, TableFull, TableEmpty, BadTable, NoPosition}
 
 abbrev pub refusalNumber : Refusal → ℕ
 refusalNumber (TooFewBytes n) = 2
@@ -33,6 +33,9 @@ refusalNumber TooManyChannels = 26
 refusalNumber (NoFixedNumber place) = 27
 refusalNumber OtherLength = 28
 refusalNumber BitOutside = 29
+refusalNumber TableFull = 30
+refusalNumber TableEmpty = 31
+refusalNumber BadTable = 32
 refusalNumber NoPosition = 35
 
 abbrev pub toldOf : Refusal → ℕ
@@ -64,6 +67,9 @@ toldOf TooManyChannels = 0
 toldOf (NoFixedNumber place) = place
 toldOf OtherLength = 0
 toldOf BitOutside = 0
+toldOf TableFull = 0
+toldOf TableEmpty = 0
+toldOf BadTable = 0
 toldOf NoPosition = 0
 
 abbrev pub refused : {A : Type 0} → Refusal → Reply A

@@ -59,6 +59,12 @@ pub enum Refusal {
     OtherLength,
     // 29
     BitOutside,
+    // 30
+    TableFull,
+    // 31
+    TableEmpty,
+    // 32
+    BadTable,
     // 35
     NoPosition,
 }
@@ -96,6 +102,9 @@ impl Refusal {
             Refusal::NoFixedNumber(_) => 27,
             Refusal::OtherLength => 28,
             Refusal::BitOutside => 29,
+            Refusal::TableFull => 30,
+            Refusal::TableEmpty => 31,
+            Refusal::BadTable => 32,
             Refusal::NoPosition => 35,
         }
     }
@@ -133,6 +142,9 @@ impl Refusal {
             Refusal::NoFixedNumber(place) => place,
             Refusal::OtherLength => 0,
             Refusal::BitOutside => 0,
+            Refusal::TableFull => 0,
+            Refusal::TableEmpty => 0,
+            Refusal::BadTable => 0,
             Refusal::NoPosition => 0,
         }
     }

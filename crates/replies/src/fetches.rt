@@ -5,6 +5,7 @@ ghost use Rattle.records.specs.Meaning.{recordReply};
 ghost use Rattle.replies.specs.Replies.{doneC};
 ghost use Rattle.replies.specs.Values.{lengthC};
 use crate::done::Mf4DoneReply;
+use crate::done::refused_reply;
 use chain::ChainRead;
 use records::RecordRead;
 
@@ -37,11 +38,7 @@ pub fn fetched_reply(read: RecordRead) -> Mf4DoneReply
     ensures { λ r. ⌜ r ≡ doneC (recordReply read) ⌝ }
 {
     let RecordRead::Record = read else {
-        let why = read.refusal();
-        return Mf4DoneReply {
-            reply: why.number(),
-            told: why.told(),
-        };
+        return refused_reply(read.refusal());
     };
     Mf4DoneReply { reply: 0, told: 0 }
 }

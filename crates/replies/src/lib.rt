@@ -1,10 +1,11 @@
-// What C is told of values, texts, records and overlaps, and what it gives of them: as `block_replies` has it of blocks.
+// What C is told of values, texts, records, tables and overlaps, and what it gives of them: as `block_replies` has it of blocks.
 mod done;
 mod fetches;
 mod group;
 mod overlap;
 mod payload;
 mod stored;
+mod tables;
 mod texts;
 mod valid_values;
 mod validity;
@@ -23,6 +24,7 @@ pub use payload::payload_reply;
 pub use stored::Mf4Number;
 pub use stored::number_of;
 pub use stored::stored_reply;
+pub use tables::changed_reply;
 pub use texts::Mf4TextReply;
 pub use texts::flag;
 pub use texts::text_reply;

@@ -4,6 +4,7 @@ ghost use Rattle.encoder.specs.Meaning.{givenMeant, writtenReply};
 ghost use Rattle.replies.specs.Replies.{doneC};
 ghost use Rattle.replies.specs.Stored.{numberGiven};
 use crate::done::Mf4DoneReply;
+use crate::done::refused_reply;
 use bit_fields::signed_of;
 use encoder::NumberGiven;
 use encoder::ValueWritten;
@@ -35,11 +36,7 @@ pub fn stored_reply(written: ValueWritten) -> Mf4DoneReply
     ensures { λ r. ⌜ r ≡ doneC (writtenReply written) ⌝ }
 {
     let ValueWritten::Done = written else {
-        let why = written.refusal();
-        return Mf4DoneReply {
-            reply: why.number(),
-            told: why.told(),
-        };
+        return refused_reply(written.refusal());
     };
     Mf4DoneReply { reply: 0, told: 0 }
 }

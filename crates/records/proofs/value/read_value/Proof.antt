@@ -1,46 +1,26 @@
--- A refused fetch is handed on; a fetched record fits into the buffer, and its field is read there.
+-- The field is that of the record that was fetched, if it was.
 use native.Mathlib.Omega.{arith}
-use Prim.Native.Nat.{_≤_}
-use lib.ListN.{length, length-take}
-use denote.Ref.{now}
 use borrow.Author.Needs.{needs}
-use Rattle.records.proofs.Fetches.{fits, not-fetched, fetched-then}
+use Rattle.definitions.specs.Chain.{valueFetched}
+use Rattle.fields.specs.Meaning.{groupMeant, channelMeant}
+use Rattle.records.proofs.Fetches.{fits, field-left}
 use Rattle.records.proofs.value.read_value.Statement.{statement}
 use Rattle.records.proofs.value.read_value.Tie as tie
 
+value-requires : tie.Need-value-requires
+value-requires c κs = λ is.
+    let call = c .before .before .before in
+    omega (arith, call .read-record .kept, fits _ _ _ _ _ (call .read-record .ensures) is)
+
+same-length : tie.Need-same-length
+same-length c = search needs
+
 returns : tie.Need-returns
+unfolding valueFetched
 returns c =
-    let call = c .before .before .before .before .before in
-    not-fetched _ _ _ _ _ _ _ (call .read-record .ensures) (c .refusal .ensures)
-
--- the record fits into the buffer that was lent
-room : (c : tie.After-enum-told) → c .before .before .before .before .before .before .before .before .args .record-size ≤ length (now (c .before .before .before .before .before .before .before .before .args .buffer))
-room c = fits _ _ _ _ _ (c .before .before .before .before .read-record .ensures) (c .enum-told .given .1)
-
-inside : tie.Need-slice-reshare-prefix-any-bounded-value
-inside c = omega (arith, room c)
-
-part : tie.Need-slice-aggregate-any-bounded-value
-part c = simp length-take (omega (arith, room (c .before)))
-
-returns-2 : tie.Need-returns-2
-returns-2 c =
-    let told = c .before .before in
-    let call = told .before .before .before .before in
-    fetched-then _ _ _ _ _ _ _ (call .read-record .ensures) (told .enum-told .given .1) (c .any-bounded-value .ensures)
+    let call = c .before .before .before .before in
+    let a = call .before .before .before .before .args in
+    field-left (a .record-size) (groupMeant (a .group)) (channelMeant (a .channel)) _ (call .read-record .result) (call .read-record .ensures) (c .value .ensures)
 
 pub read-value-spec : {M : Type 1} → statement M
-read-value-spec =
-    tie.close
-    (tie.spec
-    (λ c κs. search needs)
-    (λ c. search needs)
-    (λ c. search needs)
-    (λ c κs. search needs)
-    (λ c. search needs)
-    returns
-    inside
-    part
-    (λ c κs. search needs)
-    (λ c. search needs)
-    returns-2)
+read-value-spec = tie.close (tie.spec (λ c κs. search needs) value-requires same-length returns)

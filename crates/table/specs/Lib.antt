@@ -1,0 +1,3 @@
+pub mod Meaning
+pub mod Holds
+pub mod Listed
