@@ -30,11 +30,7 @@ pub extern "C" fn mf4_open_table(file: &[u8], start: u64, table: &mut Table) -> 
 }
 
 #[no_mangle]
-pub extern "C" fn mf4_extend_table(
-    file: &[u8],
-    block_addr: u64,
-    table: &mut Table,
-) -> Mf4DoneReply
+pub extern "C" fn mf4_extend_table(file: &[u8], block_addr: u64, table: &mut Table) -> Mf4DoneReply
     ensures { λ r. ⌜ returned r (now (table .exit)) ≡ returnedBy doneC (extended (now (file .entry)) «block_addr» (now (table .entry))) ⌝ }
 {
     changed_reply(extend_table(file, FileAddress(block_addr), table))

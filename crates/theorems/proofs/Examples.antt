@@ -1,8 +1,9 @@
 -- What the definitions compute.
 
--- the worked examples of the rules and more, of overlaps, and of the limits
+-- the worked examples of the rules and more, of overlaps, of tables, and of the limits
 pub mod WorkedExamples
 pub mod OverlapExamples
+pub mod TableExamples
 pub mod LimitExamples
 -- what the theorems on two files and on round trips suppose is met
 pub mod Witnesses

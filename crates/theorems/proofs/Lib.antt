@@ -15,6 +15,8 @@ pub mod Texts
 pub mod Chains
 -- how the fetch of a value ends, and why; records of two files
 pub mod Records
+-- tables of fragments: when they are right, what a history leaves of them, and records through them
+pub mod Tables
 -- the same of values that are kept outside their record
 pub mod Payloads
 -- numbers that are written, and decoded again

@@ -24,6 +24,7 @@ use Rattle.encoder.specs.declared.encode.ValueWritten.{ValueWritten}
 use Rattle.places.specs.declared.place.FileAddress.{FileAddress}
 use Rattle.chain.specs.declared.acceptance.ChainRead.{ChainRead}
 use Rattle.records.specs.declared.record.RecordRead.{RecordRead}
+use Rattle.table.specs.declared.layout.TableChanged.{TableChanged}
 use Rattle.payloads.specs.declared.value.PayloadRead.{PayloadRead}
 use Rattle.blocks.proofs.header.BlockHeader.from_bytes.Kinds as header-read-kinds
 use Rattle.blocks.proofs.header.BlockHeader.from_bytes.Reads as header-read
@@ -67,6 +68,16 @@ use Rattle.records.proofs.read_record.Kinds as record-read-kinds
 use Rattle.records.proofs.read_record.Reads as record-read
 use Rattle.records.proofs.read_value.Kinds as record-value-kinds
 use Rattle.records.proofs.read_value.Reads as record-value
+use Rattle.table.proofs.open_table.Kinds as table-open-kinds
+use Rattle.table.proofs.open_table.Reads as table-open
+use Rattle.table.proofs.extend_table.Kinds as table-extend-kinds
+use Rattle.table.proofs.extend_table.Reads as table-extend
+use Rattle.table.proofs.shorten_table.Kinds as table-shorten-kinds
+use Rattle.table.proofs.shorten_table.Reads as table-shorten
+use Rattle.table.proofs.fetch_record.Kinds as table-record-kinds
+use Rattle.table.proofs.fetch_record.Reads as table-record
+use Rattle.table.proofs.fetch_value.Kinds as table-value-kinds
+use Rattle.table.proofs.fetch_value.Reads as table-value
 use Rattle.payloads.proofs.read_payload.Kinds as record-payload-kinds
 use Rattle.payloads.proofs.read_payload.Reads as record-payload
 
@@ -159,6 +170,30 @@ abbrev pub ReadsRecordValue : Lfts 2 → Slice → FileAddress → ℕ → ℕ �
 ReadsRecordValue κs file start number size group channel out y after =
     Allows 2 record-value-kinds.ps record-value-kinds.r record-value.Learnt κs
     (file, (start, (number, (size, (group, (channel, (out, tt))))))) y
+    (tt, (tt, (tt, (tt, (tt, (tt, (after, tt)))))))
+
+-- ---- a table, which is lent as a slice of its words
+
+abbrev pub OpensTable : Lfts 2 → Slice → FileAddress → Slice → TableChanged → List ℕ → Type 0
+OpensTable κs file start table y after =
+    Allows 2 table-open-kinds.ps table-open-kinds.r table-open.Learnt κs (file, (start, (table, tt))) y (tt, (tt, (after, tt)))
+
+abbrev pub ExtendsTable : Lfts 2 → Slice → FileAddress → Slice → TableChanged → List ℕ → Type 0
+ExtendsTable κs file block table y after =
+    Allows 2 table-extend-kinds.ps table-extend-kinds.r table-extend.Learnt κs (file, (block, (table, tt))) y (tt, (tt, (after, tt)))
+
+abbrev pub ShortensTable : Lfts 1 → Slice → TableChanged → List ℕ → Type 0
+ShortensTable κs table y after = Allows 1 table-shorten-kinds.ps table-shorten-kinds.r table-shorten.Learnt κs (table, tt) y (after, tt)
+
+abbrev pub FetchesRecord : Lfts 3 → Slice → Slice → ℕ → ℕ → Slice → RecordRead → List ℕ → Type 0
+FetchesRecord κs file table number size out y after =
+    Allows 3 table-record-kinds.ps table-record-kinds.r table-record.Learnt κs
+    (file, (table, (number, (size, (out, tt))))) y (tt, (tt, (tt, (tt, (after, tt)))))
+
+abbrev pub FetchesValue : Lfts 3 → Slice → Slice → ℕ → ℕ → Group → Channel → Slice → ValidValueRead → List ℕ → Type 0
+FetchesValue κs file table number size group channel out y after =
+    Allows 3 table-value-kinds.ps table-value-kinds.r table-value.Learnt κs
+    (file, (table, (number, (size, (group, (channel, (out, tt))))))) y
     (tt, (tt, (tt, (tt, (tt, (tt, (after, tt)))))))
 
 -- ---- a payload

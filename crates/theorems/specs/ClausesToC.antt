@@ -66,6 +66,16 @@ use Rattle.mf4.proofs.mf4_record_value.Kinds as record-value-kinds
 use Rattle.mf4.proofs.mf4_record_value.Reads as record-value
 use Rattle.mf4.proofs.mf4_write_value.Kinds as write-value-kinds
 use Rattle.mf4.proofs.mf4_write_value.Reads as write-value
+use Rattle.mf4.proofs.mf4_open_table.Kinds as open-table-kinds
+use Rattle.mf4.proofs.mf4_open_table.Reads as open-table
+use Rattle.mf4.proofs.mf4_extend_table.Kinds as extend-table-kinds
+use Rattle.mf4.proofs.mf4_extend_table.Reads as extend-table
+use Rattle.mf4.proofs.mf4_shorten_table.Kinds as shorten-table-kinds
+use Rattle.mf4.proofs.mf4_shorten_table.Reads as shorten-table
+use Rattle.mf4.proofs.mf4_table_record.Kinds as table-record-kinds
+use Rattle.mf4.proofs.mf4_table_record.Reads as table-record
+use Rattle.mf4.proofs.mf4_table_value.Kinds as table-value-kinds
+use Rattle.mf4.proofs.mf4_table_value.Reads as table-value
 use Rattle.mf4.proofs.mf4_record_payload.Kinds as record-payload-kinds
 use Rattle.mf4.proofs.mf4_record_payload.Reads as record-payload
 
@@ -149,6 +159,30 @@ abbrev pub ReadsRecordValueC : Lfts 2 → Slice → ℕ → ℕ → ℕ → Mf4G
 ReadsRecordValueC κs file start number size group channel out y after =
     Allows 2 record-value-kinds.ps record-value-kinds.r record-value.Learnt κs
     (file, (start, (number, (size, (group, (channel, (out, tt))))))) y
+    (tt, (tt, (tt, (tt, (tt, (tt, (after, tt)))))))
+
+-- ---- a table
+
+abbrev pub OpensTableC : Lfts 2 → Slice → ℕ → Slice → Mf4DoneReply → List ℕ → Type 0
+OpensTableC κs file start table y after =
+    Allows 2 open-table-kinds.ps open-table-kinds.r open-table.Learnt κs (file, (start, (table, tt))) y (tt, (tt, (after, tt)))
+
+abbrev pub ExtendsTableC : Lfts 2 → Slice → ℕ → Slice → Mf4DoneReply → List ℕ → Type 0
+ExtendsTableC κs file block table y after =
+    Allows 2 extend-table-kinds.ps extend-table-kinds.r extend-table.Learnt κs (file, (block, (table, tt))) y (tt, (tt, (after, tt)))
+
+abbrev pub ShortensTableC : Lfts 1 → Slice → Mf4DoneReply → List ℕ → Type 0
+ShortensTableC κs table y after = Allows 1 shorten-table-kinds.ps shorten-table-kinds.r shorten-table.Learnt κs (table, tt) y (after, tt)
+
+abbrev pub FetchesRecordC : Lfts 3 → Slice → Slice → ℕ → ℕ → Slice → Mf4DoneReply → List ℕ → Type 0
+FetchesRecordC κs file table number size out y after =
+    Allows 3 table-record-kinds.ps table-record-kinds.r table-record.Learnt κs
+    (file, (table, (number, (size, (out, tt))))) y (tt, (tt, (tt, (tt, (after, tt)))))
+
+abbrev pub FetchesValueC : Lfts 3 → Slice → Slice → ℕ → ℕ → Mf4Group → Mf4Channel → Slice → Mf4ValidValueReply → List ℕ → Type 0
+FetchesValueC κs file table number size group channel out y after =
+    Allows 3 table-value-kinds.ps table-value-kinds.r table-value.Learnt κs
+    (file, (table, (number, (size, (group, (channel, (out, tt))))))) y
     (tt, (tt, (tt, (tt, (tt, (tt, (after, tt)))))))
 
 -- ---- a payload

@@ -7,6 +7,8 @@ pub mod Refused
 pub mod BlockCauses
 pub mod ChainCauses
 pub mod RecordCauses
+pub mod TableCauses
+pub mod Histories
 pub mod Causes
 pub mod FetchEnds
 pub mod PayloadEnds

@@ -50,7 +50,7 @@ module _ {A : Type 0} (count : A → ℕ) (out : List ℕ) where
   refusing : (n t : ℕ) → Leaves count out (record { reply = refusal n t; buffer = out })
   refusing n t = record { refused = λ m s e. refl; answers = λ a e. not-answered a n t e }
 
-  answering : (a : A) (front : List ℕ) (n : ℕ) → count a ≡ n → length front ≡ n → n ≤ length out
+  pub answering : (a : A) (front : List ℕ) (n : ℕ) → count a ≡ n → length front ≡ n → n ≤ length out
       → Leaves count out (record { reply = answer a; buffer = front ++ drop n out })
   answering a front n c e l = record {
     refused = λ m s q. not-answered a m s (sym q);
@@ -58,7 +58,7 @@ module _ {A : Type 0} (count : A → ℕ) (out : List ℕ) where
   }
 
   -- behind a test that refuses
-  tested : (b t : Bool) (n m : ℕ) (o : Outcome A) → t ≡ b → (t ≡ false → Leaves count out o)
+  pub tested : (b t : Bool) (n m : ℕ) (o : Outcome A) → t ≡ b → (t ≡ false → Leaves count out o)
       → Leaves count out (if b then record { reply = refusal n m; buffer = out } else o)
   tested true t n m o e h = refusing n m
   tested false t n m o e h = h e

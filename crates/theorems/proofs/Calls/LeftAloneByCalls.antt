@@ -43,7 +43,7 @@ module _ {Result A : Type 0} (reply : Result → Reply A) (count : A → ℕ) (o
   by-reply (answer a) e = h .answers a e
   by-reply (refusal n t) e = untouched 0 before (o .buffer) (h .refused n t e)
 
-  sparing : Sparing (λ y after. record { reply = reply y; buffer = after } ≡ o) (λ y. Refused (reply y)) (λ y. reported count (reply y)) before
+  pub sparing : Sparing (λ y after. record { reply = reply y; buffer = after } ≡ o) (λ y. Refused (reply y)) (λ y. reported count (reply y)) before
   sparing y after p =
       let same : after ≡ o .buffer = ap (λ (x : Outcome A). x .buffer) p in
       let replied : o .reply ≡ reply y = sym (ap (λ (x : Outcome A). x .reply) p) in

@@ -36,7 +36,7 @@ module _ {A R : Type 0} (toC : Reply A → R) (number counted : R → ℕ) (coun
     behind = untouched _ before buffer (refused n t refl);
   }
 
-  sparing : (o : Outcome A) (before : List ℕ) → Leaves count before o
+  pub sparing : (o : Outcome A) (before : List ℕ) → Leaves count before o
       → Sparing (λ y after. returned y after ≡ returnedBy toC o) (λ y. number y ≡ 0 → ⊥) counted before
   sparing o before h y after p =
       subst (λ (x : Returned R). Spares (number (x .result) ≡ 0 → ⊥) (counted (x .result)) before (x .buffer)) (sym p)

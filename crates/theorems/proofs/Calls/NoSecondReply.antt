@@ -25,6 +25,8 @@ use Rattle.encoder.proofs.Back as encoder-back
 use Rattle.places.proofs.Back.{block-one}
 use Rattle.chain.proofs.Back.{chain-one}
 use Rattle.records.proofs.Back.{record-one}
+use Rattle.table.specs.Meaning.{changeReply}
+use Rattle.table.proofs.Back.{change-one}
 use Rattle.payloads.proofs.Back.{payload-fetched-one}
 use Rattle.refusals.proofs.Refusal.number.Kinds as refusal-number-kinds
 use Rattle.refusals.proofs.Refusal.number.Reads as refusal-number
@@ -130,6 +132,18 @@ use Rattle.records.proofs.read_record.Kinds as record-read-kinds
 use Rattle.records.proofs.read_record.Reads as record-read
 use Rattle.records.proofs.read_value.Kinds as record-value-kinds
 use Rattle.records.proofs.read_value.Reads as record-value
+use Rattle.records.proofs.bad_size.Kinds as record-size-kinds
+use Rattle.records.proofs.bad_size.Reads as record-size
+use Rattle.table.proofs.open_table.Kinds as table-open-kinds
+use Rattle.table.proofs.open_table.Reads as table-open
+use Rattle.table.proofs.extend_table.Kinds as table-extend-kinds
+use Rattle.table.proofs.extend_table.Reads as table-extend
+use Rattle.table.proofs.shorten_table.Kinds as table-shorten-kinds
+use Rattle.table.proofs.shorten_table.Reads as table-shorten
+use Rattle.table.proofs.fetch_record.Kinds as table-record-kinds
+use Rattle.table.proofs.fetch_record.Reads as table-record
+use Rattle.table.proofs.fetch_value.Kinds as table-value-kinds
+use Rattle.table.proofs.fetch_value.Reads as table-value
 use Rattle.payloads.proofs.read_payload.Kinds as record-payload-kinds
 use Rattle.payloads.proofs.read_payload.Reads as record-payload
 use Rattle.overlaps.proofs.begin_search.Kinds as search-begin-kinds
@@ -307,6 +321,24 @@ record-read-settled = settled (λ κs a y z b c p q. one-outcome recordReply rec
 
 pub record-value-settled : Settled 2 record-value-kinds.ps record-value-kinds.r record-value.Asked record-value.ensures record-value.Learnt
 record-value-settled = settled (λ κs a y z b c p q. one-outcome validValueReply valid-value-one (λ out. (tt, (tt, (tt, (tt, (tt, (tt, (out, tt)))))))) (p ∙ sym q))
+
+pub record-size-settled : Settled 0 record-size-kinds.ps record-size-kinds.r record-size.Asked record-size.ensures record-size.Learnt
+record-size-settled = settled (λ κs a y z b c p q. (p ∙ sym q, refl))
+
+pub table-open-settled : Settled 2 table-open-kinds.ps table-open-kinds.r table-open.Asked table-open.ensures table-open.Learnt
+table-open-settled = settled (λ κs a y z b c p q. one-outcome changeReply change-one (λ out. (tt, (tt, (out, tt)))) (p ∙ sym q))
+
+pub table-extend-settled : Settled 2 table-extend-kinds.ps table-extend-kinds.r table-extend.Asked table-extend.ensures table-extend.Learnt
+table-extend-settled = settled (λ κs a y z b c p q. one-outcome changeReply change-one (λ out. (tt, (tt, (out, tt)))) (p ∙ sym q))
+
+pub table-shorten-settled : Settled 1 table-shorten-kinds.ps table-shorten-kinds.r table-shorten.Asked table-shorten.ensures table-shorten.Learnt
+table-shorten-settled = settled (λ κs a y z b c p q. one-outcome changeReply change-one (λ out. (out, tt)) (p ∙ sym q))
+
+pub table-record-settled : Settled 3 table-record-kinds.ps table-record-kinds.r table-record.Asked table-record.ensures table-record.Learnt
+table-record-settled = settled (λ κs a y z b c p q. one-outcome recordReply record-one (λ out. (tt, (tt, (tt, (tt, (out, tt)))))) (p ∙ sym q))
+
+pub table-value-settled : Settled 3 table-value-kinds.ps table-value-kinds.r table-value.Asked table-value.ensures table-value.Learnt
+table-value-settled = settled (λ κs a y z b c p q. one-outcome validValueReply valid-value-one (λ out. (tt, (tt, (tt, (tt, (tt, (tt, (out, tt)))))))) (p ∙ sym q))
 
 pub record-payload-settled : Settled 3 record-payload-kinds.ps record-payload-kinds.r record-payload.Asked record-payload.ensures record-payload.Learnt
 record-payload-settled = settled (λ κs a y z b c p q. in-places (λ out room. (tt, (tt, (tt, (tt, (tt, (tt, (out, (room, tt))))))))) (payload-fetched-one y z _ _ _ _ (p ∙ sym q)))

@@ -42,6 +42,8 @@ use Rattle.replies.proofs.fetched_reply.Kinds as fetched-reply-kinds
 use Rattle.replies.proofs.fetched_reply.Reads as fetched-reply
 use Rattle.replies.proofs.payload_reply.Kinds as payload-reply-kinds
 use Rattle.replies.proofs.payload_reply.Reads as payload-reply
+use Rattle.replies.proofs.changed_reply.Kinds as changed-reply-kinds
+use Rattle.replies.proofs.changed_reply.Reads as changed-reply
 use Rattle.replies.proofs.stored_reply.Kinds as stored-reply-kinds
 use Rattle.replies.proofs.stored_reply.Reads as stored-reply
 use Rattle.replies.proofs.overlap_reply.Kinds as overlap-reply-kinds
@@ -128,6 +130,9 @@ fetched-reply-settled = settled (λ κs a y z b c p q. (p ∙ sym q, refl))
 
 pub payload-reply-settled : Settled 0 payload-reply-kinds.ps payload-reply-kinds.r payload-reply.Asked payload-reply.ensures payload-reply.Learnt
 payload-reply-settled = settled (λ κs a y z b c p q. (p ∙ sym q, refl))
+
+pub changed-reply-settled : Settled 0 changed-reply-kinds.ps changed-reply-kinds.r changed-reply.Asked changed-reply.ensures changed-reply.Learnt
+changed-reply-settled = settled (λ κs a y z b c p q. (p ∙ sym q, refl))
 
 pub stored-reply-settled : Settled 0 stored-reply-kinds.ps stored-reply-kinds.r stored-reply.Asked stored-reply.ensures stored-reply.Learnt
 stored-reply-settled = settled (λ κs a y z b c p q. (p ∙ sym q, refl))

@@ -54,6 +54,16 @@ use Rattle.mf4.proofs.mf4_read_record.Kinds as mf4-read-record-kinds
 use Rattle.mf4.proofs.mf4_read_record.Reads as mf4-read-record
 use Rattle.mf4.proofs.mf4_record_value.Kinds as mf4-record-value-kinds
 use Rattle.mf4.proofs.mf4_record_value.Reads as mf4-record-value
+use Rattle.mf4.proofs.mf4_open_table.Kinds as mf4-open-table-kinds
+use Rattle.mf4.proofs.mf4_open_table.Reads as mf4-open-table
+use Rattle.mf4.proofs.mf4_extend_table.Kinds as mf4-extend-table-kinds
+use Rattle.mf4.proofs.mf4_extend_table.Reads as mf4-extend-table
+use Rattle.mf4.proofs.mf4_shorten_table.Kinds as mf4-shorten-table-kinds
+use Rattle.mf4.proofs.mf4_shorten_table.Reads as mf4-shorten-table
+use Rattle.mf4.proofs.mf4_table_record.Kinds as mf4-table-record-kinds
+use Rattle.mf4.proofs.mf4_table_record.Reads as mf4-table-record
+use Rattle.mf4.proofs.mf4_table_value.Kinds as mf4-table-value-kinds
+use Rattle.mf4.proofs.mf4_table_value.Reads as mf4-table-value
 use Rattle.mf4.proofs.mf4_record_payload.Kinds as mf4-record-payload-kinds
 use Rattle.mf4.proofs.mf4_record_payload.Reads as mf4-record-payload
 
@@ -134,6 +144,21 @@ mf4-read-record-settled = settled (λ κs a y z b c p q. one-returned (λ out. (
 
 pub mf4-record-value-settled : Settled 2 mf4-record-value-kinds.ps mf4-record-value-kinds.r mf4-record-value.Asked mf4-record-value.ensures mf4-record-value.Learnt
 mf4-record-value-settled = settled (λ κs a y z b c p q. one-returned (λ out. (tt, (tt, (tt, (tt, (tt, (tt, (out, tt)))))))) (p ∙ sym q))
+
+pub mf4-open-table-settled : Settled 2 mf4-open-table-kinds.ps mf4-open-table-kinds.r mf4-open-table.Asked mf4-open-table.ensures mf4-open-table.Learnt
+mf4-open-table-settled = settled (λ κs a y z b c p q. one-returned (λ out. (tt, (tt, (out, tt)))) (p ∙ sym q))
+
+pub mf4-extend-table-settled : Settled 2 mf4-extend-table-kinds.ps mf4-extend-table-kinds.r mf4-extend-table.Asked mf4-extend-table.ensures mf4-extend-table.Learnt
+mf4-extend-table-settled = settled (λ κs a y z b c p q. one-returned (λ out. (tt, (tt, (out, tt)))) (p ∙ sym q))
+
+pub mf4-shorten-table-settled : Settled 1 mf4-shorten-table-kinds.ps mf4-shorten-table-kinds.r mf4-shorten-table.Asked mf4-shorten-table.ensures mf4-shorten-table.Learnt
+mf4-shorten-table-settled = settled (λ κs a y z b c p q. one-returned (λ out. (out, tt)) (p ∙ sym q))
+
+pub mf4-table-record-settled : Settled 3 mf4-table-record-kinds.ps mf4-table-record-kinds.r mf4-table-record.Asked mf4-table-record.ensures mf4-table-record.Learnt
+mf4-table-record-settled = settled (λ κs a y z b c p q. one-returned (λ out. (tt, (tt, (tt, (tt, (out, tt)))))) (p ∙ sym q))
+
+pub mf4-table-value-settled : Settled 3 mf4-table-value-kinds.ps mf4-table-value-kinds.r mf4-table-value.Asked mf4-table-value.ensures mf4-table-value.Learnt
+mf4-table-value-settled = settled (λ κs a y z b c p q. one-returned (λ out. (tt, (tt, (tt, (tt, (tt, (tt, (out, tt)))))))) (p ∙ sym q))
 
 pub mf4-record-payload-settled : Settled 3 mf4-record-payload-kinds.ps mf4-record-payload-kinds.r mf4-record-payload.Asked mf4-record-payload.ensures mf4-record-payload.Learnt
 mf4-record-payload-settled = settled (λ κs a y z b c p q. in-places (λ out room. (tt, (tt, (tt, (tt, (tt, (tt, (out, (room, tt))))))))) (one-returned-both (p ∙ sym q)))

@@ -63,11 +63,11 @@ module _ (P : ℕ → ℕ → Type 0) where
   pub of-test : {A : Type 0} (b : Bool) (n t : ℕ) (r : Reply A) → P n t → Numbered P r → Numbered P (if b then refusal n t else r)
   of-test b n t r p h = of-either b (refusal n t) r (of-refusal n t p) h
 
-  of-following : {A B : Type 0} (r : Reply A) (g : A → Reply B) → Numbered P r → ((a : A) → Numbered P (g a)) → Numbered P (andThen r g)
+  pub of-following : {A B : Type 0} (r : Reply A) (g : A → Reply B) → Numbered P r → ((a : A) → Numbered P (g a)) → Numbered P (andThen r g)
   of-following (answer a) g h i = i a
   of-following (refusal n t) g h i = of-refusal n t (h n t refl)
 
-  of-outcome : {A : Type 0} (b : Bool) (n t : ℕ) (out : List ℕ) (o : Outcome A) → P n t → Numbered P (o .reply)
+  pub of-outcome : {A : Type 0} (b : Bool) (n t : ℕ) (out : List ℕ) (o : Outcome A) → P n t → Numbered P (o .reply)
       → Numbered P (if_then_else_ {A = Outcome A} b (record { reply = refusal n t; buffer = out }) o .reply)
   of-outcome true n t out o p h = of-refusal n t p
   of-outcome false n t out o p h = h
@@ -182,7 +182,7 @@ lists-numbered id f first (suc k) a before =
     (λ d. of-following OfBlocks (fragments id f (drop a f) d 0 (d .links) before) _ (fragments-numbered id f (drop a f) d 0 (d .links) before)
     (λ bs. of-either OfBlocks (eqb (d .next) 0) _ _ (of-answer OfBlocks bs) (lists-numbered id f first k (d .next) bs)))
 
-chain-numbered : (id f : List ℕ) (start : ℕ) → Numbered OfBlocks (chainOf id f start)
+pub chain-numbered : (id f : List ℕ) (start : ℕ) → Numbered OfBlocks (chainOf id f start)
 unfolding chainOf
 chain-numbered id f start =
     of-following OfBlocks (listAt f 0 start) _ (weaker _ of-lists-too (list-at-low f 0 start))

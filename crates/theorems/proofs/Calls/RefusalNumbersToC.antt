@@ -66,10 +66,10 @@ module _ {P : ℕ → ℕ → Type 0} where
   written : {y : Mf4WrittenReply} {after : List ℕ} (o : Outcome ℕ) → returned y after ≡ returnedBy writtenC o → Numbered P (o .reply) → NumberedC P (y .reply) (y .told)
   written = numbered-beside writtenC (λ (y : Mf4WrittenReply). y .reply) (λ (y : Mf4WrittenReply). y .told) (λ n. refl) (λ n t. (refl, refl))
 
-  done : {y : Mf4DoneReply} {after : List ℕ} (o : Outcome (Unit {0})) → returned y after ≡ returnedBy doneC o → Numbered P (o .reply) → NumberedC P (y .reply) (y .told)
+  pub done : {y : Mf4DoneReply} {after : List ℕ} (o : Outcome (Unit {0})) → returned y after ≡ returnedBy doneC o → Numbered P (o .reply) → NumberedC P (y .reply) (y .told)
   done = numbered-beside doneC (λ (y : Mf4DoneReply). y .reply) (λ (y : Mf4DoneReply). y .told) (λ u. refl) (λ n t. (refl, refl))
 
-  valid-value : {y : Mf4ValidValueReply} (r : Reply ValidValue) → y ≡ validValueC r → Numbered P r → NumberedC P (y .reply) (y .told)
+  pub valid-value : {y : Mf4ValidValueReply} (r : Reply ValidValue) → y ≡ validValueC r → Numbered P r → NumberedC P (y .reply) (y .told)
   valid-value = numbered validValueC (λ (y : Mf4ValidValueReply). y .reply) (λ (y : Mf4ValidValueReply). y .told) (λ v. refl) (λ n t. (refl, refl))
 
 -- ---- blocks

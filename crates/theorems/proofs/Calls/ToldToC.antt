@@ -141,7 +141,7 @@ of-writing (answer a) h = tt
 of-writing (refusal n t) h = omega (arith, leb-true 18 n (both (leb 18 n) _ (h n t refl) .0))
 
 -- of a call that wrote
-by-result : {A R : Type 0} (toC : Reply A → R) (back : R → Reply A) {y : R} {after : List ℕ} {o : Outcome A}
+pub by-result : {A R : Type 0} (toC : Reply A → R) (back : R → Reply A) {y : R} {after : List ℕ} {o : Outcome A}
     → returned y after ≡ returnedBy toC o → back (toC (o .reply)) ≡ o .reply → back y ≡ o .reply
 by-result {R = R} toC back p h = ap (λ (x : Returned R). back (x .result)) p ∙ h
 

@@ -8,6 +8,7 @@ use Rattle.definitions.specs.Bytes.{leOf, le, les}
 use Rattle.definitions.specs.Header.{headerOf, headerBytes}
 use Rattle.definitions.specs.DataList.{equal, listOf, linksOf, restOf, listBytes, listWritten}
 use Rattle.definitions.specs.Chain.{idDT, fileLimit, listLimit, fragments, byOffsets, listAt, chainedAt, lists, chainOf, fetched}
+use Rattle.definitions.specs.Table.{tableLimit}
 use Rattle.theorems.specs.Examples.{copies, threeBlocks}
 
 -- two lists without a block, at 8 and 48
@@ -41,6 +42,8 @@ table =
     ∷ row listLimit 256
     ∷ row (refusedWith (lists idDT emptyLists byOffsets 2 8 [])) 0
     ∷ row (refusedWith (lists idDT emptyLists byOffsets 1 8 [])) 8
+    -- a table's fragments
+    ∷ row tableLimit 512
     -- a list of three fragments, behind 4,093 others and behind one more
     ∷ row (refusedWith (listAt threeBlocks 4093 8)) 0
     ∷ row (refusedWith (listAt threeBlocks 4094 8)) 9

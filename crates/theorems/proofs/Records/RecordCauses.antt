@@ -42,7 +42,7 @@ tests-joined id f start P test t bs e = record {
       t (joined f bs) .shows (subst (λ (x : List Block). P (joined f x)) same (p .1 .1));
 }
 
-tests-size : (size room : ℕ) → Tests (BadSize size room) (badSize size room)
+pub tests-size : (size room : ℕ) → Tests (BadSize size room) (badSize size room)
 tests-size size room =
     let t = tests-or (eqb size 0 || ltb recordLimit size) (ltb room size) (tests-or (eqb size 0) (ltb recordLimit size) (tests-equal size 0) (tests-less recordLimit size)) (tests-less room size) in
     record {
