@@ -1,14 +1,16 @@
 """Cases for every call, the same ones for the same seed: first the boundaries in turn, then random ones without end.
 
-A case is (call, arguments), with the arguments as reference.py takes them.
+A case is (call, arguments), with the arguments as reference.py takes them, or for a history histories.py.
 """
 
 import itertools
 import random
 import struct
 
+from histories import EXTEND, OPEN, RECORD, SHORTEN, VALUE, WRITE, Step, with_word
 from protocol import LongFile
-from reference import NAN, Channel, ChannelBlock, Group, Header, Number, decode_value
+from reference import (NAN, Channel, ChannelBlock, Fragment, Group, Header, Number, Table, borders_of, decode_value,
+                       open_table, table_of)
 
 U8 = 2**8 - 1
 U16 = 2**16 - 1
@@ -1343,10 +1345,8 @@ def record_buffer(rng, size):
     return out_buffer(rng, min(room, 16390))
 
 
-def chain_query(rng, file, start, joined_size, record_size=None, number=None):
-    """Asks a file for the length of its joined data, for a record, or for a channel's value in it."""
-    if rng.random() < 0.2:
-        return "data_length", (file, start)
+def record_query(rng, joined_size, record_size=None, number=None):
+    """Asks for a record, or for a channel's value in it: a call, and what it is given beside the file and the start."""
     if record_size is None:
         fitting = rng.randint(1, min(12, joined_size)) if joined_size else 1
         record_size = rng.choice([1, 2, 3, 16, rng.randint(1, 12)] + 5 * [fitting])
@@ -1354,11 +1354,22 @@ def chain_query(rng, file, start, joined_size, record_size=None, number=None):
         number = rng.choice(record_numbers(rng, joined_size, record_size))
     buffer = record_buffer(rng, min(record_size, 20000))
     if rng.random() < 0.5:
-        return "read_record", (file, start, number, record_size, buffer)
+        return "read_record", (number, record_size, buffer)
     id_size = rng.choice([0, 0, 0, 1, 2, rng.choice(ID_SIZES), U64])
     group = some_group(rng, min(record_size, 20000), id_size)
     channel = random_channel(rng, min(record_size, 40), group)
-    return "record_value", (file, start, number, record_size, group, channel, buffer)
+    return "record_value", (number, record_size, group, channel, buffer)
+
+
+def chain_query(rng, file, start, joined_size, record_size=None, number=None):
+    """Asks a file for its table, for the length of its joined data, for a record, or for a channel's value in it."""
+    choice = rng.random()
+    if choice < 0.1:
+        return "open_table", (file, start, some_table(rng))
+    if choice < 0.3:
+        return "data_length", (file, start)
+    call, asked = record_query(rng, joined_size, record_size, number)
+    return call, (file, start, *asked)
 
 
 def random_chain_case(rng):
@@ -1979,13 +1990,15 @@ def as_either_chain(file, start, number, record_size, buffer):
 
 
 def asked_by_every_call(chain_cases):
-    """The same cases; and each chain that is asked for records is also asked once for its length, a value and payloads."""
+    """The same cases; and each chain that is asked for records is also asked once for its length, its table, a value and
+    payloads."""
     asked = None
     for call, arguments in chain_cases:
         yield call, arguments
         if call == "read_record" and arguments[:2] != asked:
             asked = arguments[:2]
             yield "data_length", asked
+            yield "open_table", (*asked, SMALL_TABLE)
             yield "record_value", (*arguments[:4], Group(0, min(arguments[3], U32)), Channel(bit_count=8), arguments[4])
             yield from as_either_chain(*arguments)
 
@@ -2018,6 +2031,322 @@ def random_payload_case(rng):
     return name, (damaged_file(rng, file) if rng.random() < 0.1 else file, *arguments)
 
 
+# ---- tables ------------------------------------------------------------------------------------------------------------
+
+MOST_PLACES = 512
+SMALL_TABLE = table_of([(5, bytes(7)), (3, bytes(2))])
+
+
+def with_junk(rng, table):
+    """The table with numbers in its unused places: in none, in the first, the last and one between, or in all."""
+    unused = range(table.fragment_count, MOST_PLACES)
+    if not unused:
+        return table
+    fragments = list(table.fragments)
+    for place in rng.choice([(), (unused[0], rng.choice(unused), unused[-1]), unused]):
+        fragments[place] = Fragment(place, U64 - place)
+    return table._replace(fragments=tuple(fragments))
+
+
+def some_table(rng):
+    """What may stand where a table is to be made."""
+    junk = with_junk(rng, Table())._replace(fragment_count=edge_number(rng, U64), data_length=edge_number(rng, U64))
+    return rng.choice([Table(), SMALL_TABLE, junk])
+
+
+def table_of_chain(chain):
+    """As opening it gives the table, where the chain is whole."""
+    return table_of([(chain.data_places[number], chain.datas[number]["data"]) for numbers in chain.plan for number in numbers])
+
+
+def scattered_table(rng, file_size, lengths):
+    """Of fragments of these lengths anywhere in a file, since their headers are not read again."""
+    return table_of([(rng.randint(0, file_size - 24 - length), bytes(length)) for length in lengths])
+
+
+def short_lengths(rng, count):
+    return [rng.choice([0, 0, 1, 2, 3]) for _ in range(count)]
+
+
+def file_with_block(rng, size):
+    """So many bytes and then a data block; and its address."""
+    return rng.randbytes(size) + data_block(data_fields(b"\1\2\3")), size
+
+
+THROUGH_TABLE = {"read_record": "table_record", "record_value": "table_value"}
+
+
+def table_query(rng, file, table, joined_size, record_size=None):
+    call, asked = record_query(rng, joined_size, record_size)
+    return THROUGH_TABLE[call], (file, table, *asked)
+
+
+def through_tables(chain_cases):
+    """The same fetches through the tables of their chains, as far as these are opened."""
+    for call, (file, start, *asked) in chain_cases:
+        if call in THROUGH_TABLE:
+            opened, table = open_table(file, start, Table())
+            if opened.reply == 0:
+                yield THROUGH_TABLE[call], (file, table, *asked)
+
+
+def table_fetch_boundaries(rng):
+    """Of the fetches through chains all that need a large record, and of the others every fifth."""
+    yield from through_tables(large_record_boundaries(rng))
+    for boundaries in (cut_boundaries, query_boundaries, form_boundaries, record_value_boundaries, record_refusal_boundaries,
+                       record_area_boundaries):
+        yield from through_tables(itertools.islice(boundaries(rng), 0, None, 5))
+
+
+def open_limit_boundaries(rng):
+    """Chains of about 512 fragments. One that is refused at its last, or behind it, is not refused for their number."""
+    for counts, is_equal in itertools.product(((511,), (512,), (513,), (256, 256), (256, 257), (512, 0), (512, 1)),
+                                              (True, False)):
+        chains = [counted_chain(rng, counts, is_equal) for _ in range(5)]
+        chains[1].datas[-1]["id"] = SIGNAL_ID
+        chains[2].lists[-1]["next"] = U64
+        chains[3].lists[-1]["block_len"] -= 1
+        chains[4].lists[0]["rest"][-1] += 1
+        for chain in chains:
+            yield "open_table", (chain.file(), chain.start, some_table(rng))
+
+
+def numbers_of_records(rng, count, most):
+    """The numbers of so many records and the one behind, or of more than `most` some of them, the first and last too."""
+    if count <= most:
+        return range(count + 1)
+    return sorted({0, count - 1, count, *(rng.randrange(count) for _ in range(4))})
+
+
+def many_fragment_boundaries(rng):
+    """Records of tables with any number of fragments, and all their data as one record."""
+    file = rng.randbytes(700)
+    for count in (*range(10), 15, 16, 17, 255, 256, 257, 511, 512):
+        table = with_junk(rng, scattered_table(rng, len(file), short_lengths(rng, count)))
+        for size in (1, 2, 7, max(1, table.data_length)):
+            for number in numbers_of_records(rng, table.data_length // size, most=30):
+                yield "table_record", (file, table, number, size, out_buffer(rng, size + number % 2))
+    for place in (0, 1, 2, 254, 255, 256, 257, 510, 511):  # all other fragments are empty
+        table = scattered_table(rng, len(file), [3 * (number == place) for number in range(MOST_PLACES)])
+        yield "table_record", (file, table, rng.randint(0, 2), 1, bytes(1))
+
+
+# ---- damaged tables
+
+
+def around(*numbers):
+    """Each number, the one before it and the one behind it, if they have 64 bits."""
+    return sorted(number + step for number in set(numbers) for step in (-1, 0, 1) if 0 <= number + step <= U64)
+
+
+def edge_lengths_of_data(address, file_size):
+    """Lengths with which a fragment ends at the file's end, or where a sum would wrap to 0 or to the file's end."""
+    return (file_size - 24 - address, 2**64 - 24 - address, 2**64 - 24 - address + file_size)
+
+
+def edge_words(table, file_size, places=None):
+    """The place of each word in use, and words around those with which the table is no longer right. places: the fragments
+    that are asked for, if not all."""
+    borders, count = borders_of(table), table.fragment_count
+    last = table.fragments[max(0, count - 1)]
+    ends = [last.data_position + length for length in edge_lengths_of_data(last.block_addr, file_size)]
+    yield 0, around(0, count, MOST_PLACES, 2**32 + count, U64)
+    yield 1, around(0, *borders[-2:], *ends, U64)
+    for place in range(count) if places is None else places:
+        begin, end = borders[place:place + 2]
+        data = end - begin
+        yield 2 + 2 * place, around(0, file_size, file_size - 24, file_size - 24 - data, 2**64 - 24 - data, U64)
+        yield 3 + 2 * place, around(0, borders[max(0, place - 1)], begin, end, borders[-1], U64)
+
+
+def damaged_table(rng, table, file_size):
+    place, words = rng.choice(list(edge_words(table, file_size)))
+    return with_word(table, place, rng.choice(words))
+
+
+def asked_of_table(rng, file, table, address, joined_size):
+    """The call that is given the table alone, and one of those that are given the file too."""
+    yield "shorten_table", (table,)
+    if rng.random() < 0.4:
+        yield "extend_table", (file, address, table)
+    else:
+        yield table_query(rng, file, table, joined_size, rng.choice([1, 1, 2, 3]))
+
+
+TABLE_SHAPES = ([], [5], [0], [3, 0], [0, 3], [2, 0, 3], [3, 4, 5], [0, 0, 0], [1, 0, 0, 2, 0])
+
+
+def table_damage_boundaries(rng):
+    """Each word that is in use changed alone, in tables of fragments of several lengths."""
+    for lengths in TABLE_SHAPES:
+        chain = Chain(rng, [*(rng.randbytes(length) for length in lengths), b"\1"], [list(range(len(lengths)))])
+        file, table = chain.file(), with_junk(rng, table_of_chain(chain))
+        for place, words in edge_words(table, len(file)):
+            for word in words:
+                damaged = with_word(table, place, word)
+                yield from asked_of_table(rng, file, damaged, chain.data_places[-1], table.data_length)
+
+
+def full_table_boundaries(rng):
+    """Tables that are full, or nearly: one fragment more, one less, and a word changed in the first, middle and last."""
+    file, address = file_with_block(rng, 600)
+    for count in (510, 511, 512):
+        table = scattered_table(rng, len(file), short_lengths(rng, count))
+        yield "extend_table", (file, address, table)
+        yield "shorten_table", (table,)
+        for place, words in edge_words(table, len(file), (0, 1, 255, count - 2, count - 1)):
+            for word in rng.sample(words, 4):
+                yield from asked_of_table(rng, file, with_word(table, place, word), address, table.data_length)
+
+
+def long_table_boundaries(rng):
+    """The longest file and longer ones, with fragments that end at 2^40 or beside it. No byte is looked at, since the record
+    is not there, and there is no block at the address."""
+    longest = 2**40 - 24  # of a fragment's data
+    ends = [(address, data) for data in (0, 1, 9, 2**39) for address in around(longest - data)]
+    for (address, data), size in itertools.product(ends + [(0, data) for data in around(longest)], around(2**40 + 1)):
+        table = Table(1, data, (Fragment(address), *Table().fragments[1:]))
+        yield "table_record", (LongFile(size), table, data, 1, out_buffer(rng, rng.choice([0, 1, 9])))
+        yield "extend_table", (LongFile(size), rng.choice([0, 2**40 - 23, U64]), table)
+    fragments = tuple(Fragment(0, place * longest) for place in range(MOST_PLACES))
+    for total in around(MOST_PLACES * longest):
+        table = Table(MOST_PLACES, total, fragments)
+        yield "table_record", (LongFile(2**40), table, MOST_PLACES * longest // 16384, 16384, bytes(16384))
+
+
+def extend_boundaries(rng):
+    """Addresses of blocks, beside them and around the file's end; blocks that are damaged, and one that the file cuts off."""
+    for _ in range(40):
+        chain = Chain(rng, [b"\1\2\3", b"", rng.randbytes(9)], [[0]])
+        table = with_junk(rng, rng.choice([Table(), table_of_chain(chain)]))
+        file = chain.file()
+        for address in rng.sample(edge_addresses(rng, chain) + chain.places, 4):
+            yield "extend_table", (file, address, table)
+        damage_data(rng, chain, 2)
+        yield "extend_table", (chain.file(), chain.data_places[2], table)
+    file, address = file_with_block(rng, 60)
+    for length in range(address, len(file) + 1):
+        yield "extend_table", (file[:length], address, table_of([(30, b"\1\2")]))
+
+
+# ---- faults of a call with a table, beside each other
+
+
+def extend_order_boundaries(rng):
+    """A file that is too long, a bad table, no block or a bad one at the address, and no place left."""
+    file, address = file_with_block(rng, 600)
+    small, full = (scattered_table(rng, len(file), lengths) for lengths in ([2, 0, 1], short_lengths(rng, MOST_PLACES)))
+    tables = (small, full, small._replace(fragment_count=4), full._replace(data_length=U64), full._replace(fragment_count=513))
+    addresses = (address, 0, address + 4, U64, address - 1, address - 24)
+    for given, table, place in itertools.product((file, LongFile(2**40 + 1)), tables, addresses):
+        yield "extend_table", (given, place, table)
+
+
+def field_faults():
+    """Channels that are answered or refused with each reply, in a record of four bytes; and groups."""
+    channels = (Channel(bit_count=8), Channel(bit_count=0), Channel(bit_offset=8, bit_count=8), Channel(bit_count=65),
+                Channel(byte_offset=4, bit_count=8), Channel(4, bit_count=16))
+    for channel, flags, group in itertools.product(channels, (0, 2), (Group(0, 4), Group(0, 3), Group(0, 3, 1))):
+        yield group, channel._replace(flags=flags, pos_invalidation_bit=8)
+
+
+def fetch_order_boundaries(rng):
+    """A bad record size, a file that is too long, a bad table, no such record; and then what refuses a field."""
+    file, _address = file_with_block(rng, 600)
+    table = scattered_table(rng, len(file), [3, 0, 2, 5])
+    sizes = ((4, 4), (4, 9), (0, 4), (4, 3), (16385, 16385))
+    for given, (size, room), asked, number in itertools.product(
+            (file, LongFile(2**40 + 1)), sizes, (table, table._replace(fragment_count=5)), (0, 1, 2, U64)):
+        yield "table_record", (given, asked, number, size, out_buffer(rng, room))
+        for group, channel in field_faults() if given is file and number == 1 else [(Group(0, 3), Channel())]:
+            yield "table_value", (given, asked, number, size, group, channel, out_buffer(rng, room))
+
+
+# ---- histories of a table
+
+
+def history_case(rng, file, other, steps, table=Table()):
+    """With a channel that is mostly answered in records of two bytes, and a buffer of five."""
+    group = some_group(rng, 2, 0)
+    channel = with_validity(rng, Channel(rng.choice([0, 0, 3, 10]), bit_count=rng.choice([8, 16, 16, 24])), 2, 0)
+    return "history", (file, other, group, channel, steps, table, out_buffer(rng, 5))
+
+
+def short_history_boundaries(rng):
+    """Every history of four operations, and then two fetches. The third block is in no list."""
+    chain = Chain(rng, [b"\1\2\3", b"", b"\4\5"], [[0, 1]])
+    file = chain.file()
+    operations = [Step(OPEN, 0, chain.start), Step(SHORTEN), *(Step(EXTEND, 0, place) for place in chain.data_places[1:])]
+    for steps in itertools.product(operations, repeat=4):
+        yield history_case(rng, file, b"", [*steps, Step(RECORD, 0, 0, 3), Step(VALUE, 0, 1, 2)], with_junk(rng, Table()))
+
+
+def full_history_boundaries(rng):
+    """From the empty table over the full one to the empty one again, a step further than it goes on both sides; and around
+    the full one to and fro."""
+    file, address = file_with_block(rng, 600)
+    extend, shorten, fetch = Step(EXTEND, 0, address), Step(SHORTEN), Step(RECORD, 0, 511, 3)
+    yield history_case(rng, file, b"", [extend] * 513 + [fetch] + [shorten] * 513)
+    for count in (510, 511, 512):
+        table = scattered_table(rng, len(file), short_lengths(rng, count))
+        yield history_case(rng, file, b"", [extend] * 3 + [fetch, shorten, shorten, fetch] + [extend] * 3, table)
+
+
+def other_file(rng, file):
+    """One for which the table was not made: cut or changed, or other bytes throughout, headers too."""
+    return rng.choice([damaged_file(rng, file), file[:rng.randint(0, len(file))], rng.randbytes(len(file))])
+
+
+def random_write(rng, file_size):
+    """Into a word that is in use, or behind those."""
+    place = rng.choice([0, 1, rng.randint(2, 9), rng.randint(2, 9), rng.randint(20, 1025), 1025])
+    return Step(WRITE, 0, place, rng.choice([0, 1, rng.randint(0, 9), rng.randint(0, file_size), edge_number(rng, U64)]))
+
+
+def random_step(rng, chain, file_size):
+    what = rng.choice([OPEN] * 3 + [EXTEND] * 6 + [SHORTEN] * 3 + [RECORD] * 4 + [VALUE] * 3 + [WRITE])
+    if what == SHORTEN:
+        return Step(what)
+    if what == WRITE:
+        return random_write(rng, file_size)
+    file = rng.choice([0] * 6 + [1])
+    if what in (RECORD, VALUE):
+        number = rng.choice([0, 1, 2, rng.randint(0, 9), edge_number(rng, U64)])
+        return Step(what, file, number, rng.choice([1, 2, 2, 2, 3, 6]))
+    places = [chain.start] if what == OPEN else chain.data_places
+    return Step(what, file, rng.choice([*places * 8, *edge_addresses(rng, chain)]))
+
+
+def random_history(rng):
+    chain = random_chain(rng)
+    file = chain.file()
+    steps = [random_step(rng, chain, len(file)) for _ in range(rng.randint(1, 12))]
+    return history_case(rng, file, other_file(rng, file), steps, rng.choice([Table(), some_table(rng)]))
+
+
+def random_history_boundaries(rng):
+    """With writes into the table, another file and refused calls among them."""
+    for _ in range(200):
+        yield random_history(rng)
+
+
+def random_table_case(rng):
+    """A table of a chain or of fragments anywhere, at times damaged or of another file, and a call that takes it."""
+    chain = random_chain(rng)
+    file = chain.file()
+    lengths = short_lengths(rng, rng.choice([0, 1, 2, 3, rng.randint(0, 20)]))
+    table = with_junk(rng, rng.choice([table_of_chain(chain), scattered_table(rng, len(file), lengths)]))
+    joined_size = table.data_length
+    if rng.random() < 0.3:
+        table = damaged_table(rng, table, len(file))
+    if rng.random() < 0.2:
+        file = other_file(rng, file)
+    if rng.random() < 0.4:
+        return table_query(rng, file, table, joined_size)
+    address = rng.choice([*chain.data_places * 4, *edge_addresses(rng, chain)])
+    return rng.choice([("extend_table", (file, address, table)), ("shorten_table", (table,))])
+
+
 # ---- all of them -------------------------------------------------------------------------------------------------------
 
 BOUNDARIES = (version_boundaries,
@@ -2039,15 +2368,20 @@ PAYLOAD_BOUNDARIES = (payload_cut_boundaries, payload_place_boundaries, payload_
                       payload_validity_boundaries, position_field_boundaries, payload_link_boundaries,
                       payload_buffer_boundaries, large_payload_boundaries, payload_order_boundaries)
 
+TABLE_BOUNDARIES = (open_limit_boundaries, table_fetch_boundaries, many_fragment_boundaries, table_damage_boundaries,
+                    full_table_boundaries, long_table_boundaries, extend_boundaries, extend_order_boundaries,
+                    fetch_order_boundaries, short_history_boundaries, full_history_boundaries, random_history_boundaries)
+
 RANDOM_CASES = ([random_header_case] + [random_list_case] * 2 + [random_channel_block_case] * 2 + [random_value_case] * 6
                 + [random_area_case] * 2 + [random_write_case] * 4 + [random_overlap_case] * 2 + [random_text_case] * 4
-                + [random_chain_case] * 5 + [random_payload_case] * 4)
+                + [random_chain_case] * 5 + [random_payload_case] * 4 + [random_table_case] * 2 + [random_history])
 
 # The replies of each call that has any, which the boundary cases reach. Reply 14 has no case: 4,096 fragments of at most
 # 2^40 bytes never pass 2^63-1.
 FIELD_REPLIES = {0, 18, 19, 20, 21, 22}
 AREA_REPLIES = {0, 28, 29}
 CHAIN_REPLIES = {0, 2, 3, 4, 7, 8, 9, 10, 11, 12, 13}
+TABLE_FETCH_REPLIES = {0, 7, 15, 16, 32}
 REPLIES = {
     "read_header": {0, 2},
     "write_header": {0, 6},
@@ -2067,12 +2401,17 @@ REPLIES = {
     "data_length": CHAIN_REPLIES,
     "read_record": CHAIN_REPLIES | {15, 16},
     "record_value": CHAIN_REPLIES | FIELD_REPLIES | AREA_REPLIES | {15, 16},
+    "open_table": CHAIN_REPLIES | {30},
+    "extend_table": {0, 7, 11, 12, 30, 32},
+    "shorten_table": {0, 31, 32},
+    "table_record": TABLE_FETCH_REPLIES,
+    "table_value": TABLE_FETCH_REPLIES | FIELD_REPLIES | AREA_REPLIES,
     "record_payload": CHAIN_REPLIES | {6, 15, 16, 21, 23, 35},
 }
 
 
 def boundary_cases(seed):
-    for boundaries in BOUNDARIES + PAYLOAD_BOUNDARIES:
+    for boundaries in BOUNDARIES + PAYLOAD_BOUNDARIES + TABLE_BOUNDARIES:
         yield from boundaries(random.Random(f"{seed} {boundaries.__name__}"))
     for boundaries in CHAIN_BOUNDARIES:
         yield from asked_by_every_call(boundaries(random.Random(f"{seed} {boundaries.__name__}")))

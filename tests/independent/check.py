@@ -75,7 +75,8 @@ class Tally:
         if expected != found:
             self.different[call] += 1
             if sum(self.different.values()) <= MOST_SHOWN:
-                print(f"DIFFERENCE\n  case      {line}\n  reference {shown(expected)}\n  driver    {shown(found)}")
+                print(f"DIFFERENCE\n  case      {line}\n  reference {shown(expected, found)}\n"
+                      f"  driver    {shown(found, expected)}")
 
     def replies_of(self, call):
         """How often the reference gave each reply of a call that has replies."""
@@ -101,8 +102,12 @@ class Tally:
             print("    replies " + ", ".join(f"{number}: {numbers[number]}" for number in sorted(numbers)))
 
 
-def shown(result):
-    return result if len(result) <= LONGEST_RESULT_SHOWN else result[:LONGEST_RESULT_SHOWN] + "..."
+def shown(result, other):
+    """Of a long result what follows from the word on that differs in the other."""
+    if len(result) <= LONGEST_RESULT_SHOWN:
+        return result
+    begin = result.rfind(" ", 0, len(os.path.commonprefix([result, other]))) + 1
+    return ("..." if begin else "") + result[begin:begin + LONGEST_RESULT_SHOWN] + "..."
 
 
 def compare(driver, all_cases, tally):

@@ -14,7 +14,7 @@
 
 #include "mf4.h"
 
-enum { GUARD = 32, GUARD_BYTE = 0xC3, MOST_SLICES = 4 };
+enum { GUARD = 32, GUARD_BYTE = 0xC3, MOST_SLICES = 5 };
 
 /* ---- memory ----------------------------------------------------------------------------------------------------- */
 
@@ -221,14 +221,11 @@ static slice *next_slice(int is_output)
 static slice *next_input(void) { return next_slice(0); }
 static slice *next_output(void) { return next_slice(1); }
 
-/* The slice's length stays in bytes; count_of_numbers tells how many numbers it holds. */
-static slice *next_numbers(void)
+/* The numbers of a word behind its letter, into the scratch memory. Gives their length in bytes. */
+static size_t add_numbers(const char *word, char letter)
 {
-    const char *word = next_word();
     size_t length = 0;
-    if (strcmp(word, "-") == 0)
-        return new_slice(NULL, 0, 0, 1);
-    if (*word == 'u')
+    if (*word == letter)
         word++;
     else
         is_malformed = 1;
@@ -242,11 +239,37 @@ static slice *next_numbers(void)
     }
     if (*word != '\0')
         is_malformed = 1;
+    return length;
+}
+
+/* The slice's length stays in bytes; count_of_numbers tells how many numbers it holds. */
+static slice *next_numbers(void)
+{
+    const char *word = next_word();
+    size_t length;
+    if (strcmp(word, "-") == 0)
+        return new_slice(NULL, 0, 0, 1);
+    length = add_numbers(word, 'u');
     return new_slice(scratch, length, 0, 0);
 }
 
 static const uint64_t *numbers_of(const slice *numbers) { return (const uint64_t *)(const void *)numbers->bytes; }
 static size_t count_of_numbers(const slice *numbers) { return numbers->length / sizeof(uint64_t); }
+
+/* Numbers that are left out are 0. */
+static slice *next_table(int is_output)
+{
+    const size_t size = sizeof(mf4_table);
+    size_t length = add_numbers(next_word(), 't');
+    make_room(size);
+    if (length > size)
+        is_malformed = 1;
+    else
+        memset(scratch + length, 0, size - length);
+    return new_slice(scratch, size, is_output, 0);
+}
+
+static mf4_table *table_of(const slice *table) { return (mf4_table *)(void *)table->bytes; }
 
 static mf4_header next_header(void)
 {
@@ -381,6 +404,11 @@ static void print_reply(uint32_t reply, uint64_t told)
     print_number("told", told);
 }
 
+static void print_done(mf4_done_reply answer)
+{
+    print_reply(answer.reply, answer.told);
+}
+
 static void print_header(mf4_header header)
 {
     print_number("id", header.id);
@@ -435,6 +463,18 @@ static void print_out(const slice *out)
         putchar(digits[out->bytes[i] >> 4]);
         putchar(digits[out->bytes[i] & 15]);
     }
+}
+
+/* Up to its last number that is not 0. */
+static void print_table(const slice *table)
+{
+    const uint64_t *numbers = numbers_of(table);
+    size_t i, count = count_of_numbers(table);
+    while (count > 0 && numbers[count - 1] == 0)
+        count--;
+    fputs(" table=t", stdout);
+    for (i = 0; i < count; i++)
+        printf("%s%" PRIu64, i > 0 ? "," : "", numbers[i]);
 }
 
 static void print_written(mf4_written_reply written, const slice *out)
@@ -673,11 +713,9 @@ static void write_value(void)
     mf4_channel channel = next_channel();
     mf4_number value = next_number_given();
     slice *record = next_output();
-    mf4_done_reply answer;
     if (is_malformed)
         return;
-    answer = mf4_write_value(record_id_size, channel, value, record->bytes, record->length);
-    print_reply(answer.reply, answer.told);
+    print_done(mf4_write_value(record_id_size, channel, value, record->bytes, record->length));
     print_out(record);
 }
 
@@ -746,11 +784,9 @@ static void read_record(void)
     uint64_t number = next_u64();
     uint64_t record_size = next_u64();
     slice *buffer = next_output();
-    mf4_done_reply answer;
     if (is_malformed)
         return;
-    answer = mf4_read_record(file->bytes, file->length, start, number, record_size, buffer->bytes, buffer->length);
-    print_reply(answer.reply, answer.told);
+    print_done(mf4_read_record(file->bytes, file->length, start, number, record_size, buffer->bytes, buffer->length));
     print_out(buffer);
 }
 
@@ -768,6 +804,163 @@ static void record_value(void)
     print_valid_value(mf4_record_value(file->bytes, file->length, start, number, record_size, group, channel, buffer->bytes,
                                        buffer->length));
     print_out(buffer);
+}
+
+static void change_table(mf4_done_reply (*call)(const uint8_t *, size_t, uint64_t, mf4_table *))
+{
+    slice *file = next_input();
+    uint64_t address = next_u64();
+    slice *table = next_table(1);
+    if (is_malformed)
+        return;
+    print_done(call(file->bytes, file->length, address, table_of(table)));
+    print_table(table);
+}
+
+static void open_table(void) { change_table(mf4_open_table); }
+static void extend_table(void) { change_table(mf4_extend_table); }
+
+static void shorten_table(void)
+{
+    slice *table = next_table(1);
+    if (is_malformed)
+        return;
+    print_done(mf4_shorten_table(table_of(table)));
+    print_table(table);
+}
+
+/* A record that is wanted through a table. */
+typedef struct wanted {
+    const slice *file;
+    const slice *table;
+    uint64_t number;
+    uint64_t record_size;
+} wanted;
+
+static wanted next_wanted(void)
+{
+    wanted w;
+    w.file = next_input();
+    w.table = next_table(0);
+    w.number = next_u64();
+    w.record_size = next_u64();
+    return w;
+}
+
+static void table_record(void)
+{
+    wanted w = next_wanted();
+    slice *buffer = next_output();
+    if (is_malformed)
+        return;
+    print_done(mf4_table_record(w.file->bytes, w.file->length, table_of(w.table), w.number, w.record_size, buffer->bytes,
+                                buffer->length));
+    print_out(buffer);
+}
+
+static void table_value(void)
+{
+    wanted w = next_wanted();
+    mf4_group group = next_group();
+    mf4_channel channel = next_channel();
+    slice *buffer = next_output();
+    if (is_malformed)
+        return;
+    print_valid_value(mf4_table_value(w.file->bytes, w.file->length, table_of(w.table), w.number, w.record_size, group,
+                                      channel, buffer->bytes, buffer->length));
+    print_out(buffer);
+}
+
+/* What all steps of a history share. */
+typedef struct setting {
+    slice *files[2];
+    mf4_group group;
+    mf4_channel channel;
+    slice *table;
+    slice *buffer;
+} setting;
+
+typedef struct step {
+    char what; /* as histories.py has it */
+    uint64_t file;
+    uint64_t first;
+    uint64_t second;
+} step;
+
+static step next_step(const char **word)
+{
+    step taken;
+    taken.what = **word;
+    if (**word != '\0')
+        (*word)++;
+    taken.file = next_of_row(word, 1);
+    taken.first = next_of_row(word, UINT64_MAX);
+    taken.second = next_of_row(word, UINT64_MAX);
+    if (**word == '/')
+        (*word)++;
+    return taken;
+}
+
+static void write_number(const slice *table, uint64_t place, uint64_t number)
+{
+    if (place < count_of_numbers(table))
+        memcpy(table->bytes + place * sizeof number, &number, sizeof number);
+    else
+        is_malformed = 1;
+}
+
+static void take_step(const setting *given, step taken)
+{
+    const slice *file = given->files[taken.file], *buffer = given->buffer;
+    const uint64_t first = taken.first, second = taken.second;
+    mf4_table *table = table_of(given->table);
+    if (taken.what == 'o')
+        print_done(mf4_open_table(file->bytes, file->length, first, table));
+    else if (taken.what == 'e')
+        print_done(mf4_extend_table(file->bytes, file->length, first, table));
+    else if (taken.what == 's')
+        print_done(mf4_shorten_table(table));
+    else if (taken.what == 'r')
+        print_done(mf4_table_record(file->bytes, file->length, table, first, second, buffer->bytes, buffer->length));
+    else if (taken.what == 'v')
+        print_valid_value(mf4_table_value(file->bytes, file->length, table, first, second, given->group, given->channel,
+                                          buffer->bytes, buffer->length));
+    else if (taken.what == 'w')
+        write_number(given->table, first, second);
+    else
+        is_malformed = 1;
+}
+
+static void take_steps(const setting *given, const char *steps)
+{
+    while (*steps != '\0') {
+        step taken = next_step(&steps);
+        if (is_malformed)
+            return;
+        take_step(given, taken);
+        print_table(given->table);
+        print_out(given->buffer);
+    }
+}
+
+static void history(void)
+{
+    setting given;
+    const char *steps;
+    given.files[0] = next_input();
+    given.files[1] = next_input();
+    given.group = next_group();
+    given.channel = next_channel();
+    steps = next_word();
+    given.table = next_table(1);
+    given.buffer = next_output();
+    if (*steps != 's')
+        is_malformed = 1;
+    if (is_malformed)
+        return;
+    fputs("history", stdout);
+    separator = " ";
+    take_steps(&given, steps + 1);
 }
 
 static void record_payload(void)
@@ -820,6 +1013,12 @@ static const struct {
     {"data_length", data_length},
     {"read_record", read_record},
     {"record_value", record_value},
+    {"open_table", open_table},
+    {"extend_table", extend_table},
+    {"shorten_table", shorten_table},
+    {"table_record", table_record},
+    {"table_value", table_value},
+    {"history", history},
     {"record_payload", record_payload},
 };
 

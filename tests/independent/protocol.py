@@ -1,6 +1,6 @@
 """Cases and results as lines of words, so that a driver in another language can answer the same cases.
 
-A case is a call's name and its arguments in the order of reference.py. As words:
+A case is a call's name and its arguments in the order of reference.py; or "history", and those of histories.py. As words:
 
     number      decimal
     bytes       x and hex digits; "HEX*COUNT" repeats, "+" joins:  x0102  xa5*100  x01+00*30+02
@@ -10,13 +10,21 @@ A case is a call's name and its arguments in the order of reference.py. As words
     header      4 numbers, channel: 8 numbers, group: 3 numbers, number to be written: 2 numbers, channel block: 31
                 numbers, in the order of their C structs
     channels    c and the numbers of each channel, with commas between; channels with "/" between  (empty: "c", or "-")
+    table       t and its numbers, in the order of the C struct, with commas between; those that are left out are 0
+    steps       s and the steps of a history as histories.py has them, with "/" between:  so0,64,0/r0,1,2
 
 A result is the fields of the C struct as name=number words in the order of mf4.h, a plain answer as answer=number, and
-each output buffer afterwards, in turn, as out=x and hex digits.
+each output buffer afterwards, in turn, as out=x and hex digits, or a table as table=t and its numbers up to the last that
+is not 0. That of a history is "history" and then, for each step, the call's result, the table and the buffer.
 """
 
+import itertools
+import operator
+
+import histories
 import reference
-from reference import Channel, ChannelBlock, Group, Header, Number
+from histories import Step
+from reference import Channel, ChannelBlock, Fragment, Group, Header, Number, Table
 
 SHORTEST_REPEAT = 16
 
@@ -34,7 +42,7 @@ class LongFile:
         return isinstance(other, LongFile) and self.length == other.length
 
 
-NUMBER, BYTES, NUMBERS, CHANNELS = "number", "bytes", "numbers", "channels"
+NUMBER, BYTES, NUMBERS, CHANNELS, TABLE, STEPS = "number", "bytes", "numbers", "channels", "table", "steps"
 
 # The form of a struct is an empty one, whose fields tell how many numbers it takes.
 HEADER, CHANNEL, GROUP, CHANNEL_BLOCK, NUMBER_GIVEN = Header(), Channel(), Group(), ChannelBlock(), Number()
@@ -72,17 +80,21 @@ CALLS = {
     "data_length": (reference.data_length, (BYTES, NUMBER)),
     "read_record": (reference.read_record, (BYTES, NUMBER, NUMBER, NUMBER, BYTES)),
     "record_value": (reference.record_value, (BYTES, NUMBER, NUMBER, NUMBER, GROUP, CHANNEL, BYTES)),
+    "open_table": (reference.open_table, (BYTES, NUMBER, TABLE)),
+    "extend_table": (reference.extend_table, (BYTES, NUMBER, TABLE)),
+    "shorten_table": (reference.shorten_table, (TABLE,)),
+    "table_record": (reference.table_record, (BYTES, TABLE, NUMBER, NUMBER, BYTES)),
+    "table_value": (reference.table_value, (BYTES, TABLE, NUMBER, NUMBER, GROUP, CHANNEL, BYTES)),
+    "history": (histories.outcomes, (BYTES, BYTES, GROUP, CHANNEL, STEPS, TABLE, BYTES)),
     "record_payload": (reference.record_payload, (BYTES, NUMBER, NUMBER, NUMBER, GROUP, CHANNEL, BYTES, BYTES)),
 }
 
 # ---- cases -------------------------------------------------------------------------------------------------------------
 
 
-def bytes_word(content, null_if_empty):
+def bytes_word(content):
     if isinstance(content, LongFile):
         return f"z{content.length}"
-    if not content:
-        return "-" if null_if_empty else "x"
     if len(content) > SHORTEST_REPEAT and content == content[:1] * len(content):
         return f"x{content[:1].hex()}*{len(content)}"
     return "x" + content.hex()
@@ -100,9 +112,7 @@ def bytes_of_word(word):
     return b"".join(pieces)
 
 
-def numbers_word(numbers, null_if_empty):
-    if not numbers and null_if_empty:
-        return "-"
+def numbers_word(numbers):
     return "u" + ",".join(map(str, numbers))
 
 
@@ -110,14 +120,44 @@ def numbers_of_word(word):
     return [int(digits) for digits in word[1:].split(",") if digits]
 
 
-def channels_word(channels, null_if_empty):
-    if not channels and null_if_empty:
-        return "-"
+def channels_word(channels):
     return "c" + "/".join(",".join(map(str, channel)) for channel in channels)
 
 
 def channels_of_word(word):
     return [Channel(*map(int, channel.split(","))) for channel in word[1:].split("/") if channel]
+
+
+def table_word(table):
+    numbers = [table.fragment_count, table.data_length, *itertools.chain.from_iterable(table.fragments)]
+    backwards = list(itertools.dropwhile(operator.not_, reversed(numbers)))
+    return "t" + ",".join(map(str, reversed(backwards)))
+
+
+def table_of_word(word):
+    given = numbers_of_word(word)
+    count, length, *pairs = given + [0] * (2 + 2 * len(Table().fragments) - len(given))
+    return Table(count, length, tuple(map(Fragment, pairs[0::2], pairs[1::2])))
+
+
+def steps_word(steps):
+    return "s" + "/".join(f"{step.what}{step.file},{step.first},{step.second}" for step in steps)
+
+
+def steps_of_word(word):
+    return [Step(step[0], *map(int, step[1:].split(","))) for step in word[1:].split("/") if step]
+
+
+# For each form that takes one word, how it is written and read; and those whose word is "-" for NULL.
+WORDS = {NUMBER: (str, int), BYTES: (bytes_word, bytes_of_word), NUMBERS: (numbers_word, numbers_of_word),
+         CHANNELS: (channels_word, channels_of_word), TABLE: (table_word, table_of_word), STEPS: (steps_word, steps_of_word)}
+SLICES = (BYTES, NUMBERS, CHANNELS)
+
+
+def word_of(form, argument, null_if_empty):
+    if null_if_empty and form in SLICES and len(argument) == 0:
+        return "-"
+    return WORDS[form][0](argument)
 
 
 def struct_words(struct):
@@ -132,16 +172,7 @@ def struct_of_words(form, words):
 def case_line(call, arguments, null_if_empty=False):
     words = [call]
     for form, argument in zip(CALLS[call][1], arguments):
-        if form == BYTES:
-            words.append(bytes_word(argument, null_if_empty))
-        elif form == NUMBERS:
-            words.append(numbers_word(argument, null_if_empty))
-        elif form == CHANNELS:
-            words.append(channels_word(argument, null_if_empty))
-        elif isinstance(form, tuple):
-            words.extend(struct_words(argument))
-        else:
-            words.append(str(argument))
+        words.extend(struct_words(argument) if isinstance(form, tuple) else [word_of(form, argument, null_if_empty)])
     return " ".join(words)
 
 
@@ -149,16 +180,7 @@ def case_of_line(line):
     call, *words = line.split()
     arguments = []
     for form in CALLS[call][1]:
-        if isinstance(form, tuple):
-            arguments.append(struct_of_words(form, words))
-        elif form == BYTES:
-            arguments.append(bytes_of_word(words.pop(0)))
-        elif form == NUMBERS:
-            arguments.append(numbers_of_word(words.pop(0)))
-        elif form == CHANNELS:
-            arguments.append(channels_of_word(words.pop(0)))
-        else:
-            arguments.append(int(words.pop(0)))
+        arguments.append(struct_of_words(form, words) if isinstance(form, tuple) else WORDS[form][1](words.pop(0)))
     if words:
         raise ValueError("words left over")
     return call, tuple(arguments)
@@ -177,11 +199,21 @@ def field_words(struct):
     return words
 
 
+def word_after(after):
+    """A table or a buffer as a call left it."""
+    return f"table={table_word(after)}" if isinstance(after, Table) else f"out=x{after.hex()}"
+
+
+def outcome_words(struct, *afters):
+    return (field_words(struct) if struct else []) + [word_after(after) for after in afters]
+
+
 def result_line(call, arguments):
     result = CALLS[call][0](*arguments)
     if isinstance(result, int):
         return f"answer={result}"
+    if isinstance(result, list):
+        return " ".join(["history", *(word for outcome in result for word in outcome_words(*outcome))])
     if hasattr(result, "_fields"):
         return " ".join(field_words(result))
-    struct, *outs = result
-    return " ".join(field_words(struct) + ["out=x" + out.hex() for out in outs])
+    return " ".join(outcome_words(*result))

@@ -4,10 +4,12 @@ It shares no code with the library or with the crate that the library ports. Pyt
 without wrapping" is an ordinary sum here, and "at most 2^64-1" is a min().
 
 A call that can refuse returns a tuple with the fields of its C struct; reply is 0 for an answer. A call with output
-buffers returns that tuple and each buffer as it stands afterwards.
+buffers returns that tuple and each buffer as it stands afterwards; one that changes a table, the tuple and the table.
 """
 
 import bisect
+import itertools
+import struct
 from typing import NamedTuple
 
 LARGEST = 2**64 - 1
@@ -24,6 +26,7 @@ MOST_FRAGMENTS = 4096
 MOST_JOINED_BYTES = 2**63 - 1
 MOST_RECORD_BYTES = 16384
 MOST_CHANNELS = 256
+MOST_TABLE_FRAGMENTS = 512
 
 # ---- replies -----------------------------------------------------------------------------------------------------------
 
@@ -56,6 +59,9 @@ TOO_MANY_CHANNELS = 26
 NO_FIXED_NUMBER = 27
 OTHER_LENGTH = 28
 BIT_OUTSIDE = 29
+TABLE_FULL = 30
+TABLE_EMPTY = 31
+BAD_TABLE = 32
 NO_POSITION = 35
 NO_TEXT_TYPE = 256  # of a helper of mf4.h, not of the library
 
@@ -230,9 +236,21 @@ class Length(NamedTuple):
     length: int = 0
 
 
+class Fragment(NamedTuple):
+    block_addr: int = 0
+    data_position: int = 0
+
+
+class Table(NamedTuple):
+    """With all of its fragments, in use or not."""
+    fragment_count: int = 0
+    data_length: int = 0
+    fragments: tuple = (Fragment(),) * MOST_TABLE_FRAGMENTS
+
+
 # ---- the version -------------------------------------------------------------------------------------------------------
 
-MAJOR, MINOR, PATCH = 0, 5, 0
+MAJOR, MINOR, PATCH = 0, 5, 1
 
 
 def version():
@@ -258,15 +276,16 @@ def placed(content, out):
 
 # ---- block headers -----------------------------------------------------------------------------------------------------
 
+HEADER_FIELDS = struct.Struct("<IIQQ")
+
 
 def header_of(block):
     refuse_if(len(block) < HEADER_SIZE, TOO_FEW_BYTES, HEADER_SIZE)
-    return Header(little(block, 0, 4), little(block, 4, 4), little(block, 8, 8), little(block, 16, 8))
+    return Header(*HEADER_FIELDS.unpack_from(block))
 
 
 def header_bytes(header):
-    return (little_bytes(header.id, 4) + little_bytes(header.reserved0, 4)
-            + little_bytes(header.block_len, 8) + little_bytes(header.link_count, 8))
+    return HEADER_FIELDS.pack(*header)
 
 
 def read_header(block):
@@ -850,6 +869,10 @@ def text_room(length):
 # ---- from chain to record ----------------------------------------------------------------------------------------------
 
 
+def check_file_length(file):
+    refuse_if(len(file) > MOST_FILE_BYTES, FILE_TOO_LONG)
+
+
 def is_no_block_address(file, address):
     return address == 0 or address + HEADER_SIZE > len(file)
 
@@ -915,14 +938,14 @@ def is_declared_truly(chain_list, index, data_before, data):
     return len(data) == length or (may_be_short and len(data) < length)
 
 
-def joined_data(file, start, data_id=DATA_ID):
-    """The data of the chain's fragments, joined in chain order; refused with 7 first.
+def fragments_of_chain(file, start, data_id=DATA_ID):
+    """The address and the data of each fragment, in chain order; refused with 7 first.
 
     The fragments are blocks of one id. The lists that link them are ##DL blocks, whatever that id is.
     Only a next link of 0 ends the chain: a list that links back to itself is read again, until a limit is passed.
     """
-    refuse_if(len(file) > MOST_FILE_BYTES, FILE_TOO_LONG)
-    joined = bytearray()
+    check_file_length(file)
+    found, joined_size = [], 0
     lists, fragments, address, first = 0, 0, start, None
     while True:
         refuse_if(lists == MOST_LISTS, TOO_MANY_LISTS)
@@ -934,12 +957,17 @@ def joined_data(file, start, data_id=DATA_ID):
         refuse_if(not fits_first(chain_list, first), UNTRUE_DECLARATION)
         for index, link in enumerate(chain_list.links):
             data = fragment_at(file, link, data_id)
-            refuse_if(len(joined) + len(data) > MOST_JOINED_BYTES, DATA_TOO_LONG)
-            refuse_if(not is_declared_truly(chain_list, index, len(joined), data), UNTRUE_DECLARATION)
-            joined += data
+            refuse_if(joined_size + len(data) > MOST_JOINED_BYTES, DATA_TOO_LONG)
+            refuse_if(not is_declared_truly(chain_list, index, joined_size, data), UNTRUE_DECLARATION)
+            found.append((link, data))
+            joined_size += len(data)
         if is_last_of_chain(chain_list):
-            return bytes(joined)
+            return found
         address = chain_list.next
+
+
+def joined_data(file, start, data_id=DATA_ID):
+    return b"".join(data for _, data in fragments_of_chain(file, start, data_id))
 
 
 def data_length(file, start):
@@ -949,11 +977,21 @@ def data_length(file, start):
         return Length(refusal.number, refusal.told)
 
 
-def record_of(file, start, number, record_size, buffer_size):
+def check_record_size(record_size, buffer_size):
     refuse_if(record_size == 0 or record_size > MOST_RECORD_BYTES or buffer_size < record_size, BAD_RECORD_SIZE)
+
+
+def record_place(number, record_size, joined_size):
+    """Where a record stands in so many bytes of joined data."""
+    end = (number + 1) * record_size
+    refuse_if(end > joined_size, NO_SUCH_RECORD)
+    return slice(end - record_size, end)
+
+
+def record_of(file, start, number, record_size, buffer_size):
+    check_record_size(record_size, buffer_size)
     joined = joined_data(file, start)
-    refuse_if((number + 1) * record_size > len(joined), NO_SUCH_RECORD)
-    return joined[number * record_size:(number + 1) * record_size]
+    return joined[record_place(number, record_size, len(joined))]
 
 
 def read_record(file, start, number, record_size, buffer):
@@ -963,12 +1001,103 @@ def read_record(file, start, number, record_size, buffer):
         return Done(refusal.number, refusal.told), buffer
 
 
-def record_value(file, start, number, record_size, group, channel, buffer):
-    fetched, after = read_record(file, start, number, record_size, buffer)
+def value_fetched(fetched, buffer, record_size, group, channel):
+    """The field is read from the record's bytes alone, and the record stays even if its field or its length is refused."""
     if fetched.reply != ANSWER:
-        return ValidValue(fetched.reply, told=fetched.told), after
-    # The field is read from the record's bytes alone, and the record stays even if its field or its length is refused.
-    return decode_valid_value(after[:record_size], group, channel), after
+        return ValidValue(fetched.reply, told=fetched.told), buffer
+    return decode_valid_value(buffer[:record_size], group, channel), buffer
+
+
+def record_value(file, start, number, record_size, group, channel, buffer):
+    return value_fetched(*read_record(file, start, number, record_size, buffer), record_size, group, channel)
+
+
+# ---- from table to record ----------------------------------------------------------------------------------------------
+
+
+def table_of(fragments):
+    """The table of fragments, each an address and its data, in which all else is 0."""
+    ends = list(itertools.accumulate((len(data) for _, data in fragments), initial=0))
+    used = [Fragment(address, position) for (address, _), position in zip(fragments, ends)]
+    return Table(len(used), ends[-1], (*used, *Table().fragments[len(used):]))
+
+
+def with_fragment(table, place, fragment):
+    return table._replace(fragments=(*table.fragments[:place], fragment, *table.fragments[place + 1:]))
+
+
+def borders_of(table):
+    """Where the data of each fragment in use begins in the joined data, and at last where all of it ends."""
+    return [fragment.data_position for fragment in table.fragments[:table.fragment_count]] + [table.data_length]
+
+
+def check_table(table):
+    """What can be seen without the file. Where no fragment is in use, the end is the only border, and is the beginning too."""
+    refuse_if(table.fragment_count > MOST_TABLE_FRAGMENTS, BAD_TABLE)
+    borders = borders_of(table)
+    refuse_if(borders[0] != 0 or borders != sorted(borders), BAD_TABLE)
+
+
+def data_places(file, table):
+    """Where the data of each fragment in use stands in the file; refused with 7 first, then with 32."""
+    check_file_length(file)
+    check_table(table)
+    borders, places = borders_of(table), []
+    for fragment, begin, end in zip(table.fragments, borders, borders[1:]):
+        address = fragment.block_addr + HEADER_SIZE
+        places.append(slice(address, address + end - begin))
+    refuse_if(any(place.stop > len(file) for place in places), BAD_TABLE)
+    return places
+
+
+def open_table(file, start, table):
+    try:
+        fragments = fragments_of_chain(file, start)
+        refuse_if(len(fragments) > MOST_TABLE_FRAGMENTS, TABLE_FULL)
+        return Done(), table_of(fragments)
+    except Refusal as refusal:
+        return Done(refusal.number, refusal.told), table
+
+
+def extend_table(file, block_addr, table):
+    try:
+        data_places(file, table)
+        data, place = fragment_at(file, block_addr, DATA_ID), table.fragment_count
+        refuse_if(place == MOST_TABLE_FRAGMENTS, TABLE_FULL)
+        longer = with_fragment(table, place, Fragment(block_addr, table.data_length))
+        return Done(), longer._replace(fragment_count=place + 1, data_length=table.data_length + len(data))
+    except Refusal as refusal:
+        return Done(refusal.number, refusal.told), table
+
+
+def shorten_table(table):
+    try:
+        check_table(table)
+        refuse_if(table.fragment_count == 0, TABLE_EMPTY)
+        place = table.fragment_count - 1
+        shorter = with_fragment(table, place, Fragment())
+        return Done(), shorter._replace(fragment_count=place, data_length=table.fragments[place].data_position)
+    except Refusal as refusal:
+        return Done(refusal.number, refusal.told), table
+
+
+def record_by_table(file, table, number, record_size, buffer_size):
+    """The headers are not read again, and no byte of the file is, if the record is not there."""
+    check_record_size(record_size, buffer_size)
+    places = data_places(file, table)
+    wanted = record_place(number, record_size, table.data_length)
+    return b"".join(file[place] for place in places)[wanted]
+
+
+def table_record(file, table, number, record_size, buffer):
+    try:
+        return Done(), placed(record_by_table(file, table, number, record_size, len(buffer)), buffer)
+    except Refusal as refusal:
+        return Done(refusal.number, refusal.told), buffer
+
+
+def table_value(file, table, number, record_size, group, channel, buffer):
+    return value_fetched(*table_record(file, table, number, record_size, buffer), record_size, group, channel)
 
 
 # ---- from record to payload --------------------------------------------------------------------------------------------

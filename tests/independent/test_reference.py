@@ -9,6 +9,7 @@ import sys
 from fractions import Fraction
 
 import cases
+import histories
 import protocol
 import reference as r
 from reference import Channel, Group, Header, Number, Value
@@ -234,6 +235,62 @@ def example_chain():
                 (Group(0, 2), r.ValidValue(29)), (Group(0, 1, 1), r.ValidValue(kind=r.TEXT_KIND, is_valid=1))):
             check(f"record 1 in {group}", r.record_value(chain.file(), chain.start, 1, 2, group, TEXT_WITH_BIT, b".."),
                   (wanted, hexed("03 04")))
+
+
+# At 8 a list of two blocks, the one at 80 with three bytes and the one at 107 with none; at 131 a block of two bytes that is
+# in no list.
+TABLE_FILE = hexed(
+    "0000000000000000"
+    "23 23 44 4c 00000000 4800000000000000 0300000000000000 0000000000000000 5000000000000000 6b00000000000000"
+    "00 000000 02000000 0000000000000000 0300000000000000"
+    "23 23 44 54 00000000 1b00000000000000 0000000000000000 010203"
+    "23 23 44 54 00000000 1800000000000000 0000000000000000"
+    "23 23 44 54 00000000 1a00000000000000 0000000000000000 0405")
+
+
+def table(count, length, *pairs):
+    """All that is not given is 0."""
+    fragments = [r.Fragment(*pair) for pair in pairs]
+    return r.Table(count, length, (*fragments, *[r.Fragment(0, 0)] * (512 - len(fragments))))
+
+
+OPENED = table(2, 3, (80, 0), (107, 3))
+EXTENDED = table(3, 5, (80, 0), (107, 3), (131, 3))
+FILLED = r.Table(9, 9, (r.Fragment(9, 9),) * 512)
+
+
+def example_tables():
+    for before in (r.Table(), EXTENDED, FILLED):
+        check("opened", r.open_table(TABLE_FILE, 8, before), (r.Done(), OPENED))
+        check("not opened", r.open_table(TABLE_FILE, 80, before), (r.Done(3), before))
+    check("extended", r.extend_table(TABLE_FILE, 131, OPENED), (r.Done(), EXTENDED))
+    check("shortened", r.shorten_table(EXTENDED), (r.Done(), OPENED))
+    check("a block again", r.extend_table(TABLE_FILE, 80, OPENED), (r.Done(), table(3, 6, (80, 0), (107, 3), (80, 3))))
+    single = table(1, 2, (131, 0))
+    check("a single block", r.extend_table(TABLE_FILE, 131, r.Table()), (r.Done(), single))
+    check("no block is left", r.shorten_table(single), (r.Done(), r.Table()))
+    check("nothing to shorten", r.shorten_table(r.Table()), (r.Done(31), r.Table()))
+    for wrong, reply in ((8, 12), (0, 11), (134, 11), (133, 12)):
+        check(f"no ##DT block at {wrong}", r.extend_table(TABLE_FILE, wrong, OPENED), (r.Done(reply), OPENED))
+    for given, number, wanted in ((EXTENDED, 0, "01 02"), (EXTENDED, 1, "03 04"), (single, 0, "04 05"), (OPENED, 0, "01 02")):
+        check(f"record {number}", r.table_record(TABLE_FILE, given, number, 2, b"..."), (r.Done(), hexed(wanted) + b"."))
+    for given, number in ((EXTENDED, 2), (EXTENDED, 2**63), (OPENED, 1), (single, 1), (r.Table(), 0)):
+        check(f"no record {number}", r.table_record(TABLE_FILE, given, number, 2, b"..."), (r.Done(16), b"..."))
+    check("another file", r.table_record(bytes(range(157)), EXTENDED, 1, 2, b".."), (r.Done(), bytes([106, 155])))
+    check("a shorter file", r.table_record(TABLE_FILE[:-1], EXTENDED, 0, 2, b".."), (r.Done(32), b".."))
+
+
+def example_table_values():
+    for group, channel, wanted in (
+            (Group(0, 2), field(r.UNSIGNED_LE, 16), r.ValidValue(kind=r.UNSIGNED_KIND, number=0x0403, is_valid=1)),
+            (Group(0, 2), field(r.UNSIGNED_LE, 0), r.ValidValue(18)), (Group(1, 1), field(0, 16), r.ValidValue(21, told=3)),
+            (Group(0, 1), TEXT_WITH_BIT, r.ValidValue(28)), (Group(0, 2), TEXT_WITH_BIT, r.ValidValue(29)),
+            (Group(0, 1, 1), TEXT_WITH_BIT, r.ValidValue(kind=r.TEXT_KIND, is_valid=1))):
+        check(f"{channel} in {group}", r.table_value(TABLE_FILE, EXTENDED, 1, 2, group, channel, b"..."),
+              (wanted, hexed("03 04") + b"."))
+    for given, number, reply in ((EXTENDED, 2, 16), (EXTENDED._replace(data_length=6), 0, 32)):
+        check(f"no record {number}", r.table_value(TABLE_FILE, given, number, 2, Group(0, 2), field(0, 16), b"..."),
+              (r.ValidValue(reply), b"..."))
 
 
 # At 8 a list of records, whose block at 64 has three of them; at 115 a list of payloads, whose blocks at 187 and 216 have
@@ -828,6 +885,142 @@ def cases_of_payloads():
         check(f"{reply} of the payloads' chain is reached", reached[True, reply] >= 8, True)
 
 
+# The words of the table of three fragments, each changed alone: its place, the word, and whether the table can be right
+# without the file and with it. The file has 157 bytes.
+CHANGED_WORDS = (
+    (0, 3, True, True), (0, 2, True, True), (0, 0, False, False), (0, 4, False, False), (0, 512, False, False),
+    (0, 513, False, False), (0, 2**32 + 3, False, False), (0, 2**64 - 1, False, False),
+    (1, 4, True, True), (1, 3, True, True), (1, 2, False, False), (1, 0, False, False), (1, 6, True, False),
+    (1, 2**64 - 1, True, False), (1, 2**64 - 152, True, False),
+    (3, 1, False, False), (3, 2**64 - 1, False, False),
+    (5, 0, True, True), (5, 2, True, True), (5, 4, False, False), (5, 2**64 - 1, False, False),
+    (7, 2, False, False), (7, 5, True, True), (7, 6, False, False), (7, 0, False, False),
+    (2, 0, True, True), (2, 130, True, True), (2, 131, True, False), (2, 2**64 - 27, True, False), (2, 2**64 - 1, True, False),
+    (4, 0, True, True), (4, 133, True, True), (4, 134, True, False), (4, 2**64 - 24, True, False), (4, 2**64 - 1, True, False),
+    (6, 0, True, True), (6, 80, True, True), (6, 131, True, True), (6, 132, True, False), (6, 2**64 - 26, True, False),
+    (8, 7, True, True), (9, 1, True, True), (1024, 2**64 - 1, True, True), (1025, 2**64 - 1, True, True))
+
+
+def rules_of_bad_tables():
+    for place, word, is_right_alone, is_right in CHANGED_WORDS:
+        changed_table = histories.with_word(EXTENDED, place, word)
+        done, after = r.shorten_table(changed_table)
+        check(f"word {place} as {word}, without the file", done, r.Done(0 if is_right_alone else 32))
+        check("it stays", after == changed_table, not is_right_alone)
+        reply = 0 if is_right else 32
+        check(f"word {place} as {word}", r.table_record(TABLE_FILE, changed_table, 0, 1, b".")[0], r.Done(reply))
+        done, after = r.extend_table(TABLE_FILE, 131, changed_table)
+        check(f"word {place} as {word}, extended", done, r.Done(reply))
+        check("it stays", after == changed_table, not is_right)
+    for fragments in (r.Table().fragments, FILLED.fragments):
+        for length, reply, fetched in ((0, 31, 16), (1, 32, 32), (2**64 - 1, 32, 32)):
+            empty = r.Table(0, length, fragments)
+            check(f"empty with {length}", r.shorten_table(empty), (r.Done(reply), empty))
+            check(f"empty with {length}, fetched", r.table_record(b"", empty, 0, 1, b"."), (r.Done(fetched), b"."))
+    check("fragments without data", r.table_record(bytes(24), table(3, 0, (0, 0), (0, 0), (0, 0)), 0, 1, b".")[0], r.Done(16))
+
+
+def rules_of_unused_places():
+    """Opening clears them all. One more fragment is stored and one cleared, and no other place changes."""
+    junk = [(9, 9)] * 509
+    crowded = table(3, 5, (80, 0), (107, 3), (131, 3), *junk)
+    check("extended", r.extend_table(TABLE_FILE, 80, crowded),
+          (r.Done(), table(4, 8, (80, 0), (107, 3), (131, 3), (80, 5), *junk[1:])))
+    check("shortened", r.shorten_table(crowded), (r.Done(), table(2, 3, (80, 0), (107, 3), (0, 0), *junk)))
+    check("opened", r.open_table(TABLE_FILE, 8, crowded), (r.Done(), OPENED))
+    check("fetched", r.table_record(TABLE_FILE, crowded, 1, 2, b"..")[1], hexed("03 04"))
+
+
+def of_blocks(count):
+    """A table in which the block of three bytes is so often."""
+    return table(count, 3 * count, *((80, 3 * place) for place in range(count)))
+
+
+def rules_of_full_tables():
+    check("511 and one", r.extend_table(TABLE_FILE, 80, of_blocks(511)), (r.Done(), of_blocks(512)))
+    check("512 and one", r.extend_table(TABLE_FILE, 80, of_blocks(512)), (r.Done(30), of_blocks(512)))
+    check("512 less one", r.shorten_table(of_blocks(512)), (r.Done(), of_blocks(511)))
+    check("the last record", r.table_record(TABLE_FILE, of_blocks(512), 511, 3, b"..."), (r.Done(), hexed("01 02 03")))
+    check("one further", r.table_record(TABLE_FILE, of_blocks(512), 512, 3, b"..."), (r.Done(16), b"..."))
+    for counts, fault, reply in (
+            ((512,), no_fault, 0), ((513,), no_fault, 30), ((256, 256), no_fault, 0), ((256, 257), no_fault, 30),
+            ((512, 0), no_fault, 0), ((512, 1), no_fault, 30), ((4096,), no_fault, 30), ((4097,), no_fault, 9),
+            ((513,), in_data(512, id=b"##SD"), 12), ((512, 2), in_list(1, links=[0, 0]), 11),
+            ((513, 0), in_list(1, id=b"##DT"), 3), ((513,), in_list(0, next=2**64 - 1), 11)):
+        chain = cases.counted_chain(random.Random(27), counts, False)
+        fault(chain)
+        done, after = r.open_table(chain.file(), chain.start, FILLED)
+        check(f"{counts} opened", (done, after.fragment_count), (r.Done(reply), 9 if reply else sum(counts)))
+
+
+def rules_of_extension_order():
+    """Of any faults the first is told, and the table stays."""
+    for faults in itertools.product((False, True), repeat=5):
+        is_long, is_bad, is_nowhere, is_no_block, is_full = faults
+        given = of_blocks(512 if is_full else 2)
+        given = given._replace(data_length=2**64 - 1) if is_bad else given
+        address = 0 if is_nowhere else 8 if is_no_block else 80
+        done, after = r.extend_table(protocol.LongFile(2**40 + 1) if is_long else TABLE_FILE, address, given)
+        check(f"first of {faults}", done.reply, next(itertools.compress((7, 32, 11, 12, 30), faults), 0))
+        check(f"table after {faults}", after == given, any(faults))
+
+
+def rules_of_fetch_order():
+    """As with an extension; and once a record is fetched it stays, whatever of its field is refused."""
+    fields = (field(0, 8), field(0, 0), field(0, 8, 8), field(0, 65), field(0, 24), field(4, 16))
+    for faults in itertools.product((False, True), repeat=4):
+        is_bad_size, is_long, is_bad, is_no_record = faults
+        file = protocol.LongFile(2**40 + 1) if is_long else TABLE_FILE
+        given = of_blocks(2)._replace(fragment_count=513) if is_bad else of_blocks(2)
+        asked = (file, given, 3 if is_no_record else 2, 2)
+        before = b"." if is_bad_size else b"..."
+        reply = next(itertools.compress((15, 7, 32, 16), faults), 0)
+        after = before if reply else hexed("02 03") + b"."
+        check(f"first of {faults}", r.table_record(*asked, before), (r.Done(reply), after))
+        for channel, refusal in zip(fields, (0, 18, 19, 20, 21, 22)):
+            for group, flags, later in ((Group(0, 2), 0, 0), (Group(0, 1), 2, 28), (Group(0, 2), 2, 29)):
+                found = r.table_value(*asked, group, channel._replace(flags=flags), before)
+                check(f"{channel} behind {faults}", (found[0].reply, found[1]), (reply or refusal or later, after))
+
+
+def cases_of_tables():
+    """The cases reach each reply of each call often, and each word that is in use is made wrong and left right."""
+    reached = collections.Counter()
+    for boundaries in cases.TABLE_BOUNDARIES:
+        for call, arguments in boundaries(random.Random(28)):
+            if call != "history":
+                reached[call, protocol.CALLS[call][0](*arguments)[0].reply] += 1
+    often = {call: cases.REPLIES[call] for call in ("extend_table", "shorten_table", "table_record", "table_value")}
+    for call, replies in {"open_table": {0, 10, 11, 12, 13, 30}, **often}.items():
+        for reply in replies:
+            check(f"{call} {reply} is reached often", reached[call, reply] >= 5, True)
+    for place, words in cases.edge_words(EXTENDED, len(TABLE_FILE)):
+        changed_tables = [histories.with_word(EXTENDED, place, word) for word in words]
+        is_address = place >= 2 and place % 2 == 0
+        check(f"word {place}, without the file", {r.shorten_table(given)[0].reply for given in changed_tables},
+              {0} if is_address else {0, 32})
+        check(f"word {place}", {r.table_record(TABLE_FILE, given, 0, 1, b".")[0].reply for given in changed_tables}, {0, 32})
+
+
+HISTORY_REPLIES = {histories.OPEN: (0, 3, 11), histories.EXTEND: (0, 11, 12, 30, 32), histories.SHORTEN: (0, 31, 32),
+                   histories.RECORD: (0, 15, 16, 32), histories.VALUE: (0, 15, 16, 21, 28, 32), histories.WRITE: (None,)}
+
+
+def cases_of_histories():
+    """The histories reach each reply of each call often, and fetch records that the other file has otherwise."""
+    reached, others = collections.Counter(), 0
+    for boundaries in (cases.short_history_boundaries, cases.full_history_boundaries, cases.random_history_boundaries):
+        for _call, (file, *rest) in boundaries(random.Random(30)):
+            for step, outcome in zip(rest[3], histories.outcomes(file, *rest)):
+                reached[step.what, outcome.answer and outcome.answer.reply] += 1
+                if step.what == histories.RECORD and step.file == 1 and outcome.answer.reply == 0:
+                    others += outcome.buffer != r.table_record(file, outcome.table, step.first, step.second, outcome.buffer)[1]
+    for what, replies in HISTORY_REPLIES.items():
+        for reply in replies:
+            check(f"{what} {reply} is reached often", reached[what, reply] >= 10, True)
+    check("records of the other file are fetched", others >= 3, True)
+
+
 # ---- vectors from outside ----------------------------------------------------------------------------------------------
 
 
@@ -1041,6 +1234,62 @@ def joined_equal_chains():
             check("length", r.data_length(chain.file(), chain.start), r.Length(length=len(data)))
 
 
+def opened_as_chains():
+    """Just after opening, a fetch through the table is the one through the chain; and what refuses the chain refuses its
+    table."""
+    rng = random.Random(31)
+    for _ in range(400):
+        chain = rng.choice([cases.random_chain, cases.random_misfit])(rng)
+        file, length = chain.file(), len(chain.joined)
+        opened, made = r.open_table(file, chain.start, FILLED)
+        check("opened", opened, r.Done(*r.data_length(file, chain.start)[:2]))
+        for _ in range(3 if opened.reply == 0 else 0):
+            call, asked = cases.record_query(rng, length)
+            check(f"{call} through a table", getattr(r, cases.THROUGH_TABLE[call])(file, made, *asked),
+                  getattr(r, call)(file, chain.start, *asked))
+
+
+def afresh(file, addresses):
+    """The table of blocks, and their joined data, by the lengths that the struct module finds."""
+    lengths = [struct.unpack_from("<Q", file, address + 8)[0] - 24 for address in addresses]
+    pairs = [(address, sum(lengths[:place])) for place, address in enumerate(addresses)]
+    joined = b"".join(file[address + 24:address + 24 + length] for address, length in zip(addresses, lengths))
+    return table(len(pairs), len(joined), *pairs), joined
+
+
+def operation(rng, chain, file, given, left):
+    """One operation, refused at times: the table behind it, and the addresses of the blocks that are left."""
+    what = rng.choice([r.open_table, r.extend_table, r.extend_table, r.shorten_table])
+    if what == r.shorten_table:
+        done, after = r.shorten_table(given)
+        check("shortened", done, r.Done(0 if left else 31))
+        return after, left[:-1]
+    sound = [chain.start] if what == r.open_table else chain.data_places
+    address = rng.choice([*sound, *sound, 0, len(file) - 24, 2**64 - 1])
+    done, after = what(file, address, given)
+    check(f"{what} at {address}", done.reply == 0, address in sound)
+    if done.reply:
+        return after, left
+    chained = [chain.data_places[number] for numbers in chain.plan for number in numbers]
+    return after, chained if what == r.open_table else [*left, address]
+
+
+def histories_afresh():
+    """After any history the table is the one that is worked out afresh from the blocks that are left, and so are records."""
+    rng = random.Random(32)
+    for _ in range(120):
+        chain = cases.random_chain(rng)
+        file, given, left = chain.file(), r.Table(), []
+        for _ in range(rng.randint(1, 9)):
+            given, left = operation(rng, chain, file, given, left)
+            wanted, joined = afresh(file, left)
+            check(f"table of {left}", given, wanted)
+            size, number = rng.randint(1, 4), rng.randint(0, 4)
+            record = joined[number * size:(number + 1) * size]
+            check(f"record {number} of {left}", r.table_record(file, given, number, size, b"...."),
+                  (r.Done(), record + b"...."[size:]) if len(record) == size else (r.Done(16), b"...."))
+
+
 def joined_equal_payloads():
     """Files that cut the same records and the same payloads differently give the same answers, in the bytes that the struct
     module finds."""
@@ -1082,6 +1331,8 @@ def main():
     section("example: lists", example_lists)
     section("example: channels", example_channels)
     section("example: chain", example_chain)
+    section("example: tables", example_tables)
+    section("example: values through a table", example_table_values)
     section("example: payloads", example_payloads)
     section("example: numbers written", example_written)
     section("example: fields that overlap", example_overlaps)
@@ -1108,6 +1359,13 @@ def main():
     section("rules of a payload's place", rules_of_places)
     section("rules of the order", rules_of_order)
     section("cases of payloads", cases_of_payloads)
+    section("rules of bad tables", rules_of_bad_tables)
+    section("rules of unused places", rules_of_unused_places)
+    section("rules of full tables", rules_of_full_tables)
+    section("rules of the order of an extension", rules_of_extension_order)
+    section("rules of the order of a fetch", rules_of_fetch_order)
+    section("cases of tables", cases_of_tables)
+    section("cases of histories", cases_of_histories)
     section("IEEE 754 vectors", outside_doubles)
     section("Unicode vectors", outside_unicode)
     section("against float() and struct", python_floats)
@@ -1121,6 +1379,8 @@ def main():
     section("against Python's codecs", python_codecs)
     section("chains with the same joined bytes", joined_equal_chains)
     section("payloads with the same joined bytes", joined_equal_payloads)
+    section("tables as their chains", opened_as_chains)
+    section("histories of tables, afresh", histories_afresh)
     section("lines read back", lines_read_back)
     return 1 if failures else 0
 
