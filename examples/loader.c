@@ -37,6 +37,8 @@ static void print_size(const mdf_group *group, uint64_t length, int is_read)
                plural(records), group->record_size);
     if (tail != 0)
         printf(", %" PRIu64 " trailing byte%s ignored", tail, plural(tail));
+    if (group->is_walked)
+        printf("; over %d data blocks, so each fetch walks the chain, which takes longer", MF4_MAX_TABLE_FRAGMENTS);
     if (group->counted != records)
         printf("; the file counts %" PRIu64 " record%s", group->counted, plural(group->counted));
     printf("\n");
@@ -67,16 +69,16 @@ static int show_records(mdf_file *file, const mdf_group *group, size_t count, ui
 }
 
 /* Where a channel or the data cannot be read, what can is shown, and the trouble is told. */
-static int show_group(mdf_file *file, uint64_t address, mdf_group *group)
+static int show_group(mdf_file *file, mdf_group *group)
 {
     size_t count;
     uint64_t length;
     int is_read, is_whole = mdf_read_channels(file, &lists, group, channels, &count);
-    printf("\ndata group at %" PRIu64 "%s%s%s: %u channel%s\n", address, group->name[0] != '\0' ? ", \"" : "", group->name,
-           group->name[0] != '\0' ? "\"" : "", (unsigned)count, plural(count));
+    printf("\ndata group at %" PRIu64 "%s%s%s: %u channel%s\n", group->address, group->name[0] != '\0' ? ", \"" : "",
+           group->name, group->name[0] != '\0' ? "\"" : "", (unsigned)count, plural(count));
     if (!is_whole)
         mdf_complain(file);
-    is_read = mdf_data_length(file, group, &length) || mdf_complain(file);
+    is_read = mdf_open_data(file, group, &length) || mdf_complain(file);
     print_channels(file, group, channels, count, length / group->record_size);
     print_size(group, length, is_read);
     if (count > 0 && length >= group->record_size)
@@ -91,8 +93,8 @@ static int show_groups(mdf_file *file, uint64_t first)
     int is_whole = mdf_list_groups(file, first, groups, &count) || mdf_complain(file);
     for (i = 0; i < count; i++) {
         mdf_group group = { 0 };
-        if (mdf_read_group(file, &lists, groups[i], &group))
-            is_whole = show_group(file, groups[i], &group) && is_whole;
+        if (mdf_read_group(file, groups[i], &group))
+            is_whole = show_group(file, &group) && is_whole;
         else
             is_whole = mdf_complain(file);
         mdf_remove_lists(file, &lists);

@@ -137,32 +137,37 @@ static int is_as_declared(chain_walk *walk, uint64_t number, const char *id, uin
     return 1;
 }
 
-static int is_block_good(chain_walk *walk, uint64_t number)
+/* What a block must be without regard to a list: of its kind, without links, and whole. */
+static int is_block_whole(chain_walk *walk, const char *id, uint64_t address, const mf4_header *header)
 {
-    const uint64_t address = number_in_list(walk, walk->at, walk->list.data_links_at + 8 * number);
-    const mf4_header_reply found = mdf_header_at(walk->file, address);
-    const uint64_t size = found.header.block_len, end = walk->file->length;
-    char id[5];
-    mdf_spell(walk->id, id);
-    if (address == 0 || found.reply != MF4_ANSWER)
-        return bad(walk, MF4_NO_BLOCK_THERE, "data link %" PRIu64 " of ##DL at %" PRIu64 " is %" PRIu64 ", and %s was "
-                   "expected there; the file ends at %" PRIu64, number, walk->at, address, id, end);
-    if (found.header.id != walk->id)
-        return bad_id(walk, MF4_BAD_DATA_BLOCK, address, found.header.id, id);
-    if (found.header.link_count != 0)
+    const uint64_t size = header->block_len, end = walk->file->length;
+    if (header->id != walk->id)
+        return bad_id(walk, MF4_BAD_DATA_BLOCK, address, header->id, id);
+    if (header->link_count != 0)
         return bad(walk, MF4_BAD_DATA_BLOCK, "%s at %" PRIu64 " has %" PRIu64 " links, and none was expected", id, address,
-                   found.header.link_count);
+                   header->link_count);
     if (size < MF4_HEADER_SIZE || size > end - address)
         return bad(walk, MF4_BAD_DATA_BLOCK, "%s at %" PRIu64 " has a length of %" PRIu64 ", and the file ends at %" PRIu64,
                    id, address, size, end);
-    return is_as_declared(walk, number, id, address, size - MF4_HEADER_SIZE);
+    return 1;
 }
 
-static int are_blocks_good(chain_walk *walk)
+static int is_block_good(chain_walk *walk, const char *id, uint64_t number)
+{
+    const uint64_t address = number_in_list(walk, walk->at, walk->list.data_links_at + 8 * number);
+    const mf4_header_reply found = mdf_header_at(walk->file, address);
+    if (address == 0 || found.reply != MF4_ANSWER)
+        return bad(walk, MF4_NO_BLOCK_THERE, "data link %" PRIu64 " of ##DL at %" PRIu64 " is %" PRIu64 ", and %s was "
+                   "expected there; the file ends at %" PRIu64, number, walk->at, address, id, (uint64_t)walk->file->length);
+    return is_block_whole(walk, id, address, &found.header)
+        && is_as_declared(walk, number, id, address, found.header.block_len - MF4_HEADER_SIZE);
+}
+
+static int are_blocks_good(chain_walk *walk, const char *id)
 {
     uint64_t number;
     for (number = 0; number < walk->list.data_link_count; number++)
-        if (!is_block_good(walk, number))
+        if (!is_block_good(walk, id, number))
             return 0;
     return 1;
 }
@@ -175,12 +180,24 @@ int mdf_is_of_chain(uint32_t reply)
         || (reply >= MF4_FILE_TOO_LONG && reply <= MF4_DATA_TOO_LONG);
 }
 
+/* List by list; or the one data block that stands in the chain's place. */
+static void find_bad_block(chain_walk *walk)
+{
+    const mf4_header header = mdf_header_at(walk->file, walk->at).header;
+    int left = MF4_MAX_LISTS;
+    char id[5];
+    mdf_spell(walk->id, id);
+    if (header.id == walk->id)
+        is_block_whole(walk, id, walk->at, &header);
+    else
+        while (left-- > 0 && is_list_good(walk) && are_blocks_good(walk, id) && walk->list.next_addr != 0)
+            walk->at = walk->list.next_addr;
+}
+
 int mdf_blame_chain(mdf_file *file, const char *what, uint64_t start, uint32_t id, uint32_t reply)
 {
     chain_walk walk = { .file = file, .id = id, .at = start };
-    int left = MF4_MAX_LISTS;
-    while (left-- > 0 && is_list_good(&walk) && are_blocks_good(&walk) && walk.list.next_addr != 0)
-        walk.at = walk.list.next_addr;
+    find_bad_block(&walk);
     return mdf_trouble(file, "%s: refused (%" PRIu32 "): %s%s%s", what, reply, mf4_reply_text(reply),
                        walk.reply == reply ? ": " : "", walk.reply == reply ? walk.why : "");
 }

@@ -41,8 +41,17 @@ static int read_texts(mdf_file *file, mdf_channel *channel)
     return 1;
 }
 
+/* The call for payloads reads the records through their chain too: that one is made with the first channel of payloads. */
+static void make_chains(mdf_file *file, mdf_lists *lists, mdf_group *group, mdf_channel *channel)
+{
+    mf4_channel *described = &channel->described;
+    if (group->start == group->data)
+        group->start = mdf_chain_start(file, lists, group->data, group->address);
+    described->data_addr = mdf_chain_start(file, lists, described->data_addr, channel->address);
+}
+
 /* The library is lent the block alone, so that a wrong link count cannot lead it into the next one. */
-static int read_channel(mdf_file *file, mdf_lists *lists, uint64_t address, mdf_channel *channel)
+static int read_channel(mdf_file *file, mdf_lists *lists, mdf_group *group, uint64_t address, mdf_channel *channel)
 {
     mdf_block block;
     mf4_channel_reply read;
@@ -58,7 +67,7 @@ static int read_channel(mdf_file *file, mdf_lists *lists, uint64_t address, mdf_
     if (!read_texts(file, channel))
         return 0;
     if (mdf_place_of(&channel->described) == MDF_PAYLOAD)
-        channel->described.data_addr = mdf_chain_start(file, lists, channel->described.data_addr, address);
+        make_chains(file, lists, group, channel);
     return 1;
 }
 
@@ -70,7 +79,7 @@ static int was_read(const mdf_channel *channels, size_t count, uint64_t address)
     return 0;
 }
 
-int mdf_read_channels(mdf_file *file, mdf_lists *lists, const mdf_group *group, mdf_channel *channels, size_t *count)
+int mdf_read_channels(mdf_file *file, mdf_lists *lists, mdf_group *group, mdf_channel *channels, size_t *count)
 {
     uint64_t address = group->first_channel;
     for (*count = 0; address != 0; address = channels[(*count)++].block.next_ch_addr) {
@@ -78,7 +87,7 @@ int mdf_read_channels(mdf_file *file, mdf_lists *lists, const mdf_group *group, 
             return mdf_trouble(file, "channel at %" PRIu64 ": a list of channels that loops leads there again", address);
         if (*count == MDF_MOST_CHANNELS)
             return mdf_trouble(file, "channel at %" PRIu64 ": over %d channels", address, MDF_MOST_CHANNELS);
-        if (!read_channel(file, lists, address, &channels[*count]))
+        if (!read_channel(file, lists, group, address, &channels[*count]))
             return 0;
     }
     return 1;

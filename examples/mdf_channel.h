@@ -35,8 +35,10 @@ int mdf_is_read(const mf4_channel *channel);
 
 int mdf_is_master(const mf4_channel *channel);
 
-/* The channels of a group, into a table with room for MDF_MOST_CHANNELS; where it gives 0, those in front of the trouble. */
-int mdf_read_channels(mdf_file *file, mdf_lists *lists, const mdf_group *group, mdf_channel *channels, size_t *count);
+/* The channels of a group, into an array with room for MDF_MOST_CHANNELS; where it gives 0, those in front of the trouble. A
+ * single block of payloads gets a list, and so does one of records if there are payloads; these are to be removed when the
+ * group has been read. */
+int mdf_read_channels(mdf_file *file, mdf_lists *lists, mdf_group *group, mdf_channel *channels, size_t *count);
 
 /* The first channel of that name, or NULL. */
 const mdf_channel *mdf_find_channel(const mdf_channel *channels, size_t count, const char *name);

@@ -93,28 +93,42 @@ static int read_channel_group(mdf_file *file, uint64_t address, mdf_group *group
     return mdf_read_text(file, "group name", mdf_link(&block, CG_NAME), group->name);
 }
 
-int mdf_read_group(mdf_file *file, mdf_lists *lists, uint64_t address, mdf_group *group)
+int mdf_read_group(mdf_file *file, uint64_t address, mdf_group *group)
 {
     mdf_block block;
     if (!mdf_find_block(file, "data group", address, MF4_ID_DG, DG_LINKS, DG_FIELDS, &block))
         return 0;
+    group->address = address;
     group->data = mdf_link(&block, DG_DATA);
+    group->start = group->data;
     group->layout.record_id_size = block.fields[DG_RECORD_ID_SIZE];
-    if (!read_channel_group(file, mdf_link(&block, DG_FIRST_CG), group))
-        return 0;
-    group->start = mdf_chain_start(file, lists, group->data, address);
-    return 1;
+    return read_channel_group(file, mdf_link(&block, DG_FIRST_CG), group);
 }
 
-int mdf_data_length(mdf_file *file, const mdf_group *group, uint64_t *length)
+/* The table of a chain; or of the one data block that is linked in its place, added to an empty table. */
+static uint32_t open_table(const mdf_file *file, mdf_group *group)
 {
-    mf4_length_reply data;
+    if (mdf_header_at(file, group->data).header.id != MF4_ID_DT)
+        return mf4_open_table(file->bytes, file->length, group->data, &group->table).reply;
+    memset(&group->table, 0, sizeof group->table);
+    return mf4_extend_table(file->bytes, file->length, group->data, &group->table).reply;
+}
+
+/* A chain that is only too long for a table is accepted, and its length is asked for. */
+int mdf_open_data(mdf_file *file, mdf_group *group, uint64_t *length)
+{
+    uint32_t reply;
     char what[64];
     *length = 0;
     if (group->data == 0)
         return 1;
-    data = mf4_data_length(file->bytes, file->length, group->start);
-    *length = data.length;
+    reply = open_table(file, group);
+    group->is_walked = reply == MF4_TABLE_FULL;
+    if (reply == MF4_ANSWER || group->is_walked) {
+        *length = group->is_walked ? mf4_data_length(file->bytes, file->length, group->data).length
+                                   : group->table.data_length;
+        return 1;
+    }
     snprintf(what, sizeof what, "data at %" PRIu64, group->data);
-    return data.reply == MF4_ANSWER || mdf_blame_chain(file, what, group->start, MF4_ID_DT, data.reply);
+    return mdf_blame_chain(file, what, group->data, MF4_ID_DT, reply);
 }

@@ -22,9 +22,12 @@ typedef struct mdf_start {
 
 /* A data group with its one channel group. */
 typedef struct mdf_group {
+    uint64_t address;       /* of its data group block                                                  */
     uint64_t first_channel; /* the first channel's address, or 0                                        */
     uint64_t data;          /* the address of the first data list or of the one data block; 0: no data  */
-    uint64_t start;         /* of the chain for the library                                             */
+    uint64_t start;         /* the same, until a list of the one data block is written for payloads     */
+    mf4_table table;        /* where the data blocks stand: a fetch need not walk along the chain       */
+    int is_walked;          /* but it does, where there are too many blocks for a table                 */
     mf4_group layout;
     uint64_t record_size;   /* the sum of the layout's three numbers, 1 to 16,384                       */
     uint64_t counted;       /* how many records the channel group counts                                */
@@ -37,10 +40,11 @@ int mdf_read_start(mdf_file *file, mdf_start *start);
 /* The addresses of the data groups; where it gives 0, of those in front of the trouble. */
 int mdf_list_groups(mdf_file *file, uint64_t first, uint64_t groups[MDF_MOST_GROUPS], size_t *count);
 
-/* A single data block gets a list, which is to be removed when the group has been read. */
-int mdf_read_group(mdf_file *file, mdf_lists *lists, uint64_t address, mdf_group *group);
+/* The group is all 0 to begin with. */
+int mdf_read_group(mdf_file *file, uint64_t address, mdf_group *group);
 
-/* How many bytes of records the group has. Where the chain is refused, `trouble` names the first bad block. */
-int mdf_data_length(mdf_file *file, const mdf_group *group, uint64_t *length);
+/* Makes the group's table, and gives how many bytes of records there are; of a group without data, 0. Where the chain is
+ * refused, `trouble` names the first bad block. */
+int mdf_open_data(mdf_file *file, mdf_group *group, uint64_t *length);
 
 #endif

@@ -6,8 +6,11 @@ mf4_done_reply mdf_read_record(mdf_record *record)
 {
     const mdf_file *file = record->file;
     const mdf_group *group = record->group;
-    return mf4_read_record(file->bytes, file->length, group->start, record->number, group->record_size, record->bytes,
-                           sizeof record->bytes);
+    if (group->is_walked)
+        return mf4_read_record(file->bytes, file->length, group->start, record->number, group->record_size, record->bytes,
+                               sizeof record->bytes);
+    return mf4_table_record(file->bytes, file->length, &group->table, record->number, group->record_size, record->bytes,
+                            sizeof record->bytes);
 }
 
 static int make_room(mdf_record *record, uint64_t size)

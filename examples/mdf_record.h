@@ -22,7 +22,8 @@ typedef struct mdf_value {
     const uint8_t *bytes;
 } mdf_value;
 
-/* Each call walks the chain, so a record is read once, and every channel is decoded from it. */
+/* Through the group's table, or along its chain where there is none. A record is read once, and every channel is decoded from
+ * it. */
 mf4_done_reply mdf_read_record(mdf_record *record);
 
 /* As mf4_record_payload; it refuses with 6 only where there is no memory for the payload. */

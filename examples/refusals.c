@@ -1,8 +1,8 @@
 /*
- * What the library says of a log that is damaged. Five damages are made up, each in a copy of what the log says, and each
+ * What the library says of a log that is damaged. Six damages are made up, each in a copy of what the log says, and each
  * must be refused: a record behind the last one, a field that a wrong description puts past its record's end, an invalidation
- * bit that one puts past the group's invalidation bytes, a payload whose position is read from a wrong place, and a block that
- * is too short for its place in the chain.
+ * bit that one puts past the group's invalidation bytes, a payload whose position is read from a wrong place, a log that has
+ * lost its end since its table was made, and a block that is too short for its place in the chain.
  *
  *     refusals FILE
  *
@@ -135,9 +135,27 @@ static void show_payload_outside(const mdf_file *file, const mdf_group *group, s
     free(record.payload);
 }
 
+/* Fetches a record by the table of the whole log from one whose last data block has lost a byte. */
+static int show_cut_log(mdf_file *file, const mdf_group *group)
+{
+    const mf4_table *table = &group->table;
+    const mf4_fragment *last;
+    mdf_file cut = *file;
+    mdf_record record = { .file = &cut, .group = group };
+    uint32_t reply;
+    if (table->fragment_count == 0)
+        return 1;
+    last = &table->fragments[table->fragment_count - 1];
+    cut.length = (size_t)(last->block_addr + MF4_HEADER_SIZE + table->data_length - last->data_position - 1);
+    reply = mdf_read_record(&record).reply;
+    printf("\nthe same log cut at %" PRIu64 ", inside its last data block, and read by the table of the whole log:\n"
+           "  refused (%" PRIu32 "): %s\n", (uint64_t)cut.length, reply, mf4_reply_text(reply));
+    return reply == MF4_BAD_TABLE || mdf_trouble(file, "the table of another file should be refused");
+}
+
 /* Takes a byte from the last block of the chain's first list, in the copy. Where lists declare one length, only the very last
  * block may be shorter: whoever finds records by that length would read all behind a short one from the wrong place. */
-static int show_short_block(mdf_file *file, const mdf_group *group)
+static int show_short_block(mdf_file *file, mdf_group *group)
 {
     const uint8_t *start = file->bytes + group->start;
     const mf4_list_reply list = mf4_read_list(start, file->length - (size_t)group->start);
@@ -151,7 +169,7 @@ static int show_short_block(mdf_file *file, const mdf_group *group)
         return 1;
     header.block_len--;
     mf4_write_header(header, file->bytes + block, MF4_HEADER_SIZE);
-    if (mdf_data_length(file, group, &length))
+    if (mdf_open_data(file, group, &length))
         return mdf_trouble(file, "the short block should be refused");
     printf("\nthe same log with a short block in the middle of the chain, at %" PRIu64 ":\n  %s\n", block, file->trouble);
     return 1;
@@ -165,17 +183,17 @@ static int show_file(mdf_file *file)
     uint64_t length;
     size_t count;
     if (!mdf_read_start(file, &start) || !mdf_list_groups(file, start.first_group, groups, &count)
-        || !mdf_read_group(file, &lists, groups[0], &group) || !mdf_data_length(file, &group, &length)
+        || !mdf_read_group(file, groups[0], &group) || !mdf_open_data(file, &group, &length)
         || !mdf_read_channels(file, &lists, &group, channels, &count))
         return 0;
     if (length == 0)
         return mdf_trouble(file, "the first group has no data");
-    printf("\nFive damages, made up here, and what the library says of each:\n");
+    printf("\nSix damages, made up here, and what the library says of each:\n");
     if (!show_record_behind(file, &group, length) || !show_field_outside(file, &group, count)
         || !show_bit_outside(file, &group, count, length / group.record_size))
         return 0;
     show_payload_outside(file, &group, count);
-    return show_short_block(file, &group);
+    return show_cut_log(file, &group) && show_short_block(file, &group);
 }
 
 int main(int count, char **words)

@@ -1,5 +1,5 @@
 /*
- * The table of a group's records: a column for each channel, as wide as most of its values need.
+ * The table of a group's records, as it is printed: a column for each channel, as wide as most of its values need.
  */
 #ifndef TABLE_H
 #define TABLE_H

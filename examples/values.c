@@ -12,6 +12,8 @@ static const char *path;
 static uint8_t *file;        /* a copy of the log: it must not change while it is read */
 static size_t file_len;
 static uint64_t start, size; /* where the chain of records starts; the bytes of a record */
+static mf4_table table;      /* where the data blocks stand: a fetch need not walk along the chain */
+static int is_walked;        /* but it does, where there are too many blocks for a table */
 static mf4_group group;
 static mf4_channel channels[MOST_CHANNELS];
 static uint8_t record[MF4_MAX_RECORD_SIZE], payload[MF4_MAX_RECORD_SIZE];
@@ -74,6 +76,24 @@ static size_t read_channels(uint64_t address)
     return found;
 }
 
+/* A table holds 512 data blocks. A chain of more is sound all the same, and is read without one. */
+static void open_table(void)
+{
+    uint32_t reply = mf4_open_table(file, file_len, start, &table).reply;
+    is_walked = reply == MF4_TABLE_FULL;
+    if (is_walked)
+        fprintf(stderr, "%s: %s, so each fetch walks the chain, which takes longer\n", path, mf4_reply_text(reply));
+    stop_if(reply != MF4_ANSWER && !is_walked, mf4_reply_text(reply));
+}
+
+/* Record k, into `record`. */
+static uint32_t fetch(uint64_t k)
+{
+    if (is_walked)
+        return mf4_read_record(file, file_len, start, k, size, record, sizeof record).reply;
+    return mf4_table_record(file, file_len, &table, k, size, record, sizeof record).reply;
+}
+
 static void print_value(mf4_valid_value_reply v, const uint8_t *bytes, uint8_t data_type)
 {
     if (v.reply != MF4_ANSWER)
@@ -126,13 +146,13 @@ int main(int count, char **words)
     size = group.record_id_size + group.data_bytes + group.invalidation_bytes;
     start = chain_at(number_at(data_group + 40, 8), data_group);
     size_t found = read_channels(number_at(channel_group + 32, 8));
-    uint32_t reply = mf4_read_record(file, file_len, start, 0, size, record, sizeof record).reply;
-    for (uint64_t k = 0; reply == MF4_ANSWER; k++) {
+    open_table();
+    uint32_t reply;
+    for (uint64_t k = 0; (reply = fetch(k)) == MF4_ANSWER; k++) {
         printf("record %" PRIu64 ":", k);
         for (size_t i = 0; i < found; i++)
             print_channel(k, channels[i]);
         printf("\n");
-        reply = mf4_read_record(file, file_len, start, k + 1, size, record, sizeof record).reply;
     }
     stop_if(reply != MF4_NO_SUCH_RECORD, mf4_reply_text(reply)); /* that one marks the end */
     return 0;

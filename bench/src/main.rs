@@ -7,8 +7,8 @@
 //! A row has up to four sides: the library through its archive; the crate at the same kind of border, where each call is
 //! that of a function compiled apart; the crate inlined, compiled together with its loop; and a copy of the bytes that
 //! the row reads. Where a number is written, which the crate does only with a whole file, a plain store in C, compiled apart,
-//! stands in the crate's place, in a table of its own. Before a row is measured, the answers of all sides but the copy must
-//! be the same.
+//! stands in the crate's place, in a table of its own; and where a record is fetched through a table of fragments, the fetch
+//! along the chain does, in another. Before a row is measured, the answers of all sides but the copy must be the same.
 
 mod border;
 #[path = "../../compare/src/c.rs"]

@@ -10,7 +10,7 @@ pub struct Row {
     /// Where the crate has such a call.
     pub border: Option<Pass>,
     pub inlined: Option<Pass>,
-    /// Where a plain store does the same.
+    /// Where a plain store does the same, or, of a table, a walk along the chain.
     pub plain: Option<Pass>,
     pub copy: Pass,
 }

@@ -6,6 +6,7 @@ mod lists;
 mod mixes;
 mod numbers;
 mod remarks;
+mod tables;
 mod texts;
 mod written;
 
@@ -29,8 +30,13 @@ pub fn of_stores() -> Vec<Plan> {
     written::plans()
 }
 
+/// Those beside the same along a chain.
+pub fn of_tables() -> Vec<Plan> {
+    tables::plans()
+}
+
 pub fn all() -> Vec<Plan> {
-    of_crate().into_iter().chain(of_stores()).collect()
+    [of_crate(), of_tables(), of_stores()].into_iter().flatten().collect()
 }
 
 /// A field that starts with a byte, of records that say nothing of validity.

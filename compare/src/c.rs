@@ -207,6 +207,21 @@ pub struct LengthReply {
 
 #[repr(C)]
 #[derive(Clone, Copy)]
+pub struct Fragment {
+    pub block_addr: u64,
+    pub data_position: u64,
+}
+
+#[repr(C)]
+#[derive(Clone, Copy)]
+pub struct Table {
+    pub fragment_count: u64,
+    pub data_length: u64,
+    pub fragments: [Fragment; 512],
+}
+
+#[repr(C)]
+#[derive(Clone, Copy)]
 pub struct PayloadReply {
     pub reply: u32,
     pub told: u64,
@@ -286,6 +301,29 @@ extern "C" {
         file: *const u8,
         file_len: usize,
         start: u64,
+        number: u64,
+        record_size: u64,
+        group: Group,
+        channel: Channel,
+        buffer: *mut u8,
+        buffer_room: usize,
+    ) -> ValidValueReply;
+    pub fn mf4_open_table(file: *const u8, file_len: usize, start: u64, table: *mut Table) -> DoneReply;
+    pub fn mf4_extend_table(file: *const u8, file_len: usize, block_addr: u64, table: *mut Table) -> DoneReply;
+    pub fn mf4_shorten_table(table: *mut Table) -> DoneReply;
+    pub fn mf4_table_record(
+        file: *const u8,
+        file_len: usize,
+        table: *const Table,
+        number: u64,
+        record_size: u64,
+        buffer: *mut u8,
+        buffer_room: usize,
+    ) -> DoneReply;
+    pub fn mf4_table_value(
+        file: *const u8,
+        file_len: usize,
+        table: *const Table,
         number: u64,
         record_size: u64,
         group: Group,

@@ -49,8 +49,29 @@ static void change_blocks(void)
     must_hold(times_said("8 channels\n") == 1 && times_said("  byte 31; ") == 1, "channels without data", 0);
 }
 
+/* The data link leads to a block without a list. Where the channels end in front of the payloads, no list is made of it. */
+static void change_to_single_block(void)
+{
+    const uint64_t data = block("##DT", 0), link = link_at("##DG", 0, 2);
+    changed(link, block("##SD", 0), 8, 1, ": ##SD stands at 1232, and ##DL or ##DT was expected\n");
+    changed(link, data, 8, 0, "55 bytes, 1 record of 48, 7 trailing bytes ignored; the file counts 6 records\n");
+    must_hold(times_said("  00 01   \xC5\x81\xC3\xB3" "d\xC5\xBA, dock 3      -\n") == 1, "a single block and payloads", 0);
+    put(link_at("##CN", STATUS, 0), 0, 8);
+    must_say(&bad, "a single block alone", 0, " PX1                      180          71.5         86.75  00 01\n");
+    put(data + 16, 1, 8);
+    must_say(&bad, "a single block with a link", 1, "kind: ##DT at 640 has 1 links, and none was expected\n");
+    put(data + 16, 0, 8);
+    put(data + 8, good.length - data + 1, 8);
+    must_say(&bad, "a single block past the end", 1, ": ##DT at 640 has a length of 2873, and the file ends at 3512\n");
+    put(data + 8, 23, 8);
+    must_say(&bad, "a single block without a header", 1, ": ##DT at 640 has a length of 23, and the file ends at 3512\n");
+    put(data + 8, 24, 8);
+    must_say(&bad, "a single block without data", 0, ": 0 bytes, 0 records of 48; the file counts 6 records\n");
+}
+
 void damage_chains(void)
 {
     change_lists();
     change_blocks();
+    change_to_single_block();
 }

@@ -17,10 +17,22 @@ def put(data, at, number, size):
     data[at:at + size] = number.to_bytes(size, "little")
 
 
-def addresses(data, kind):
+def visited(data):
     log = legal.Log(bytes(data))
     log.visit(64, "HD")
-    return [address for address, block in sorted(log.blocks.items()) if block[0] == kind]
+    return log
+
+
+def addresses(data, kind):
+    return [address for address, block in sorted(visited(data).blocks.items()) if block[0] == kind]
+
+
+def add_block(data, kind, links, rest):
+    """A block behind all others; gives its address."""
+    data += bytes(-len(data) % 8)
+    address, length = len(data), 24 + 8 * len(links) + len(rest)
+    data += struct.pack(f"<4s4xQQ{len(links)}Q", b"##" + kind.encode(), length, len(links), *links) + rest
+    return address
 
 
 def no_link(data):
@@ -52,16 +64,13 @@ def bit_outside(data):
 
 def single(data):
     """The records, the sites and the remarks each in a single block, without a list."""
-    log = legal.Log(bytes(data))
-    log.visit(64, "HD")
+    log = visited(data)
     for kind, link, data_kind in ("DG", 2, "DT"), ("CN", 5, "SD"):
         for address in addresses(data, kind):
             target = log.blocks[address][2][link]
             if target:
-                joined = legal.joined_data(log, target, data_kind)
-                data += bytes(-len(data) % 8)
-                put(data, address + 24 + 8 * link, len(data), 8)
-                data += struct.pack("<4s4xQQ", b"##" + data_kind.encode(), 24 + len(joined), 0) + joined
+                block = add_block(data, data_kind, [], legal.joined_data(log, target, data_kind))
+                put(data, address + 24 + 8 * link, block, 8)
 
 
 def loop(data):
@@ -82,10 +91,39 @@ def cut_single(data):
     del data[-1:]
 
 
+def in_blocks(data, count):
+    """The records in so many blocks, a byte in each as far as they go, and one list with offsets; gives its address."""
+    log, group = visited(data), addresses(data, "DG")[0]
+    joined = legal.joined_data(log, log.blocks[group][2][2], "DT")
+    links = [add_block(data, "DT", [], joined[number:][:1]) for number in range(count)]
+    offsets = [min(number, len(joined)) for number in range(count)]
+    rest = struct.pack(f"<B3xI{count}Q", 0, count, *offsets)
+    chain = add_block(data, "DL", [0, *links], rest)
+    put(data, group + 40, chain, 8)
+    return chain
+
+
+def full_table(data):
+    """As many blocks as a table holds."""
+    in_blocks(data, 512)
+
+
+def many_blocks(data):
+    """One block more."""
+    in_blocks(data, 513)
+
+
+def many_and_bad(data):
+    """One block more, and the link to it is 0."""
+    put(data, in_blocks(data, 513) + 32 + 8 * 512, 0, 8)
+
+
 def main():
     with open(sys.argv[1], "rb") as file:
         good = file.read()
-    for change in no_link, no_size, unsorted, types, bit_outside, single, loop, long, cut_single:
+    changes = (no_link, no_size, unsorted, types, bit_outside, single, loop, long, cut_single, full_table, many_blocks,
+               many_and_bad)
+    for change in changes:
         data = bytearray(good)
         change(data)
         with open(os.path.join(sys.argv[2], change.__name__ + ".mf4"), "wb") as file:
