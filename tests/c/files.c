@@ -2,6 +2,8 @@
 
 #include <string.h>
 
+#include "lent_tables.h"
+
 static struct {
     uint8_t bytes[MOST_LENT];
     size_t length;
@@ -83,9 +85,29 @@ void make_uncut_file(void)
     put_data(64, 1, 6);
 }
 
-lent lend_file(void) { return built.length == 0 ? no_bytes() : lend_copy(INPUT, built.bytes, built.length); }
+size_t make_wide_list(size_t count, size_t size)
+{
+    size_t end = START + 24 + 8 + 8 * count + 8 + 8, i;
+    start_file(end + 24 + size);
+    put_block(START, "##DL", end - START, count + 1);
+    for (i = 0; i < count; i++)
+        put(40 + 8 * i, end, 8);
+    put(40 + 8 * count, MF4_LIST_EQUAL_LENGTH, 1), put(44 + 8 * count, count, 4), put(48 + 8 * count, size, 8);
+    put_data(end, 1, size);
+    return end;
+}
 
-int fetched_is(mf4_done_reply a, uint32_t reply, uint64_t told) { return a.reply == reply && a.told == told; }
+size_t add_narrow_list(size_t block)
+{
+    size_t at = file_length();
+    cut_file(at + 56);
+    put(32, at, 8);
+    put_block(at, "##DL", 56, 2);
+    put(at + 32, block, 8), put(at + 40, MF4_LIST_EQUAL_LENGTH, 1), put(at + 44, 1, 4), put(at + 48, 2, 8);
+    return at;
+}
+
+lent lend_file(void) { return built.length == 0 ? no_bytes() : lend_copy(INPUT, built.bytes, built.length); }
 
 int length_is(mf4_length_reply a, uint32_t reply, uint64_t told, uint64_t length)
 {
@@ -104,24 +126,28 @@ static int length_agrees(mf4_length_reply length, mf4_done_reply fetched)
 
 mf4_done_reply fetch(uint64_t start, uint64_t number, uint64_t record_size, lent buffer)
 {
-    lent file = lend_file();
+    lent file = lend_file(), table = lend_opened(file, start), twin = lend_copy(TWIN_OUTPUT, buffer.bytes, buffer.length);
     mf4_done_reply answer = mf4_read_record(file.bytes, file.length, start, number, record_size, buffer.bytes,
                                             buffer.length);
     CHECK(length_agrees(mf4_data_length(file.bytes, file.length, start), answer));
     CHECK(is_unchanged(file));
+    if (table.bytes != NULL) {
+        CHECK(done_is(fetch_by(file, table, number, record_size, twin), answer.reply, answer.told));
+        CHECK(same_bytes(twin.bytes, buffer.bytes, buffer.length));
+    }
     return answer;
 }
 
 int fetches(uint64_t number, uint64_t record_size, const char *record)
 {
     lent buffer = lend_marked(OUTPUT, (size_t)record_size + 5);
-    return fetched_is(fetch(START, number, record_size, buffer), 0, 0) && holds_only_hex(buffer, record);
+    return done_is(fetch(START, number, record_size, buffer), 0, 0) && holds_only_hex(buffer, record);
 }
 
 int refuses_from(uint64_t start, uint64_t number, uint64_t record_size, uint32_t reply, uint64_t told)
 {
     lent buffer = lend_marked(OUTPUT, (size_t)record_size);
-    return fetched_is(fetch(start, number, record_size, buffer), reply, told) && is_unchanged(buffer);
+    return done_is(fetch(start, number, record_size, buffer), reply, told) && is_unchanged(buffer);
 }
 
 int refuses(uint64_t number, uint64_t record_size, uint32_t reply)

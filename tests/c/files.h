@@ -40,12 +40,18 @@ void make_pair_file(void);
 /* 01 to 06 in one block at 64 of a list with one length, which may be too long, since the block is the chain's last. */
 void make_uncut_file(void);
 
+/* One list with one length and `count` links to one block of `size` bytes behind it. Gives the block's address. */
+size_t make_wide_list(size_t count, size_t size);
+
+/* Behind the wide list's file: a list with one more link to its block, named by the wide list's next. Gives its address. */
+size_t add_narrow_list(size_t block);
+
 /* The file lent as it stands. */
 lent lend_file(void);
 
-/* Each fetch is also a check that mf4_data_length answers, or refuses alike. */
+/* Each fetch is also a check that mf4_data_length answers, or refuses alike, and that a table of the chain, if there is one,
+ * gives the same. */
 mf4_done_reply fetch(uint64_t start, uint64_t number, uint64_t record_size, lent buffer);
-int fetched_is(mf4_done_reply a, uint32_t reply, uint64_t told);
 
 int fetches(uint64_t number, uint64_t record_size, const char *record);
 int refuses(uint64_t number, uint64_t record_size, uint32_t reply);

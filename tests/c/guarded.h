@@ -12,7 +12,7 @@
 #include <stdint.h>
 
 enum { MOST_LENT = 1 << 18, MARK = 0xA5 };
-enum role { INPUT, TWIN_INPUT, OUTPUT, TWIN_OUTPUT, LINKS, OFFSETS, ROLES };
+enum role { INPUT, TWIN_INPUT, OUTPUT, TWIN_OUTPUT, LINKS, OFFSETS, TABLE, ROLES };
 enum placement { BEFORE_A_GUARD, AFTER_A_GUARD, ON_THE_HEAP, PLACEMENTS };
 
 typedef struct lent {

@@ -17,6 +17,8 @@ int write_refused(mf4_written_reply a, uint32_t reply, uint64_t told)
     return a.reply == reply && a.told == told && a.count == 0;
 }
 
+int done_is(mf4_done_reply a, uint32_t reply, uint64_t told) { return a.reply == reply && a.told == told; }
+
 static int header_refused(mf4_header_reply a, uint32_t reply, uint64_t told)
 {
     return a.reply == reply && a.told == told && is_header(a.header, 0, 0, 0, 0);
@@ -73,7 +75,7 @@ static void check_reply_texts(void)
     uint32_t reply;
     name_case("replies in words");
     for (reply = 0; reply <= 40; reply++)
-        CHECK((strcmp(mf4_reply_text(reply), no_reply) != 0) == ((reply <= 29 && reply != 1) || reply == 35));
+        CHECK((strcmp(mf4_reply_text(reply), no_reply) != 0) == ((reply <= 32 && reply != 1) || reply == 35));
 }
 
 void check_headers(void)

@@ -121,6 +121,16 @@ static void check_names_of_refused_areas(void)
     CHECK(MF4_CHANNEL_ALL_INVALID == 1 && MF4_CHANNEL_INVALIDATION_BIT == 2);
 }
 
+static void check_names_of_refused_tables(void)
+{
+    name_case("names of a table's refusals");
+    CHECK(MF4_TABLE_FULL == 30 && strcmp(mf4_reply_text(30), "the table would have over 512 data blocks") == 0);
+    CHECK(MF4_TABLE_EMPTY == 31 && strcmp(mf4_reply_text(31), "the table has no data block to give up") == 0);
+    CHECK(MF4_BAD_TABLE == 32
+          && strcmp(mf4_reply_text(32), "the table is damaged, or a data block of it ends behind the file") == 0);
+    CHECK(MF4_MAX_TABLE_FRAGMENTS == 512 && sizeof(mf4_table) == 8208);
+}
+
 static void check_reply_of_helpers(void)
 {
     name_case("the helpers' own reply");
@@ -139,5 +149,6 @@ void check_helpers(void)
     check_names_of_refused_payloads();
     check_names_of_refused_numbers();
     check_names_of_refused_areas();
+    check_names_of_refused_tables();
     check_reply_of_helpers();
 }

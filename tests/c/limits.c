@@ -114,6 +114,10 @@ static void check_everything(void)
     check_long_chains();
     check_long_files();
     check_single_blocks();
+    check_tables();
+    check_table_histories();
+    check_table_records();
+    check_bad_tables();
     check_payloads();
     check_refused_payloads();
 }

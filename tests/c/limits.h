@@ -34,6 +34,7 @@ int holds_only_hex(lent slice, const char *text);
 int is_header(mf4_header a, uint32_t id, uint32_t reserved0, uint64_t block_len, uint64_t link_count);
 int written_is(mf4_written_reply a, uint64_t count);
 int write_refused(mf4_written_reply a, uint32_t reply, uint64_t told);
+int done_is(mf4_done_reply a, uint32_t reply, uint64_t told);
 
 /* One function for each subject, in the file of its name. */
 void check_headers(void);
@@ -55,6 +56,10 @@ void check_one_length(void);
 void check_long_chains(void);
 void check_long_files(void);
 void check_single_blocks(void);
+void check_tables(void);
+void check_table_histories(void);
+void check_table_records(void);
+void check_bad_tables(void);
 void check_payloads(void);
 void check_refused_payloads(void);
 

@@ -32,30 +32,6 @@ static void check_many_lists(void)
     CHECK(refuses(0, 1, 8));   /* two that name each other */
 }
 
-/* One list with one length and `count` links to one block of `size` bytes behind it. Gives the list's end. */
-static size_t make_wide_list(size_t count, size_t size)
-{
-    size_t end = START + 24 + 8 + 8 * count + 8 + 8, i;
-    start_file(end + 24 + size);
-    put_block(START, "##DL", end - START, count + 1);
-    for (i = 0; i < count; i++)
-        put(40 + 8 * i, end, 8);
-    put(40 + 8 * count, MF4_LIST_EQUAL_LENGTH, 1), put(44 + 8 * count, count, 4), put(48 + 8 * count, size, 8);
-    put_data(end, 1, size);
-    return end;
-}
-
-/* Behind the wide list's file: a list with one more link to its block, named by the wide list's next. Gives its address. */
-static size_t add_narrow_list(size_t block)
-{
-    size_t at = file_length();
-    cut_file(at + 56);
-    put(32, at, 8);
-    put_block(at, "##DL", 56, 2);
-    put(at + 32, block, 8), put(at + 40, MF4_LIST_EQUAL_LENGTH, 1), put(at + 44, 1, 4), put(at + 48, 2, 8);
-    return at;
-}
-
 static void check_many_fragments(void)
 {
     name_case("4,096 and 4,097 fragments");

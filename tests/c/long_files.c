@@ -1,6 +1,6 @@
 /* A file of 2^40 bytes, and of one more. */
 #define _DEFAULT_SOURCE
-#include "files.h"
+#include "lent_tables.h"
 #include "values.h"
 
 #include <stdio.h>
@@ -40,14 +40,55 @@ static void check_long_file(const uint8_t *file, long_case a)
 {
     lent buffer = lend_marked(OUTPUT, 8);
     CHECK(length_is(mf4_data_length(file, a.length, a.start), a.reply, 0, 0));
-    CHECK(fetched_is(mf4_read_record(file, a.length, a.start, 0, 8, buffer.bytes, 8), a.reply, 0));
-    CHECK(fetched_is(mf4_read_record(file, a.length, a.start, 0, 9, buffer.bytes, 8), 15, 0));
+    CHECK(done_is(mf4_read_record(file, a.length, a.start, 0, 8, buffer.bytes, 8), a.reply, 0));
+    CHECK(done_is(mf4_read_record(file, a.length, a.start, 0, 9, buffer.bytes, 8), 15, 0));
     CHECK(valid_value_refused(mf4_record_value(file, a.length, a.start, 0, 8, group, byte, buffer.bytes, 8), a.reply, 0));
     CHECK(valid_value_refused(mf4_record_value(file, a.length, a.start, 0, 9, group, byte, buffer.bytes, 8), 15, 0));
     CHECK(payload_refused(ask_payload(file, a, 8, position, buffer), a.reply, 0));
     CHECK(payload_refused(ask_payload(file, a, 9, position, buffer), 15, 0));
     CHECK(payload_refused(ask_payload(file, a, 9, byte, buffer), 35, 0));
     CHECK(is_unchanged(buffer));
+}
+
+/* Its length comes before what is wrong with the table, and behind the record's size. */
+static void check_long_file_of_table(const uint8_t *file, long_case a)
+{
+    static const mf4_table bad = { 0, 1, { { 0, 0 } } };
+    const uint32_t reply = a.reply == 7 ? 7 : 32;
+    lent buffer = lend_marked(OUTPUT, 8), table = lend_marked(TABLE, sizeof bad);
+    CHECK(done_is(mf4_open_table(file, a.length, a.start, table_in(table)), a.reply, 0) && is_unchanged(table));
+    table = lend_table(&bad);
+    CHECK(done_is(mf4_extend_table(file, a.length, a.start, table_in(table)), reply, 0));
+    CHECK(done_is(mf4_table_record(file, a.length, table_in(table), 0, 8, buffer.bytes, 8), reply, 0));
+    CHECK(done_is(mf4_table_record(file, a.length, table_in(table), 0, 9, buffer.bytes, 8), 15, 0));
+    CHECK(valid_value_refused(mf4_table_value(file, a.length, table_in(table), 0, 8, group, byte, buffer.bytes, 8), reply, 0));
+    CHECK(valid_value_refused(mf4_table_value(file, a.length, table_in(table), 0, 9, group, byte, buffer.bytes, 8), 15, 0));
+    CHECK(is_unchanged(table) && is_unchanged(buffer));
+}
+
+typedef struct long_table {
+    mf4_table table;
+    uint64_t number;
+    uint32_t reply;
+} long_table;
+
+/* Up to the last byte of the longest file, and one byte behind it. */
+static const long_table long_tables[] = {
+    { { 1, 1, { { LONGEST - 25, 0 } } }, 0, 0 }, { { 1, 1, { { LONGEST - 24, 0 } } }, 0, 32 },
+    { { 1, 0, { { LONGEST - 24, 0 } } }, 0, 16 }, { { 1, 0, { { LONGEST - 23, 0 } } }, 0, 32 },
+    { { 1, LONGEST - 24, { { 0, 0 } } }, LONGEST - 25, 0 }, { { 1, LONGEST - 24, { { 0, 0 } } }, LONGEST - 24, 16 },
+    { { 1, LONGEST - 23, { { 0, 0 } } }, 0, 32 }, { { 2, LONGEST, { { 0, 0 }, { 16, LONGEST - 24 } } }, LONGEST - 1, 0 },
+};
+
+static void check_long_table(const uint8_t *file, long_table a)
+{
+    lent table = lend_table(&a.table), buffer = lend_marked(OUTPUT, 1);
+    const int is_bad = a.reply == 32;
+    CHECK(done_is(mf4_table_record(file, LONGEST, table_in(table), a.number, 1, buffer.bytes, 1), a.reply, 0));
+    CHECK(buffer.bytes[0] == (a.reply == MF4_ANSWER ? 0 : MARK));
+    CHECK(done_is(mf4_extend_table(file, LONGEST, LONGEST - 23, table_in(table)), is_bad ? 32 : 11, 0));
+    CHECK(done_is(mf4_extend_table(file, LONGEST, LONGEST - 24, table_in(table)), is_bad ? 32 : 12, 0));
+    CHECK(is_unchanged(table));
 }
 
 void check_long_files(void)
@@ -61,6 +102,11 @@ void check_long_files(void)
     for (i = 0; i < COUNT(long_cases); i++) {
         name_row("files of 2^40 bytes and one more", i);
         check_long_file(file, long_cases[i]);
+        check_long_file_of_table(file, long_cases[i]);
+    }
+    for (i = 0; i < COUNT(long_tables); i++) {
+        name_row("tables of a file of 2^40 bytes", i);
+        check_long_table(file, long_tables[i]);
     }
     munmap(file, LONGEST + 1);
 }

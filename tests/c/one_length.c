@@ -41,7 +41,7 @@ static const struct { laid_chain lists; uint64_t length; } whole_chains[] = {
 static int counts_on(uint64_t number, uint64_t size)
 {
     lent buffer = lend_marked(OUTPUT, (size_t)size);
-    int is_right = fetched_is(fetch(START, number, size, buffer), MF4_ANSWER, 0);
+    int is_right = done_is(fetch(START, number, size, buffer), MF4_ANSWER, 0);
     size_t i;
     for (i = 0; i < size; i++)
         is_right &= buffer.bytes[i] == (uint8_t)(number * size + i + 1);

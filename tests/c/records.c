@@ -1,5 +1,5 @@
 /* Records of whole chains, the length of their joined data, and values in records. */
-#include "files.h"
+#include "lent_tables.h"
 #include "values.h"
 
 static void check_six_bytes(const char *name, void (*make)(void))
@@ -32,16 +32,16 @@ static void check_record_sizes(void)
     name_case("record sizes and buffers");
     make_cut_file();
     buffer = lend_marked(OUTPUT, 6);
-    CHECK(fetched_is(fetch(START, 0, 0, buffer), 15, 0) && is_unchanged(buffer));
-    CHECK(fetched_is(fetch(START, 0, 7, buffer), 15, 0) && is_unchanged(buffer));
-    CHECK(fetched_is(fetch(START, 0, MOST, buffer), 15, 0) && is_unchanged(buffer));
-    CHECK(fetched_is(fetch(START, 0, 6, buffer), 0, 0) && holds_only_hex(buffer, "01 02 03 04 05 06"));
-    CHECK(fetched_is(fetch(START, 0, 0, no_bytes()), 15, 0) && fetched_is(fetch(START, 0, 1, no_bytes()), 15, 0));
+    CHECK(done_is(fetch(START, 0, 0, buffer), 15, 0) && is_unchanged(buffer));
+    CHECK(done_is(fetch(START, 0, 7, buffer), 15, 0) && is_unchanged(buffer));
+    CHECK(done_is(fetch(START, 0, MOST, buffer), 15, 0) && is_unchanged(buffer));
+    CHECK(done_is(fetch(START, 0, 6, buffer), 0, 0) && holds_only_hex(buffer, "01 02 03 04 05 06"));
+    CHECK(done_is(fetch(START, 0, 0, no_bytes()), 15, 0) && done_is(fetch(START, 0, 1, no_bytes()), 15, 0));
     buffer = lend_marked(OUTPUT, 16383);
-    CHECK(fetched_is(fetch(START, 0, 16384, buffer), 15, 0) && is_unchanged(buffer));
+    CHECK(done_is(fetch(START, 0, 16384, buffer), 15, 0) && is_unchanged(buffer));
     buffer = lend_marked(OUTPUT, 16385);
-    CHECK(fetched_is(fetch(START, 0, 16385, buffer), 15, 0) && is_unchanged(buffer));
-    CHECK(fetched_is(fetch(0, 0, 0, buffer), 15, 0) && is_unchanged(buffer));  /* before 11 */
+    CHECK(done_is(fetch(START, 0, 16385, buffer), 15, 0) && is_unchanged(buffer));
+    CHECK(done_is(fetch(0, 0, 0, buffer), 15, 0) && is_unchanged(buffer));  /* before 11 */
 }
 
 static void check_largest_record(void)
@@ -55,7 +55,7 @@ static void check_largest_record(void)
     put(40, 64, 8), put(52, 1, 4);
     cut_file(put_data(64, 1, MF4_MAX_RECORD_SIZE));
     buffer = lend_marked(OUTPUT, MF4_MAX_RECORD_SIZE);
-    CHECK(joins(16384) && fetched_is(fetch(START, 0, MF4_MAX_RECORD_SIZE, buffer), 0, 0));
+    CHECK(joins(16384) && done_is(fetch(START, 0, MF4_MAX_RECORD_SIZE, buffer), 0, 0));
     for (i = 0; i < MF4_MAX_RECORD_SIZE; i++)
         is_right &= buffer.bytes[i] == (uint8_t)(1 + i);
     CHECK(is_right);
@@ -83,10 +83,17 @@ static void check_repeated_block(void)
     CHECK(joins(9) && fetches(0, 9, "01 02 03 01 02 03 04 05 06"));
 }
 
+/* A table of the chain, if there is one, gives the same. */
 static mf4_valid_value_reply value_in_group(uint64_t number, uint64_t size, mf4_group group, mf4_channel channel, lent buffer)
 {
-    lent file = lend_file();
-    return mf4_record_value(file.bytes, file.length, START, number, size, group, channel, buffer.bytes, buffer.length);
+    lent file = lend_file(), table = lend_opened(file, START), twin = lend_copy(TWIN_OUTPUT, buffer.bytes, buffer.length);
+    mf4_valid_value_reply answer = mf4_record_value(file.bytes, file.length, START, number, size, group, channel,
+                                                    buffer.bytes, buffer.length);
+    if (table.bytes != NULL) {
+        CHECK(same_valid_value(value_by(file, table, number, size, group, channel, twin), answer));
+        CHECK(same_bytes(twin.bytes, buffer.bytes, buffer.length));
+    }
+    return answer;
 }
 
 /* The group's records have that size, where it is enough for the id and the data. */

@@ -1,6 +1,9 @@
-/* A single data block: with a list of it over the block that links it, as mf4.h shows it, its records and payloads are read. */
-#include "files.h"
+/* A single data block, as mf4.h shows it: with a list of it over the block that links it, its records and payloads are read;
+ * and with an empty table that is extended by it, its records. */
+#include "lent_tables.h"
 #include "values.h"
+
+#include <string.h>
 
 /* The block that links stands in front of the one that it links, with the 64 bytes of a ##DG block. */
 enum { LINKED_BY = 8, BLOCK = 72, LIST_SIZE = 56, SIX_BYTES = 24 + 6 };
@@ -40,13 +43,13 @@ static void check_single_records(void)
         name_number("records of a single block, linked by the one at", linked_by);
         make_single_file(linked_by);
         file = lend_file();
-        CHECK(fetched_is(mf4_read_record(file.bytes, file.length, BLOCK, 0, 4, buffer.bytes, 4), 3, 0));
+        CHECK(done_is(mf4_read_record(file.bytes, file.length, BLOCK, 0, 4, buffer.bytes, 4), 3, 0));
         start = list_over(linked_by, file.bytes, file.length, BLOCK, MF4_ID_DT);
         CHECK(start == linked_by && is_changed_by_list(file, (size_t)linked_by));
         CHECK(length_is(mf4_data_length(file.bytes, file.length, start), MF4_ANSWER, 0, 6));
-        CHECK(fetched_is(mf4_read_record(file.bytes, file.length, start, 1, 4, buffer.bytes, 4), 16, 0));
+        CHECK(done_is(mf4_read_record(file.bytes, file.length, start, 1, 4, buffer.bytes, 4), 16, 0));
         CHECK(is_unchanged(buffer));
-        CHECK(fetched_is(mf4_read_record(file.bytes, file.length, start, 0, 4, buffer.bytes, 4), MF4_ANSWER, 0));
+        CHECK(done_is(mf4_read_record(file.bytes, file.length, start, 0, 4, buffer.bytes, 4), MF4_ANSWER, 0));
         CHECK(holds_only_hex(buffer, "01 02 03 04"));
     }
 }
@@ -64,6 +67,12 @@ static const damaged_block damaged_blocks[] = {
     { 24, 0, MF4_ID_DT, 16 }, { 27, 0, MF4_ID_DT, 16 }, { 28, 0, MF4_ID_DT, MF4_ANSWER },
 };
 
+static void make_damaged_file(damaged_block a)
+{
+    make_single_file(0);
+    put(BLOCK, a.id, 4), put(BLOCK + 8, a.block_len, 8), put(BLOCK + 16, a.link_count, 8);
+}
+
 static void check_damaged_blocks(void)
 {
     size_t i;
@@ -72,11 +81,10 @@ static void check_damaged_blocks(void)
         lent file, buffer = lend_marked(OUTPUT, 4);
         uint64_t start;
         name_row("damaged single blocks", i);
-        make_single_file(0);
-        put(BLOCK, a.id, 4), put(BLOCK + 8, a.block_len, 8), put(BLOCK + 16, a.link_count, 8);
+        make_damaged_file(a);
         file = lend_file();
         start = list_over(LINKED_BY, file.bytes, file.length, BLOCK, MF4_ID_DT);
-        CHECK(fetched_is(mf4_read_record(file.bytes, file.length, start, 0, 4, buffer.bytes, 4), a.reply, 0));
+        CHECK(done_is(mf4_read_record(file.bytes, file.length, start, 0, 4, buffer.bytes, 4), a.reply, 0));
         CHECK(a.reply == MF4_ANSWER ? holds_only_hex(buffer, "01 02 03 04") : is_unchanged(buffer));
     }
 }
@@ -90,8 +98,50 @@ static void check_no_room_for_list(void)
     make_single_file(LIST_SIZE - 1);
     file = lend_file();
     start = list_over(BLOCK + SIX_BYTES, file.bytes, file.length, BLOCK, MF4_ID_DT);
-    CHECK(fetched_is(mf4_read_record(file.bytes, file.length, start, 0, 4, buffer.bytes, 4), 3, 0));
+    CHECK(done_is(mf4_read_record(file.bytes, file.length, start, 0, 4, buffer.bytes, 4), 3, 0));
     CHECK(is_unchanged(file) && is_unchanged(buffer));
+}
+
+static mf4_table table;
+
+/* The lines of mf4.h. */
+static mf4_done_reply table_of_block(const uint8_t *file, size_t file_len, uint64_t address)
+{
+    mf4_done_reply done;
+    memset(&table, 0, sizeof table);
+    done = mf4_extend_table(file, file_len, address, &table);
+    return done;
+}
+
+static const uint8_t six_bytes[] = { 1, 2, 3, 4, 5, 6 };
+
+static void check_single_table(void)
+{
+    lent file;
+    name_case("the table of a single block");
+    make_single_file(0);
+    file = lend_file();
+    CHECK(done_is(table_of_block(file.bytes, file.length, BLOCK), MF4_ANSWER, 0));
+    CHECK(table_fetches(&table, 0, six_bytes, 4) && table_refuses(&table, 1, 4, 16));
+    CHECK(table_fetches(&table, 0, six_bytes, 2) && table_fetches(&table, 1, six_bytes + 2, 2));
+    CHECK(table_fetches(&table, 2, six_bytes + 4, 2) && table_refuses(&table, 3, 2, 16));
+}
+
+/* One of another kind, which no list is written for, is refused as one that is damaged, and the table stays empty. */
+static void check_damaged_tables(void)
+{
+    size_t i;
+    for (i = 0; i < COUNT(damaged_blocks); i++) {
+        const uint32_t reply = damaged_blocks[i].reply;
+        const int is_taken = reply == MF4_ANSWER || reply == 16;
+        lent file;
+        name_row("tables of damaged single blocks", i);
+        make_damaged_file(damaged_blocks[i]);
+        file = lend_file();
+        CHECK(done_is(table_of_block(file.bytes, file.length, BLOCK), is_taken ? MF4_ANSWER : 12, 0));
+        CHECK(is_taken || same_bytes(&table, &empty_table, sizeof table));
+        CHECK(reply == MF4_ANSWER ? table_fetches(&table, 0, six_bytes, 4) : table_refuses(&table, 0, 4, 16));
+    }
 }
 
 /* One record in a single block, the position 7, and there in another single block the payload PX1; then the same with the
@@ -130,6 +180,8 @@ void check_single_blocks(void)
     check_single_records();
     check_damaged_blocks();
     check_no_room_for_list();
+    check_single_table();
+    check_damaged_tables();
     for (cut = 0; cut <= 14; cut++)
         check_single_payloads(cut);
 }

@@ -25,6 +25,12 @@ int valid_value_is(mf4_valid_value_reply a, expected value, uint8_t is_valid)
     return value_is(found, value) && a.is_valid == is_valid;
 }
 
+int same_valid_value(mf4_valid_value_reply a, mf4_valid_value_reply b)
+{
+    const mf4_value_reply value = { b.reply, b.told, b.kind, b.number, b.at, b.length };
+    return valid_value_is(a, value, b.is_valid);
+}
+
 int payload_is(mf4_payload_reply a, expected value, uint64_t payload_length, uint8_t is_valid)
 {
     const mf4_value_reply found = { a.reply, a.told, a.kind, a.number, a.at, a.length };

@@ -25,6 +25,7 @@ typedef mf4_value_reply expected;
 
 int value_is(mf4_value_reply a, expected value);
 int valid_value_is(mf4_valid_value_reply a, expected value, uint8_t is_valid);
+int same_valid_value(mf4_valid_value_reply a, mf4_valid_value_reply b);
 
 int payload_is(mf4_payload_reply a, expected value, uint64_t payload_length, uint8_t is_valid);
 

@@ -6,8 +6,6 @@
 #define DOUBLE(bits) { MF4_KIND_DOUBLE, UINT64_C(bits) }
 #define OF_KIND(kind, value) { (kind), (value) }
 
-static int stored_is(mf4_done_reply a, uint32_t reply, uint64_t told) { return a.reply == reply && a.told == told; }
-
 /* A record as OUTPUT, since it is written; an empty one is lent as NULL. */
 static lent record_of(const char *text)
 {
@@ -93,7 +91,7 @@ static void check_written_over(lent record, uint64_t id_size, mf4_channel channe
     const mf4_value_reply read = mf4_decode_value(record.bytes, record.length, id_size, channel);
     mf4_number same;
     same.kind = read.kind, same.number = read.number;
-    CHECK(stored_is(written(id_size, channel, same, record), MF4_ANSWER, 0) && is_unchanged(record));
+    CHECK(done_is(written(id_size, channel, same, record), MF4_ANSWER, 0) && is_unchanged(record));
 }
 
 static void check_stored_case(stored_case a)
@@ -101,7 +99,7 @@ static void check_stored_case(stored_case a)
     lent record = record_of(a.record);
     uint8_t after[256];
     const size_t count = from_hex(a.after, after);
-    CHECK(stored_is(written(a.id_size, a.channel, a.value, record), MF4_ANSWER, 0));
+    CHECK(done_is(written(a.id_size, a.channel, a.value, record), MF4_ANSWER, 0));
     CHECK(count == record.length && same_bytes(record.bytes, after, count));
     CHECK(reads_back(record, a.id_size, a.channel, a.value));
     check_written_over(record_of(a.after), a.id_size, a.channel);
@@ -178,7 +176,7 @@ static void check_marked_case(marked_case a)
     lent record = record_of(a.record);
     check_validity(record, a, a.was_valid);
     check_written_over(record, a.id_size, a.channel);
-    CHECK(stored_is(written(a.id_size, a.channel, a.value, record), MF4_ANSWER, 0));
+    CHECK(done_is(written(a.id_size, a.channel, a.value, record), MF4_ANSWER, 0));
     CHECK(count == record.length && same_bytes(record.bytes, after, count));
     check_validity(record, a, a.is_valid);
     CHECK(valid_value_is(mf4_decode_valid_value_unbounded(record.bytes, record.length, group, a.channel), value,
@@ -295,10 +293,10 @@ static const refused_case in_order[] = {
 static void check_refused_case(refused_case a)
 {
     lent record = record_of(a.record);
-    CHECK(stored_is(written(a.id_size, a.channel, a.value, record), a.reply, a.told));
+    CHECK(done_is(written(a.id_size, a.channel, a.value, record), a.reply, a.told));
     CHECK(is_unchanged(record));
     record = lend_marked(OUTPUT, record.length);
-    CHECK(stored_is(written(a.id_size, a.channel, a.value, record), a.reply, a.told));
+    CHECK(done_is(written(a.id_size, a.channel, a.value, record), a.reply, a.told));
     CHECK(is_unchanged(record));
 }
 
@@ -353,7 +351,7 @@ static void check_shape(mf4_channel channel, size_t behind)
     for (pass = 0; pass < 2; pass++) {
         lent record = lend_marked(OUTPUT, at + span + behind);
         value.number = pass > 0 ? 0 : value.kind == MF4_KIND_SIGNED ? MOST : largest;
-        CHECK(stored_is(written(1, channel, value, record), MF4_ANSWER, 0));
+        CHECK(done_is(written(1, channel, value, record), MF4_ANSWER, 0));
         CHECK(reads_back(record, 1, channel, value));
         CHECK(same_outside_field(record, channel, at));
     }
@@ -361,7 +359,7 @@ static void check_shape(mf4_channel channel, size_t behind)
     if (channel.bit_count < 64) {
         lent record = lend_marked(OUTPUT, at + span + behind);
         value.number = largest + 1;
-        CHECK(stored_is(written(1, channel, value, record), 24, 0) && is_unchanged(record));
+        CHECK(done_is(written(1, channel, value, record), 24, 0) && is_unchanged(record));
     }
 }
 
@@ -391,11 +389,11 @@ static void check_every_type(void)
             lent record = lend_marked(OUTPUT, 11);
             const int is_stored = type <= MF4_TYPE_FLOAT_BE && kind == MF4_KIND_UNSIGNED + type / 2;
             name_number("kinds of numbers for the data type", type);
-            CHECK(stored_is(written(1, channel, value, record), is_stored ? MF4_ANSWER : 25, 0));
+            CHECK(done_is(written(1, channel, value, record), is_stored ? MF4_ANSWER : 25, 0));
             CHECK(is_stored ? reads_back(record, 1, channel, value) && same_outside_field(record, channel, 3)
                             : is_unchanged(record));
             record = lend_marked(OUTPUT, 10);
-            CHECK(stored_is(written(1, channel, value, record), 21, 11) && is_unchanged(record));
+            CHECK(done_is(written(1, channel, value, record), 21, 11) && is_unchanged(record));
         }
 }
 

@@ -33,7 +33,8 @@ static uint64_t choose_limit(void)
         UINT64_MAX, UINT64_MAX - 1, UINT64_MAX - 23, UINT64_MAX / 8, UINT64_MAX / 8 - 4, (uint64_t)1 << 63, INT64_MAX,
         (uint64_t)1 << 61, MF4_MAX_FILE_SIZE, MF4_MAX_FILE_SIZE + 1, UINT32_MAX, (uint64_t)1 << 32, INT32_MAX,
         MF4_MAX_RECORD_SIZE, MF4_MAX_RECORD_SIZE + 1, MF4_MAX_FRAGMENTS, MF4_MAX_FRAGMENTS + 1, MF4_MAX_LISTS,
-        MF4_MAX_LISTS + 1, MF4_HEADER_SIZE, MF4_HEADER_SIZE - 1, 64, 65, 32
+        MF4_MAX_LISTS + 1, MF4_HEADER_SIZE, MF4_HEADER_SIZE - 1, 64, 65, 32, MF4_MAX_TABLE_FRAGMENTS,
+        MF4_MAX_TABLE_FRAGMENTS + 1
     };
     return limits[choose_byte() % (sizeof limits / sizeof *limits)];
 }

@@ -26,6 +26,11 @@ __attribute__((section("__libfuzzer_extra_counters"))) static uint8_t seen[CALLS
 
 void note(enum call call, unsigned what) { seen[call][what % 64] = 1; }
 
+int holds_only(lent buffer, const uint8_t *written, size_t count)
+{
+    return same_bytes(buffer.bytes, written, count) && is_unchanged_from(buffer, count);
+}
+
 uint64_t little(const uint8_t *place, int size)
 {
     uint64_t number = 0;
@@ -92,6 +97,7 @@ int LLVMFuzzerTestOneInput(const uint8_t *data, size_t size)
     exercise_types(choose_byte());
     exercise_chain(&log, how);
     exercise_payload(&log, how);
+    exercise_tables(&log, how);
     exercise_record();
     exercise_overlap(how);
     exercise_part(&log, how);

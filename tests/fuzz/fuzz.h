@@ -13,7 +13,8 @@ void fail(const char *claim, const char *file, int line);
 enum call {
     READ_HEADER, WRITE_HEADER, READ_LIST, WRITE_EQUAL, WRITE_VARIABLE, READ_CHANNEL, WRITE_CHANNEL, DECODE, VALIDITY,
     DECODE_VALID, VALIDITY_UNBOUNDED, DECODE_VALID_UNBOUNDED, DECODE_DOUBLE, WRITE_VALUE, FIRST_OVERLAP, TEXT_LATIN1,
-    TEXT_UTF8, TEXT_UTF16_LE, TEXT_UTF16_BE, DATA_LENGTH, READ_RECORD, RECORD_VALUE, RECORD_PAYLOAD, CALLS
+    TEXT_UTF8, TEXT_UTF16_LE, TEXT_UTF16_BE, DATA_LENGTH, READ_RECORD, RECORD_VALUE, OPEN_TABLE, EXTEND_TABLE, SHORTEN_TABLE,
+    TABLE_RECORD, TABLE_VALUE, RECORD_PAYLOAD, CALLS
 };
 
 /* Counts what a call answered, so that an input with a new answer is kept. */
@@ -25,6 +26,9 @@ void note(enum call call, unsigned what);
 
 /* The reply is one of those allowed, and tells something only where it may. */
 void check_reply(enum call call, uint32_t reply, uint64_t told, uint64_t allowed);
+
+/* The buffer begins with these bytes, and nothing behind them has changed. */
+int holds_only(lent buffer, const uint8_t *written, size_t count);
 
 /* A number of so many bytes as it stands in a file. */
 uint64_t little(const uint8_t *place, int size);

@@ -209,3 +209,18 @@ void make_file(log_file *file)
         file->records.state = DAMAGED;
     }
 }
+
+void make_long_list(log_file *file)
+{
+    uint64_t links[MF4_MAX_TABLE_FRAGMENTS + 8], block;
+    const size_t count = MF4_MAX_TABLE_FRAGMENTS - 8 + choose_byte() % 16, length = choose_byte() % 8;
+    const size_t size = 24 + 8 + 8 * count + 8 + 8;
+    size_t i;
+    memset(file, 0, sizeof *file);
+    file->length = 1;
+    file->records.start = add_block(file, size);
+    block = add_data_block(file, &file->records, MF4_ID_DT, length, choose_byte());
+    for (i = 0; i < count; i++)
+        links[i] = block;
+    MUST(mf4_write_list_equal(0, links, count, length, file->bytes + file->records.start, size).reply == MF4_ANSWER);
+}

@@ -32,6 +32,9 @@ typedef struct log_file {
 /* Raw bytes, or one or two chains, each whole or with a breach, that are then damaged a little or not at all. */
 void make_file(log_file *file);
 
+/* One list of about as many fragments as a table takes, which are all the same block. */
+void make_long_list(log_file *file);
+
 /* Puts a number into the joined data of one of the file's chains, as far as that reaches. */
 void put_joined(log_file *file, log_chain *chain, uint64_t at, uint64_t number, int size);
 
@@ -46,6 +49,9 @@ int is_bad_size(uint64_t record_size, size_t room);
 #define RECORD_REPLIES (CHAIN_REPLIES | REPLY(15) | REPLY(16))
 
 void exercise_chain(const log_file *log, reading how);
+
+/* Damages a block of the file now and then. */
+void exercise_tables(log_file *log, reading how);
 
 /* Puts a position into the file's records and a length into its payloads. */
 void exercise_payload(log_file *log, reading how);

@@ -118,11 +118,6 @@ static int same_payload(mf4_payload_reply a, mf4_payload_reply b)
         && a.length == b.length && a.payload_length == b.payload_length && a.is_valid == b.is_valid;
 }
 
-static int holds_only(lent buffer, const uint8_t *written, size_t count)
-{
-    return same_bytes(buffer.bytes, written, count) && is_unchanged_from(buffer, count);
-}
-
 /* Beside the reply the kind counts, and whether a chain is refused in front of the record or behind it. */
 static void note_payload(mf4_payload_reply answer, int is_fetched)
 {

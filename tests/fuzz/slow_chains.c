@@ -60,6 +60,13 @@ static int is_data_block(lent file, uint64_t address, uint32_t data_id)
         && block_len <= file.length - address;
 }
 
+uint32_t block_due(lent file, uint64_t address, uint32_t data_id)
+{
+    if (!has_header(file, address))
+        return MF4_NO_BLOCK_THERE;
+    return is_data_block(file, address, data_id) ? MF4_ANSWER : MF4_BAD_DATA_BLOCK;
+}
+
 static int is_true(const slow_list *list, uint64_t index, uint64_t before, uint64_t size)
 {
     const int is_last = list->read.next_addr == 0 && index + 1 == list->read.data_link_count;
@@ -71,11 +78,10 @@ static int is_true(const slow_list *list, uint64_t index, uint64_t before, uint6
 static int take_fragment(lent file, const slow_list *list, uint64_t index, uint32_t data_id, slow_chain *chain)
 {
     const uint64_t address = little(list->bytes + list->read.data_links_at + 8 * index, 8);
+    const uint32_t due = block_due(file, address, data_id);
     uint64_t size;
-    if (!has_header(file, address))
-        return refuse(chain, MF4_NO_BLOCK_THERE, 0);
-    if (!is_data_block(file, address, data_id))
-        return refuse(chain, MF4_BAD_DATA_BLOCK, 0);
+    if (due != MF4_ANSWER)
+        return refuse(chain, due, 0);
     size = little(file.bytes + address + 8, 8) - MF4_HEADER_SIZE;
     if (!is_true(list, index, chain->length, size))
         return refuse(chain, MF4_UNTRUE_DECLARATION, 0);

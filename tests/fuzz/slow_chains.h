@@ -15,6 +15,9 @@ typedef struct slow_chain {
 
 void walk_slowly(lent file, uint64_t start, uint32_t data_id, slow_chain *chain);
 
+/* Whether a data block of that id stands there, or why none does. */
+uint32_t block_due(lent file, uint64_t address, uint32_t data_id);
+
 /* Bytes of the joined data, which holds them. */
 void copy_slowly(lent file, const slow_chain *chain, uint64_t position, uint8_t *out, size_t count);
 

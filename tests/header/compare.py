@@ -4,9 +4,10 @@ with its own scheme of names.
     compare.py BUILD_DIR [COMPILER]    from the repository's root
 
 The version, replies, structs and calls of the source, in the words of C, must be those of the header, one by one: replies
-by name and number; fields and arguments by name, type and order; sizes and offsets as a C compiler lays them out. Each
-struct NAME must have its theorem NAME-fields and each call NAME its theorem NAME-arguments, with the fields and arguments
-in that order. The code in the header's comments must stand in the C tests, which run it. Exit status: 0 if all agree, 1 if
+by name and number; fields and arguments by name, type and order; sizes and offsets as a C compiler lays them out. A table,
+which the source has as an array, must have each of its words where the struct of C has it. Each struct NAME of the source
+must have its theorem NAME-fields and each call NAME its theorem NAME-arguments, with the fields and arguments in that
+order. The code in the header's comments must stand in the C tests, which run it. Exit status: 0 if all agree, 1 if
 not.
 """
 
@@ -17,10 +18,12 @@ import scheme
 import theorems
 from header import Header
 from source import Source, Unreadable, replies, version
+from words import Words
 
 VERSION = "crates/mf4/src/version.rt"
 TESTS = "tests/c"
 REFUSALS = "crates/refusals/src/lib.rt"
+TABLE = "crates/table/src/layout.rt"
 SOURCE = ["crates/block_replies/src", "crates/replies/src", "crates/mf4/src"]
 THEOREMS = ["crates/block_replies/proofs/Structs.antt", "crates/replies/proofs/Structs.antt", "crates/mf4/proofs/Border.antt"]
 INCLUDE, HEADER = "include", "include/mf4.h"
@@ -61,11 +64,12 @@ def untried(examples):
 
 
 def differences(compiler, build):
-    source, header = Source(SOURCE), Header(HEADER)
+    source, table, header = Source(SOURCE), Words(TABLE), Header(HEADER)
+    structs, layout = source.structs | table.structs(), expected_layout(source) | table.layout()
     yield from one_by_one("version", version(VERSION), HEADER, header.version)
     yield from one_by_one("reply", replies(REFUSALS), HEADER, header.replies)
-    yield from one_by_one("struct", declarations(source.structs), HEADER, declarations(header.structs))
-    yield from one_by_one("the layout of", expected_layout(source), HEADER, header.measured(compiler, INCLUDE, build))
+    yield from one_by_one("struct", declarations(structs), HEADER, declarations(header.structs))
+    yield from one_by_one("the layout of", layout, HEADER, header.measured(compiler, INCLUDE, build))
     yield from one_by_one("call", source.calls, HEADER, header.calls)
     yield from one_by_one("theorem", theorems.expected(source), " and ".join(THEOREMS), theorems.stated(THEOREMS))
     yield from scheme.broken(header)

@@ -8,8 +8,10 @@ from pathlib import Path
 COMMENT = re.compile(r"/\*.*?\*/", re.S)
 EXAMPLE = re.compile(r"(?:^ \*     .*\n)+", re.M)
 VERSION = re.compile(r"#define MF4_VERSION_(MAJOR|MINOR|PATCH) (\d+)")
+LIMIT = re.compile(r"#define (MF4_MAX_\w+) (\d+)")
 ENUM = re.compile(r"enum (\w+) \{([^}]*)\}")
 NUMBERED = re.compile(r"(MF4_\w+) = (\w+)")
+ARRAY = re.compile(r"(\w+)\[(\w+)\]")
 STRUCT = re.compile(r"typedef struct (\w+) \{([^}]*)\} \1;")
 INLINE = re.compile(r"static inline [^{]*\{.*?\n\}\n", re.S)
 PROTOTYPE = re.compile(r"^([\w ]+ \*?(\w+)\([^)]*\));", re.M)
@@ -24,7 +26,8 @@ def spaced(text):
 
 class Header:
     """enums: for each the names and their numbers; replies: those of the library. structs: for each its fields as
-    (name, type). calls: for each its prototype. comments: all in one line; examples: the code in them, a line in a string."""
+    (name, type), where an array's name has its limit. limits: by their names. calls: for each its prototype. comments: all in
+    one line; examples: the code in them, a line in a string."""
 
     def __init__(self, path):
         commented = Path(path).read_text(encoding="utf-8")
@@ -37,6 +40,7 @@ class Header:
         self.examples = [[line.removeprefix(" *").strip() for line in example.splitlines()]
                          for example in EXAMPLE.findall(commented)]
         self.version = dict(VERSION.findall(text))
+        self.limits = dict(LIMIT.findall(text))
 
     @staticmethod
     def fields(body):
@@ -49,12 +53,22 @@ class Header:
         names = [] if given == "void" else given.split(", ")
         return [(re.sub(r" ?\w+$", "", argument), re.search(r"\w+$", argument)[0]) for argument in names]
 
+    def members(self, struct):
+        """Its fields by name; in place of an array those of each of its structs."""
+        for name, kind in self.structs[struct]:
+            array = ARRAY.fullmatch(name)
+            if array:
+                yield from (f"{array[1]}[{index}].{field}" for index in range(int(self.limits[array[2]]))
+                            for field in self.members(kind))
+            else:
+                yield name
+
     def measuring_program(self):
-        """Prints a line for each struct and each of its fields: its name, then its place and size."""
+        """Prints a line for each struct and each of its members: its name, then its place and size."""
         lines = ['#include <stdio.h>', '#include "mf4.h"', "int main(void)", "{"]
-        for struct, fields in self.structs.items():
+        for struct in self.structs:
             lines.append(f'    printf("{struct}=size %zu\\n", sizeof({struct}));')
-            for name, _ in fields:
+            for name in self.members(struct):
                 measures = f"offsetof({struct}, {name}), sizeof((({struct} *)0)->{name})"
                 lines.append(f'    printf("{struct}.{name}=offset %zu size %zu\\n", {measures});')
         return "\n".join(lines + ["    return 0;", "}", ""])

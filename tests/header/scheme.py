@@ -14,6 +14,9 @@ KEPT = {"links"}
 # A record that is changed in place is input and output, and has a length.
 IN_PLACE = {("mf4_write_value", "record")}
 
+# What is always of one size is lent by a pointer alone.
+LENT_WHOLE = "mf4_table"
+
 PREFIXES = {"mf4_reply": "MF4_", "mf4_block_id": "MF4_ID_", "mf4_data_type": "MF4_TYPE_", "mf4_list_flag": "MF4_LIST_",
             "mf4_channel_type": "MF4_CHANNEL_", "mf4_channel_flag": "MF4_CHANNEL_", "mf4_kind": "MF4_KIND_"}
 
@@ -38,11 +41,14 @@ def misnamed_word(where, name):
 
 
 def misnamed_buffers(call, arguments):
-    """Behind a pointer to const, which is input, stands NAME_len, and behind another, which is output, NAME_room."""
+    """Behind a pointer to const, which is input, stands NAME_len, and behind another, which is output, NAME_room; what is lent
+    whole has neither."""
     for (kind, name), behind in zip(arguments, arguments[1:] + [("", "nothing")]):
         ending = "len" if kind.startswith("const ") or (call, name) in IN_PLACE else "room"
-        if "*" in kind and behind != ("size_t", f"{name}_{ending}"):
-            yield f"{call}: behind {name} stands {behind[1]}, and should stand size_t {name}_{ending}"
+        is_counted = "*" in kind and LENT_WHOLE not in kind.split()
+        if is_counted != (behind == ("size_t", f"{name}_{ending}")):
+            rule = "should" if is_counted else "should not"
+            yield f"{call}: behind {name} stands {behind[1]}, and {rule} stand size_t {name}_{ending}"
 
 
 def misnamed_constants(enums):

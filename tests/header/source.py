@@ -3,7 +3,7 @@
 import re
 from pathlib import Path
 
-from scheme import IN_PLACE
+from scheme import IN_PLACE, LENT_WHOLE
 
 NUMBERS = {"u8": "uint8_t", "u16": "uint16_t", "u32": "uint32_t", "u64": "uint64_t", "i64": "int64_t"}
 SIZES = {"uint8_t": 1, "uint16_t": 2, "uint32_t": 4, "uint64_t": 8, "int64_t": 8}
@@ -33,13 +33,16 @@ def c_type(name):
 
 
 def c_arguments(call, name, kind):
-    """A slice is a pointer and a count: a length if it is input, also if it is changed in place, and else a room."""
-    slice_of = re.fullmatch(r"&(mut )?\[(\w+)\]", kind)
-    if not slice_of:
+    """A slice is a pointer and a count: a length if it is input, also if it is changed in place, and else a room. A table has
+    one size, and is a pointer alone."""
+    lent = re.fullmatch(r"&(mut )?(?:\[(\w+)\]|(Table))", kind)
+    if not lent:
         return [f"{c_type(kind)} {name}"]
-    constness = "" if slice_of[1] else "const "
-    ending = "room" if slice_of[1] and (call, name) not in IN_PLACE else "len"
-    return [f"{constness}{c_type(slice_of[2])} *{name}", f"size_t {name}_{ending}"]
+    constness = "" if lent[1] else "const "
+    if lent[3]:
+        return [f"{constness}{LENT_WHOLE} *{name}"]
+    ending = "room" if lent[1] and (call, name) not in IN_PLACE else "len"
+    return [f"{constness}{c_type(lent[2])} *{name}", f"size_t {name}_{ending}"]
 
 
 def named(text):

@@ -16,3 +16,6 @@ pub mod HistoriesByCalls
 -- a fetch through such a table is that of the joined data, and just after opening the fetch through the chain
 pub mod TableFetches
 pub mod TableFetchesByCalls
+-- when each call answers, exactly; of the definitions first, then of the calls
+pub mod TableAnswers
+pub mod TableAnswersByCalls

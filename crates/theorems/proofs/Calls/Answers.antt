@@ -240,7 +240,7 @@ length-exactly f start =
 
 -- ---- records
 
-size-passes : (size room : ℕ) → (0 < size) × (size ≤ recordLimit) × (size ≤ room) → badSize size room ≡ false
+pub size-passes : (size room : ℕ) → (0 < size) × (size ≤ recordLimit) × (size ≤ room) → badSize size room ≡ false
 size-passes size room p =
     let z : size ≡ 0 → ⊥ = λ e. omega (arith, p .0) in
     rw (ne-eqb _ _ z, le-ltb _ _ (p .1), le-ltb _ _ (p .2))

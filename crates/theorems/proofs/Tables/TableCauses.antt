@@ -93,7 +93,7 @@ module _ (f w : List ℕ) (k size : ℕ) (out : List ℕ) where
 
   -- ---- a record that was fetched
 
-  passes : (b : Bool) (n : ℕ) (o : Outcome (Unit {0})) → (if b then refusing n out else o) .reply ≡ answer tt → (b ≡ false) × (o .reply ≡ answer tt)
+  pub passes : (b : Bool) (n : ℕ) (o : Outcome (Unit {0})) → (if b then refusing n out else o) .reply ≡ answer tt → (b ≡ false) × (o .reply ≡ answer tt)
   passes true n o e = not-answered tt n 0 e
   passes false n o e = (refl, e)
 
