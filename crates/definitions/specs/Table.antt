@@ -57,14 +57,14 @@ rising w (suc n) = leb (beginOf w n) (beginOf w (n + 1)) && rising w n
 unfoldable pub ordered : List ℕ → Bool
 ordered w = leb (countOf w) tableLimit && eqb (beginOf w 0) 0 && rising w (countOf w)
 
--- no block ends past the file, with its header
-unfoldable pub inFile : List ℕ → List Block → Bool
-inFile f [] = true
-inFile f (b ∷ bs) = leb (b .address + 24 + b .size) (length f) && inFile f bs
+-- no block ends past a file of n bytes, with its header
+unfoldable pub inFile : ℕ → List Block → Bool
+inFile n [] = true
+inFile n (b ∷ bs) = leb (b .address + 24 + b .size) n && inFile n bs
 
 -- where a file is given
 unfoldable pub sound : List ℕ → List ℕ → Bool
-sound f w = ordered w && inFile f (blocksIn w)
+sound f w = ordered w && inFile (length f) (blocksIn w)
 
 -- ---- the table worked out afresh from blocks
 

@@ -18,6 +18,9 @@ use Rattle.places.proofs.Blocks.{block-stands}
 use Rattle.chain.proofs.Chains.{total-bound}
 use Rattle.table.specs.Meaning.{changedBy}
 use Rattle.table.specs.declared.layout.TableChanged.the-variants.{Done, Refused}
+use Rattle.table.specs.Passed.{passes}
+use Rattle.table.specs.declared.soundness.FileEnd.the-variants.{Unknown, At}
+use Rattle.table.proofs.Ordered.{without-file, with-file}
 use Rattle.table.proofs.Fragments.{length-fragments, in-order, total-all, sound-ordered, all-inside}
 
 -- ---- the four words that change
@@ -34,7 +37,10 @@ dropped w n p h k = rw (k, h) refl
 
 -- ---- the last fragment given up
 
-module _ (w : List ℕ) (t : Bool) (h : t ≡ ordered w) where
+module _ (w : List ℕ) (t : Bool) (passed : t ≡ passes Unknown w) where
+  h : t ≡ ordered w
+  h = passed ∙ without-file w
+
   pub up-unordered : not t ≡ true → changedBy (Refused BadTable) w ≡ shortened w
   unfolding shortened
   up-unordered n = sym (rw (sym h ∙ not-true t n) refl)
@@ -70,7 +76,10 @@ module _ (f w : List ℕ) (a : ℕ) where
   unfolding extended
   extend-long l = rw (lt-ltb _ _ l) refl
 
-  module _ (l : length f ≤ fileLimit) (t : Bool) (e : t ≡ sound f w) where
+  module _ (l : length f ≤ fileLimit) (t : Bool) (passed : t ≡ passes (At (length f)) w) where
+    e : t ≡ sound f w
+    e = passed ∙ with-file f w
+
     pub extend-unsound : not t ≡ true → changedBy (Refused BadTable) w ≡ extended f a w
     unfolding extended
     extend-unsound n = rw (le-ltb _ _ l, sym e ∙ not-true t n) refl

@@ -19,6 +19,9 @@ use Rattle.records.specs.declared.record.RecordRead.the-variants.{Record}
 use Rattle.records.proofs.Fetches.{sized}
 use Rattle.records.proofs.Laying.{laid-whole}
 use Rattle.records.proofs.Records.{size-good}
+use Rattle.table.specs.Passed.{passes}
+use Rattle.table.specs.declared.soundness.FileEnd.the-variants.{At}
+use Rattle.table.proofs.Ordered.{with-file}
 use Rattle.table.proofs.Fragments.{data-long}
 
 module _ (f w : List ℕ) (k size : ℕ) (out : List ℕ) where
@@ -37,9 +40,9 @@ module _ (f w : List ℕ) (k size : ℕ) (out : List ℕ) where
     table-long l = rw (good, lt-ltb _ _ l) refl
 
     module _ (l : length f ≤ fileLimit) where
-      pub table-unsound : (t : Bool) → t ≡ sound f w → not t ≡ true → record { reply = refusal 32 0; buffer = out } ≡ tableFetched f w k size out
+      pub table-unsound : (t : Bool) → t ≡ passes (At (length f)) w → not t ≡ true → record { reply = refusal 32 0; buffer = out } ≡ tableFetched f w k size out
       unfolding tableFetched
-      table-unsound t e n = rw (good, le-ltb _ _ l, sym e ∙ not-true t n) refl
+      table-unsound t e n = rw (good, le-ltb _ _ l, sym (e ∙ with-file f w) ∙ not-true t n) refl
 
       module _ (s : sound f w ≡ true) (end : ℕ) (e : end ≡ totalIn w) where
         pub table-behind : ltb end (k * size + size) ≡ true → record { reply = refusal 16 0; buffer = out } ≡ tableFetched f w k size out

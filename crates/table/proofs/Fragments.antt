@@ -19,11 +19,11 @@ use Rattle.table.proofs.Ordered.{begin-at, begin-past}
 
 -- ---- blocks in a file
 
-pub inside-by : (f : List ℕ) (bs : List Block) → inFile f bs ≡ true → Inside f bs
+pub inside-by : (f : List ℕ) (bs : List Block) → inFile (length f) bs ≡ true → Inside f bs
 unfolding inFile Inside
 inside-by f [] h = tt
 inside-by f (b ∷ bs) h =
-    let p = both (leb (b .address + 24 + b .size) (length f)) (inFile f bs) h in
+    let p = both (leb (b .address + 24 + b .size) (length f)) (inFile (length f) bs) h in
     (leb-true _ _ (p .0), inside-by f bs (p .1))
 
 -- the first of them, and the others
@@ -126,11 +126,11 @@ module _ (w : List ℕ) where
   module _ (f : List ℕ) (s : sound f w ≡ true) where
     pub sound-ordered : InOrder
     unfolding sound
-    sound-ordered = in-order (both (ordered w) (inFile f (blocksIn w)) s .0)
+    sound-ordered = in-order (both (ordered w) (inFile (length f) (blocksIn w)) s .0)
 
     pub all-inside : Inside f (blocksIn w)
     unfolding sound
-    all-inside = inside-by f (blocksIn w) (both (ordered w) (inFile f (blocksIn w)) s .1)
+    all-inside = inside-by f (blocksIn w) (both (ordered w) (inFile (length f) (blocksIn w)) s .1)
 
     pub first-inside : (i : ℕ) → i ≤ countOf w → Inside f (fragmentsIn w i)
     first-inside i h = let p = split-at (countOf w) i h in inside-parts f (fragmentsIn w i) (p .0) (subst (Inside f) (p .1) all-inside) .0

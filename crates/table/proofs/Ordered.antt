@@ -11,6 +11,9 @@ use borrow.Author.Tests.{lt-ltb, le-ltb, lt-leb, le-leb, leb-true, leb-false, no
 use Rattle.definitions.specs.Reply.{if_then_else_}
 use Rattle.definitions.specs.Chain.{Block}
 use Rattle.definitions.specs.Table.{tableLimit, countOf, totalIn, addressAt, positionAt, beginOf, fragmentIn, fragmentsIn, rising, ordered, inFile, sound}
+use Rattle.table.specs.Passed.{endsBy, allEnd, passes}
+use Rattle.table.specs.declared.soundness.FileEnd.{FileEnd}
+use Rattle.table.specs.declared.soundness.FileEnd.the-variants.{Unknown, At}
 
 -- ---- a block's end, tested without a sum
 
@@ -49,50 +52,47 @@ and-true : (a : Bool) → a && true ≡ a
 and-true true = refl
 and-true false = refl
 
-in-file-more : (f : List ℕ) (bs : List Block) (b : Block) → inFile f (bs ++ (b ∷ [])) ≡ inFile f bs && leb (b .address + 24 + b .size) (length f)
+module _ (n : ℕ) where
+  in-file-more : (bs : List Block) (b : Block) → inFile n (bs ++ (b ∷ [])) ≡ inFile n bs && leb (b .address + 24 + b .size) n
+  unfolding inFile
+  in-file-more [] b = and-true (leb (b .address + 24 + b .size) n)
+  in-file-more (c ∷ cs) b =
+      ap (λ (t : Bool). leb (c .address + 24 + c .size) n && t) (in-file-more cs b)
+      ∙ joint (leb (c .address + 24 + c .size) n) (inFile n cs) (leb (b .address + 24 + b .size) n)
+    where
+      joint : (a x y : Bool) → a && (x && y) ≡ (a && x) && y
+      joint true x y = refl
+      joint false x y = refl
+
+all-more : (end : FileEnd) (bs : List Block) (b : Block) → allEnd end (bs ++ (b ∷ [])) ≡ allEnd end bs && endsBy end (b .address + 24 + b .size)
+all-more Unknown bs b = refl
+all-more (At n) bs b = in-file-more n bs b
+
+all-none : (end : FileEnd) → allEnd end [] ≡ true
 unfolding inFile
-in-file-more f [] b = and-true (leb (b .address + 24 + b .size) (length f))
-in-file-more f (c ∷ cs) b = ap (λ (t : Bool). leb (c .address + 24 + c .size) (length f) && t) (in-file-more f cs b) ∙ joint (leb (c .address + 24 + c .size) (length f)) _ _
-  where
-    joint : (a x y : Bool) → a && (x && y) ≡ (a && x) && y
-    joint true x y = refl
-    joint false x y = refl
+all-none Unknown = refl
+all-none (At n) = refl
 
-module _ (w : List ℕ) where
-  -- without a file
-  abbrev pub orderedUpTo : ℕ → Bool
-  orderedUpTo i = eqb (beginOf w 0) 0 && rising w i
+module _ (end : FileEnd) (w : List ℕ) where
+  -- what is left of the test
+  abbrev pub passesUpTo : ℕ → Bool
+  passesUpTo i = (eqb (beginOf w 0) 0 && rising w i) && allEnd end (fragmentsIn w i)
 
-  -- and with one
-  abbrev pub soundUpTo : List ℕ → ℕ → Bool
-  soundUpTo f i = orderedUpTo i && inFile f (fragmentsIn w i)
-
-  pub too-many-ordered : tableLimit < countOf w → false ≡ ordered w
+  pub too-many : tableLimit < countOf w → false ≡ passes end w
   unfolding ordered
-  too-many-ordered h = sym (rw (lt-leb _ _ h) refl)
+  too-many h = sym (rw (lt-leb _ _ h) refl)
 
-  pub too-many : (f : List ℕ) → tableLimit < countOf w → false ≡ sound f w
-  unfolding sound
-  too-many f h = too-many-ordered h ∙ sym (rw (sym (too-many-ordered h)) refl)
-
-  pub ordered-whole : countOf w ≤ tableLimit → ordered w ≡ orderedUpTo (countOf w)
+  pub passes-whole : countOf w ≤ tableLimit → passes end w ≡ passesUpTo (countOf w)
   unfolding ordered
-  ordered-whole h = rw (le-leb _ _ h) refl
+  passes-whole h = rw (le-leb _ _ h) refl
 
-  pub sound-whole : (f : List ℕ) → countOf w ≤ tableLimit → sound f w ≡ soundUpTo f (countOf w)
-  unfolding sound
-  sound-whole f h = ap (λ (t : Bool). t && inFile f (fragmentsIn w (countOf w))) (ordered-whole h)
-
-  -- none is left
-  pub ordered-none : (i e : ℕ) → i ≤ 0 → e ≡ beginOf w i → eqb e 0 ≡ orderedUpTo i
-  unfolding rising
-  ordered-none zero e h is = ap (λ (n : ℕ). eqb n 0) is ∙ sym (and-true (eqb (beginOf w 0) 0))
-  ordered-none (suc i) e h is = let no : ⊥ = omega arith in absurd no
-
-  pub sound-none : (f : List ℕ) (i e : ℕ) → i ≤ 0 → e ≡ beginOf w i → eqb e 0 ≡ soundUpTo f i
-  unfolding fragmentsIn inFile
-  sound-none f zero e h is = ordered-none zero e h is ∙ sym (and-true (orderedUpTo zero))
-  sound-none f (suc i) e h is = let no : ⊥ = omega arith in absurd no
+  -- no fragment is left
+  pub passes-none : (i e : ℕ) → i ≤ 0 → e ≡ beginOf w i → eqb e 0 ≡ passesUpTo i
+  unfolding rising fragmentsIn
+  passes-none zero e h is =
+      ap (λ (n : ℕ). eqb n 0) is
+      ∙ sym (ap (λ (t : Bool). (eqb (beginOf w 0) 0 && true) && t) (all-none end) ∙ and-true (eqb (beginOf w 0) 0 && true) ∙ and-true (eqb (beginOf w 0) 0))
+  passes-none (suc i) e h is = let no : ⊥ = omega arith in absurd no
 
   -- fragment j is the last of i, begins at p and ends at e
   module _ (i j e p : ℕ) (is : i ≡ suc j) (inner : i ≤ countOf w) (he : e ≡ beginOf w i) (hp : p ≡ positionAt w j) where
@@ -106,31 +106,36 @@ module _ (w : List ℕ) where
     unfolding rising
     rising-one = ap (rising w) is ∙ ap₂ (λ (x y : ℕ). leb x y && rising w j) (sym begins) (sym ends)
 
-    pub falls : e < p → false ≡ orderedUpTo i
-    falls h = sym (ap (λ (t : Bool). eqb (beginOf w 0) 0 && t) (rising-one ∙ rw (lt-leb _ _ h) refl) ∙ and-false (eqb (beginOf w 0) 0))
+    pub falls : e < p → false ≡ passesUpTo i
+    falls h =
+        sym (ap (λ (t : Bool). (eqb (beginOf w 0) 0 && t) && allEnd end (fragmentsIn w i)) (rising-one ∙ rw (lt-leb _ _ h) refl)
+        ∙ ap (λ (t : Bool). t && allEnd end (fragmentsIn w i)) (and-false (eqb (beginOf w 0) 0)))
 
-    pub falls-in : (f : List ℕ) → e < p → false ≡ soundUpTo f i
-    falls-in f h = sym (ap (λ (t : Bool). t && inFile f (fragmentsIn w i)) (sym (falls h)))
-
-    pub rises : p ≤ e → orderedUpTo i ≡ orderedUpTo j
-    rises h = ap (λ (t : Bool). eqb (beginOf w 0) 0 && t) (rising-one ∙ rw (le-leb _ _ h) refl)
-
-    module _ (f : List ℕ) (a : ℕ) (ha : a ≡ addressAt w j) (ok : p ≤ e) (t : Bool) (ht : t ≡ leb (a + 24 + (e - p)) (length f)) where
-      its-end : inFile f (fragmentsIn w i) ≡ inFile f (fragmentsIn w j) && t
+    module _ (a : ℕ) (ha : a ≡ addressAt w j) (ok : p ≤ e) (t : Bool) (ht : t ≡ endsBy end (a + 24 + (e - p))) where
+      its-end : allEnd end (fragmentsIn w i) ≡ allEnd end (fragmentsIn w j) && t
       unfolding fragmentsIn
       its-end =
           let size : e - p ≡ beginOf w (j + 1) - beginOf w j = ap₂ (λ (x y : ℕ). x - y) ends begins in
-          ap (λ (n : ℕ). inFile f (fragmentsIn w n)) is
-          ∙ in-file-more f (fragmentsIn w j) (fragmentIn w j)
-          ∙ ap₂ (λ (x y : ℕ). inFile f (fragmentsIn w j) && leb (x + 24 + y) (length f)) (sym ha) (sym size)
-          ∙ ap (λ (x : Bool). inFile f (fragmentsIn w j) && x) (sym ht)
+          ap (λ (n : ℕ). allEnd end (fragmentsIn w n)) is
+          ∙ all-more end (fragmentsIn w j) (fragmentIn w j)
+          ∙ ap₂ (λ (x y : ℕ). allEnd end (fragmentsIn w j) && endsBy end (x + 24 + y)) (sym ha) (sym size)
+          ∙ ap (λ (x : Bool). allEnd end (fragmentsIn w j) && x) (sym ht)
 
-      pub outside : not t ≡ true → false ≡ soundUpTo f i
+      pub outside : not t ≡ true → false ≡ passesUpTo i
       outside n =
-          sym (ap (λ (x : Bool). orderedUpTo i && x) (its-end ∙ ap (λ (x : Bool). inFile f (fragmentsIn w j) && x) (not-true t n) ∙ and-false (inFile f (fragmentsIn w j)))
-          ∙ and-false (orderedUpTo i))
+          sym (ap (λ (x : Bool). (eqb (beginOf w 0) 0 && rising w i) && x) (its-end ∙ ap (λ (x : Bool). allEnd end (fragmentsIn w j) && x) (not-true t n) ∙ and-false (allEnd end (fragmentsIn w j)))
+          ∙ and-false (eqb (beginOf w 0) 0 && rising w i))
 
-      pub inside : not t ≡ false → soundUpTo f i ≡ soundUpTo f j
+      pub inside : not t ≡ false → passesUpTo i ≡ passesUpTo j
       inside n =
-          ap₂ (λ (x y : Bool). x && y) (rises ok)
-          (its-end ∙ ap (λ (x : Bool). inFile f (fragmentsIn w j) && x) (not-false t n) ∙ and-true (inFile f (fragmentsIn w j)))
+          ap₂ (λ (x y : Bool). (eqb (beginOf w 0) 0 && x) && y) (rising-one ∙ rw (le-leb _ _ ok) refl)
+          (its-end ∙ ap (λ (x : Bool). allEnd end (fragmentsIn w j) && x) (not-false t n) ∙ and-true (allEnd end (fragmentsIn w j)))
+
+-- ---- the two ways in which it is asked
+
+pub without-file : (w : List ℕ) → passes Unknown w ≡ ordered w
+without-file w = and-true (ordered w)
+
+pub with-file : (f w : List ℕ) → passes (At (length f)) w ≡ sound f w
+unfolding sound
+with-file f w = refl

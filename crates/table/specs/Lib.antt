@@ -1,3 +1,4 @@
 pub mod Meaning
+pub mod Passed
 pub mod Holds
 pub mod Listed

@@ -7,7 +7,8 @@ use crate::layout::Table;
 use crate::layout::TableChanged;
 use crate::layout::add;
 use crate::layout::count;
-use crate::soundness::is_sound;
+use crate::soundness::FileEnd;
+use crate::soundness::can_be_right;
 use chain::BlockRead;
 use chain::DataBlock;
 use chain::FileAddress;
@@ -21,7 +22,7 @@ pub fn extend_table(file: &[u8], address: FileAddress, table: &mut Table) -> Tab
     if FILE_LIMIT < file.len() {
         return TableChanged::Refused(Refusal::FileTooLong);
     }
-    if !is_sound(table, file) {
+    if !can_be_right(table, FileEnd::At(file.len() as u64)) {
         return TableChanged::Refused(Refusal::BadTable);
     }
     let read = data_block_at(file, address, &DataBlock::ID);

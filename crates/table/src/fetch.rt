@@ -13,7 +13,8 @@ use crate::layout::begin_of;
 use crate::layout::position_at;
 use crate::layout::total;
 use crate::search::fragment_with;
-use crate::soundness::is_sound;
+use crate::soundness::FileEnd;
+use crate::soundness::can_be_right;
 use chain::DataBlock;
 use chain::DataPosition;
 use chain::data_of;
@@ -64,7 +65,7 @@ pub fn fetch_record(
     if FILE_LIMIT < file.len() {
         return RecordRead::Refused(Refusal::FileTooLong);
     }
-    if !is_sound(table, file) {
+    if !can_be_right(table, FileEnd::At(file.len() as u64)) {
         return RecordRead::Refused(Refusal::BadTable);
     }
     let end = total(table);

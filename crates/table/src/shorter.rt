@@ -7,7 +7,8 @@ use crate::layout::Table;
 use crate::layout::TableChanged;
 use crate::layout::count;
 use crate::layout::position_at;
-use crate::soundness::is_ordered;
+use crate::soundness::FileEnd;
+use crate::soundness::can_be_right;
 use refusals::Refusal;
 
 // its place is cleared
@@ -26,7 +27,7 @@ fn drop_last(table: &mut Table)
 pub fn shorten_table(table: &mut Table) -> TableChanged
     ensures { λ r. ⌜ changedBy r (now (table .exit)) ≡ shortened (now (table .entry)) ⌝ }
 {
-    if !is_ordered(table) {
+    if !can_be_right(table, FileEnd::Unknown) {
         return TableChanged::Refused(Refusal::BadTable);
     }
     if count(table) == 0 {

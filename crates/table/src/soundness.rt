@@ -1,9 +1,7 @@
 // Whether a lent table can be right: one pass over its fragments, from the last to the first.
 ghost use mathlib.Core.Path.{_≡_};
-ghost use Prim.Native.Nat.{_+_, _≤_};
-ghost use lib.ListN.{length};
-ghost use lib.Dec.{leb};
-ghost use Rattle.definitions.specs.Table.{ordered, sound};
+ghost use Prim.Native.Nat.{_+_};
+ghost use Rattle.table.specs.Passed.{endsBy, passes};
 use crate::layout::TABLE_LIMIT;
 use crate::layout::Table;
 use crate::layout::address_at;
@@ -15,10 +13,19 @@ use chain::FileAddress;
 // the bytes of a header
 const HEADER_SIZE: u64 = 24;
 
-// Whether a block, with its header, ends inside a file of that length. No sum is taken, since it could wrap.
-fn ends_inside(address: FileAddress, size: u64, length: u64) -> bool
-    ensures { λ r. ⌜ r ≡ leb (address .0 + 24 + size) length ⌝ }
+// where the file ends, if one is given
+pub enum FileEnd {
+    Unknown,
+    At(u64),
+}
+
+// Whether a block, with its header, ends inside the file. No sum is taken, since it could wrap.
+fn ends_inside(address: FileAddress, size: u64, end: FileEnd) -> bool
+    ensures { λ r. ⌜ r ≡ endsBy end (address .0 + 24 + size) ⌝ }
 {
+    let FileEnd::At(length) = end else {
+        return true;
+    };
     if length < HEADER_SIZE {
         return false;
     }
@@ -28,29 +35,8 @@ fn ends_inside(address: FileAddress, size: u64, length: u64) -> bool
     address.0 <= length - HEADER_SIZE - size
 }
 
-// without a file
-pub(crate) fn is_ordered(table: &Table) -> bool
-    ensures { λ r. ⌜ r ≡ ordered (now (table .entry)) ⌝ }
-{
-    let mut i = count(table);
-    if TABLE_LIMIT < i {
-        return false;
-    }
-    let mut end = total(table);
-    while 0 < i {
-        i -= 1;
-        let begin = position_at(table, i);
-        if end.0 < begin.0 {
-            return false;
-        }
-        end = begin;
-    }
-    end.0 == 0
-}
-
-// and with one
-pub(crate) fn is_sound(table: &Table, file: &[u8]) -> bool
-    ensures { λ r. ⌜ r ≡ sound (now (file .entry)) (now (table .entry)) ⌝ }
+pub(crate) fn can_be_right(table: &Table, file_end: FileEnd) -> bool
+    ensures { λ r. ⌜ r ≡ passes «file_end» (now (table .entry)) ⌝ }
 {
     let mut i = count(table);
     if TABLE_LIMIT < i {
@@ -64,7 +50,7 @@ pub(crate) fn is_sound(table: &Table, file: &[u8]) -> bool
             return false;
         }
         let address = address_at(table, i);
-        if !ends_inside(address, end.0 - begin.0, file.len() as u64) {
+        if !ends_inside(address, end.0 - begin.0, file_end) {
             return false;
         }
         end = begin;

@@ -21,7 +21,7 @@ use Rattle.theorems.specs.TableCauses.{InOrder, RightIn}
 use Rattle.theorems.proofs.Calls.TestsInTurn.{Tests}
 
 -- blocks in a file pass its test
-pub inside-tested : (f : List ℕ) (bs : List Block) → Inside f bs → inFile f bs ≡ true
+pub inside-tested : (f : List ℕ) (bs : List Block) → Inside f bs → inFile (length f) bs ≡ true
 unfolding inFile Inside
 inside-tested f [] h = refl
 inside-tested f (b ∷ bs) h = rw (le-leb _ _ (h .0)) (inside-tested f bs (h .1))

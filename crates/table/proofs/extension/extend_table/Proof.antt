@@ -15,7 +15,7 @@ returns-2 c =
     let s = c .before in
     let one = s .before .before in
     let a = one .before .before .args in
-    extend-unsound (a .file .now) (a .table .now) (a .address .0) (one .if1 .left) _ (s .is-sound .ensures) (c .if2 .taken)
+    extend-unsound (a .file .now) (a .table .now) (a .address .0) (one .if1 .left) _ (s .can-be-right .ensures) (c .if2 .taken)
 
 returns-3 : tie.Need-returns-3
 returns-3 c =
@@ -24,7 +24,7 @@ returns-3 c =
     let s = two .before in
     let one = s .before .before in
     let a = one .before .before .args in
-    extend-refused (a .file .now) (a .table .now) (a .address .0) (one .if1 .left) _ (s .is-sound .ensures) (two .if2 .left) (c .refusal .result)
+    extend-refused (a .file .now) (a .table .now) (a .address .0) (one .if1 .left) _ (s .can-be-right .ensures) (two .if2 .left) (c .refusal .result)
     (sym (call .data-block-at .ensures) ∙ ap blockReply (c .refusal .ensures))
 
 -- the block that stands there
@@ -42,7 +42,7 @@ returns-4 c =
     let s = two .before in
     let one = s .before .before in
     let a = one .before .before .args in
-    extend-full (a .file .now) (a .table .now) (a .address .0) (one .if1 .left) _ (s .is-sound .ensures) (two .if2 .left) _ (block told) _ (n .count .ensures) (c .if3 .taken)
+    extend-full (a .file .now) (a .table .now) (a .address .0) (one .if1 .left) _ (s .can-be-right .ensures) (two .if2 .left) _ (block told) _ (n .count .ensures) (c .if3 .taken)
 
 add-requires : tie.Need-add-requires
 add-requires c κs =
@@ -53,7 +53,7 @@ add-requires c κs =
     let s = two .before in
     let one = s .before .before in
     let a = one .before .before .args in
-    extend-asks (a .file .now) (a .table .now) (a .address .0) (one .if1 .left) _ (s .is-sound .ensures) (two .if2 .left) _ (block told) _ (n .count .ensures) (three .if3 .left)
+    extend-asks (a .file .now) (a .table .now) (a .address .0) (one .if1 .left) _ (s .can-be-right .ensures) (two .if2 .left) _ (block told) _ (n .count .ensures) (three .if3 .left)
 
 returns-5 : tie.Need-returns-5
 returns-5 c =
@@ -64,7 +64,7 @@ returns-5 c =
     let s = two .before in
     let one = s .before .before in
     let a = one .before .before .args in
-    extend-done (a .file .now) (a .table .now) (a .address .0) (one .if1 .left) _ (s .is-sound .ensures) (two .if2 .left) _ (block told) _ (n .count .ensures) (three .if3 .left) _ (c .add .ensures)
+    extend-done (a .file .now) (a .table .now) (a .address .0) (one .if1 .left) _ (s .can-be-right .ensures) (two .if2 .left) _ (block told) _ (n .count .ensures) (three .if3 .left) _ (c .add .ensures)
 
 pub extend-table-spec : {M : Type 1} → statement M
 extend-table-spec =

@@ -10,6 +10,7 @@ use borrow.Author.Tests.{ltb-false, not-false}
 use Rattle.definitions.specs.Chain.{badSize}
 use Rattle.definitions.specs.Table.{sound}
 use Rattle.records.proofs.Records.{size-good}
+use Rattle.table.proofs.Ordered.{with-file}
 use Rattle.table.proofs.Fetches.{table-bad, table-long, table-unsound, table-behind, table-within, table-record}
 use Rattle.table.proofs.fetch.fetch_record.Statement.{statement}
 use Rattle.table.proofs.fetch.fetch_record.Tie as tie
@@ -32,13 +33,13 @@ returns-2 c = table-long _ _ _ _ _ (good (c .before)) (c .if2 .taken)
 returns-3 : tie.Need-returns-3
 returns-3 c =
     let two = c .before .before in
-    table-unsound _ _ _ _ _ (good (two .before)) (two .if2 .left) _ (c .before .is-sound .ensures) (c .if3 .taken)
+    table-unsound _ _ _ _ _ (good (two .before)) (two .if2 .left) _ (c .before .can-be-right .ensures) (c .if3 .taken)
 
 -- the table can be right
 believed : (c : tie.Else3) →
     let a = c .before .before .before .before .before .before .before .args in
     sound (a .file .now) (a .table .now) ≡ true
-believed c = sym (c .before .is-sound .ensures) ∙ not-false _ (c .if3 .left)
+believed c = sym (c .before .can-be-right .ensures ∙ with-file _ _) ∙ not-false _ (c .if3 .left)
 
 ends-behind-requires : tie.Need-ends-behind-requires
 ends-behind-requires c κs = room (c .before .before .before .before) .0
