@@ -53,7 +53,7 @@ unfoldable pub rising : List ℕ → ℕ → Bool
 rising w zero = true
 rising w (suc n) = leb (beginOf w n) (beginOf w (n + 1)) && rising w n
 
--- at most 512 fragments; the data begins at 0, and so that of no fragments ends there
+-- at most 512 fragments; the data begins at 0, so that without a fragment the total is 0
 unfoldable pub ordered : List ℕ → Bool
 ordered w = leb (countOf w) tableLimit && eqb (beginOf w 0) 0 && rising w (countOf w)
 

@@ -6,11 +6,10 @@ use Prim.Native.Nat.{ℕ, zero, suc, _+_, _-_, _*_, _≤_, _<_}
 use native.Mathlib.Nat.{mul-le-mul}
 use native.Mathlib.Omega.{arith}
 use lib.ListN.{length, set}
-use lib.Dec.{leb, ltb, eqb}
 use borrow.Author.Tests.{lt-ltb, le-ltb, lt-leb, le-leb, eq-eqb, ne-eqb, not-true, not-false}
-use Rattle.definitions.specs.Reply.{answer, refusal}
+use Rattle.definitions.specs.Reply.{answer}
 use Rattle.definitions.specs.Chain.{Block, fileLimit, idDT, total, blockAt}
-use Rattle.definitions.specs.Table.{tableLimit, countOf, totalIn, positionAt, blocksIn, ordered, sound, refusing, leaving, withBlock, extended, withoutLast, shortened}
+use Rattle.definitions.specs.Table.{tableLimit, countOf, totalIn, positionAt, blocksIn, ordered, sound, withBlock, extended, withoutLast, shortened}
 use Rattle.refusals.specs.Meaning.{refused}
 use Rattle.refusals.specs.declared.Refusal.{Refusal}
 use Rattle.refusals.specs.declared.Refusal.the-variants.{FileTooLong, TableFull, TableEmpty, BadTable}

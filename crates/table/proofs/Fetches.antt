@@ -7,7 +7,7 @@ use native.Mathlib.Omega.{arith}
 use lib.ListN.{length, take, drop}
 use lib.Seq.{length-take-le}
 use lib.Dec.{ltb}
-use borrow.Author.Tests.{lt-ltb, le-ltb, ltb-false, not-true, not-false}
+use borrow.Author.Tests.{lt-ltb, le-ltb, ltb-false, not-true}
 use Rattle.definitions.specs.Reply.{answer, refusal}
 use Rattle.definitions.specs.Bytes.{span}
 use Rattle.definitions.specs.Chain.{fileLimit, joined, badSize, recordOf}

@@ -1,18 +1,14 @@
 -- A table that is opened: cleared, and filled along a chain.
 use mathlib.Core.Path.{_≡_, refl, sym, ap, _∙_}
-use mathlib.Core.Bool.{true, false}
 use mathlib.Core.List.{List, [], _∷_, _++_, append-nil}
 use Prim.Native.Nat.{ℕ, zero, suc, _+_, _≤_, _<_}
 use native.Mathlib.Omega.{arith}
 use lib.ListN.{length, getD, set, drop, replicate, length-append}
 use lib.Seq.{drop-length}
-use lib.Dec.{ltb}
 use borrow.Author.Tests.{lt-ltb, le-ltb}
-use Rattle.definitions.specs.Reply.{answer, refusal}
-use Rattle.definitions.specs.Chain.{Block, fileLimit, idDT, total, chainOf}
+use Rattle.definitions.specs.Chain.{Block, fileLimit, idDT, total}
 use Rattle.definitions.specs.Table.{tableLimit, countOf, totalIn, placesOf, tableOf, withBlock, opened}
 use Rattle.definitions.proofs.Replies.{not-answered}
-use Rattle.refusals.specs.Meaning.{refused}
 use Rattle.refusals.specs.declared.Refusal.{Refusal}
 use Rattle.refusals.specs.declared.Refusal.the-variants.{FileTooLong, TableFull}
 use Rattle.places.proofs.Answers.{answered}

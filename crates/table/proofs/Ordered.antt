@@ -6,9 +6,8 @@ use Prim.Native.Nat.{ℕ, zero, suc, _+_, _-_, _≤_, _<_}
 use native.Mathlib.Omega.{arith}
 use native.Mathlib.Numerals.{add-one}
 use lib.ListN.{length}
-use lib.Dec.{leb, ltb, eqb}
+use lib.Dec.{leb, eqb}
 use borrow.Author.Tests.{lt-ltb, le-ltb, lt-leb, le-leb, leb-true, leb-false, not-true, not-false}
-use Rattle.definitions.specs.Reply.{if_then_else_}
 use Rattle.definitions.specs.Chain.{Block}
 use Rattle.definitions.specs.Table.{tableLimit, countOf, totalIn, addressAt, positionAt, beginOf, fragmentIn, fragmentsIn, rising, ordered, inFile, sound}
 use Rattle.table.specs.Passed.{endsBy, allEnd, passes}

@@ -1,9 +1,9 @@
 -- A window on the data of a table's fragments.
 use mathlib.Core.Path.{_≡_, refl, sym, ap, subst, _∙_}
-use mathlib.Core.Bool.{Bool, true, false}
+use mathlib.Core.Bool.{true}
 use mathlib.Core.Logic.{inl, inr}
 use mathlib.Core.List.{List, [], _∷_, _++_}
-use Prim.Native.Nat.{ℕ, zero, suc, _+_, _-_, _≤_, _<_}
+use Prim.Native.Nat.{ℕ, _+_, _-_, _≤_, _<_}
 use native.Mathlib.Omega.{arith}
 use lib.ListN.{length}
 use Rattle.definitions.specs.Chain.{Block, dataOf, joined, total}
@@ -14,7 +14,7 @@ use Rattle.records.specs.Window.{laid}
 use Rattle.records.proofs.Laying.{lay-start, lay-turn, lay-full}
 use Rattle.table.specs.Holds.{Holds}
 use Rattle.table.proofs.Ordered.{begin-at, begin-past}
-use Rattle.table.proofs.Fragments.{fragments-one, split-at, InOrder, rise-at, total-at, sound-ordered, first-inside, lies}
+use Rattle.table.proofs.Fragments.{fragments-one, split-at, rise-at, total-at, sound-ordered, first-inside, lies}
 
 -- the two ends of the halving meet
 pub found : (w : List ℕ) (p low high : ℕ) → low < high → high ≤ low + 1 → high ≤ countOf w → positionAt w low ≤ p → (high < countOf w → p < positionAt w high) → Holds w p low

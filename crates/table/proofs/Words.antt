@@ -1,12 +1,12 @@
 -- The words of a table worked out afresh: one block more, and the last one given up.
 use mathlib.Core.Path.{_≡_, refl, sym, ap, _∙_}
 use mathlib.Core.List.{List, [], _∷_, _++_, append-assoc}
-use Prim.Native.Nat.{ℕ, zero, suc, _+_, _-_, _*_, _≤_, _<_}
+use Prim.Native.Nat.{ℕ, suc, _+_, _-_, _*_, _<_}
 use native.Mathlib.Omega.{arith}
 use lib.ListN.{length, getD, set, replicate, length-append}
 use lib.Seq.{set-at, getD-at}
 use Rattle.definitions.specs.Chain.{Block, total}
-use Rattle.definitions.specs.Table.{tableLimit, countOf, totalIn, addressAt, positionAt, placesOf, tableOf, withBlock, withoutLast}
+use Rattle.definitions.specs.Table.{tableLimit, addressAt, positionAt, placesOf, tableOf, withBlock, withoutLast}
 use Rattle.chain.proofs.Chains.{total-more}
 
 -- ---- the words around place k

@@ -1,5 +1,4 @@
 // Which fragment holds a position.
-ghost use mathlib.Core.Path.{_≡_};
 ghost use Prim.Native.Nat.{_≤_, _<_};
 ghost use Rattle.definitions.specs.Table.{tableLimit, countOf, positionAt};
 ghost use Rattle.table.specs.Holds.{Holds};

@@ -1,7 +1,7 @@
 -- Worked examples of tables: the definitions compute to what the rows say. The file is that of three blocks, at 96, 123 and 147, of 3, 0
 -- and 3 bytes, which ends at 174.
 use mathlib.Core.Path.{_≡_, refl}
-use mathlib.Core.List.{List, [], _∷_, _++_, map}
+use mathlib.Core.List.{List, [], _∷_, map}
 use Prim.Native.Nat.{ℕ}
 use lib.ListN.{take}
 use Rattle.definitions.specs.Reply.{Reply, Outcome, answer, refusal}

@@ -1,15 +1,14 @@
 -- A table worked out afresh from blocks of a file: it can be right there, and holds these blocks and no others.
 use mathlib.Core.Path.{_≡_, refl, sym, ap, ap₂, subst, _∙_}
-use mathlib.Core.Bool.{Bool, true, false, _&&_}
+use mathlib.Core.Bool.{true}
 use mathlib.Core.List.{List, [], _∷_, _++_, append-assoc, append-nil}
-use Prim.Native.Nat.{ℕ, zero, suc, _+_, _-_, _*_, _≤_, _<_}
+use Prim.Native.Nat.{ℕ, _+_, _-_, _*_, _≤_}
 use native.Mathlib.Omega.{arith}
 use native.Mathlib.Numerals.{add-one}
-use lib.ListN.{length, getD, replicate, length-append}
-use lib.Dec.{leb, eqb}
+use lib.ListN.{length, replicate, length-append}
 use borrow.Author.Tests.{le-leb, eq-eqb}
 use Rattle.definitions.specs.Chain.{Block, total}
-use Rattle.definitions.specs.Table.{tableLimit, countOf, totalIn, addressAt, positionAt, beginOf, fragmentIn, fragmentsIn, blocksIn, rising, ordered, inFile, sound, placesOf, tableOf}
+use Rattle.definitions.specs.Table.{tableLimit, countOf, totalIn, addressAt, positionAt, beginOf, fragmentIn, fragmentsIn, blocksIn, rising, ordered, sound, placesOf, tableOf}
 use Rattle.chain.specs.Walk.{Inside}
 use Rattle.table.proofs.Words.{get-first, get-second}
 use Rattle.table.proofs.Ordered.{begin-at, begin-past}

@@ -3,7 +3,7 @@
 use mathlib.Core.Path.{_≡_, refl, sym, ap, ap₂, subst, _∙_}
 use mathlib.Core.Bool.{Bool, true, false, not}
 use mathlib.Core.List.{List, [], _∷_, _++_, map}
-use Prim.Native.Nat.{ℕ, zero, suc, _+_, _-_, _*_, _≤_, _<_}
+use Prim.Native.Nat.{ℕ, zero, suc, _+_, _-_, _≤_, _<_}
 use native.Mathlib.Omega.{arith}
 use lib.ListN.{length, take, replicate, length-append}
 use lib.Dec.{ltb, leb, eqb}
@@ -200,19 +200,32 @@ pub zeros-afresh : (f : List ℕ) → Afresh f [] (replicate 1026 0)
 unfolding AllStand placesOf total
 zeros-afresh f = record { few = omega arith; stand = tt; table = refl }
 
--- a chain that was opened, from whatever stood in the table
-pub open-afresh : (f : List ℕ) (start : ℕ) (w v : List ℕ) → record { reply = answer tt; buffer = v } ≡ opened f start w → Afresh f (addressesOf (chainOf idDT f start)) v
-unfolding opened
-open-afresh f start w v e = go (ltb fileLimit (length f)) (chainOf idDT f start) refl e
-  where
-    few : (bs : List Block) (full : Bool) → chainOf idDT f start ≡ answer bs → ltb tableLimit (length bs) ≡ full
-        → record { reply = answer tt; buffer = v } ≡ (if full then refusing 30 w else leaving (tableOf bs)) → Afresh f (addressesOf (chainOf idDT f start)) v
-    few bs true c l e = let r : answer tt ≡ refusal 30 0 = ap (λ (z : Outcome (Unit {0})). z .reply) e in not-answered tt 30 0 (sym r)
-    few bs false c l e = subst (Afresh f (addressesOf (chainOf idDT f start))) (sym (ap (λ (z : Outcome (Unit {0})). z .buffer) e)) (opened-afresh f start bs c (ltb-false tableLimit (length bs) l))
+-- what an opening that answered left
+pub record OpenedFrom (f : List ℕ) (start : ℕ) (v : List ℕ) : Type 0 where
+  pub short : length f ≤ fileLimit
+  pub blocks : List Block
+  pub chain : chainOf idDT f start ≡ answer blocks
+  pub few : length blocks ≤ tableLimit
+  pub table : v ≡ tableOf blocks
 
-    go : (long : Bool) (r : Reply (List Block)) → chainOf idDT f start ≡ r
+pub opened-from : (f : List ℕ) (start : ℕ) (w v : List ℕ) → record { reply = answer tt; buffer = v } ≡ opened f start w → OpenedFrom f start v
+unfolding opened
+opened-from f start w v e = go (ltb fileLimit (length f)) (chainOf idDT f start) refl refl e
+  where
+    few : (bs : List Block) (full : Bool) → length f ≤ fileLimit → chainOf idDT f start ≡ answer bs → ltb tableLimit (length bs) ≡ full
+        → record { reply = answer tt; buffer = v } ≡ (if full then refusing 30 w else leaving (tableOf bs)) → OpenedFrom f start v
+    few bs true s c l e = let q : answer tt ≡ refusal 30 0 = ap (λ (z : Outcome (Unit {0})). z .reply) e in not-answered tt 30 0 (sym q)
+    few bs false s c l e = record { short = s; blocks = bs; chain = c; few = ltb-false _ _ l; table = ap (λ (z : Outcome (Unit {0})). z .buffer) e }
+
+    go : (long : Bool) (r : Reply (List Block)) → ltb fileLimit (length f) ≡ long → chainOf idDT f start ≡ r
         → record { reply = answer tt; buffer = v } ≡ (if long then refusing 7 w else onAnswer r (λ bs. if ltb tableLimit (length bs) then refusing 30 w else leaving (tableOf bs)) w)
-        → Afresh f (addressesOf (chainOf idDT f start)) v
-    go true r c e = let q : answer tt ≡ refusal 7 0 = ap (λ (z : Outcome (Unit {0})). z .reply) e in not-answered tt 7 0 (sym q)
-    go false (refusal n t) c e = let q : answer tt ≡ refusal n t = ap (λ (z : Outcome (Unit {0})). z .reply) e in not-answered tt n t (sym q)
-    go false (answer bs) c e = few bs (ltb tableLimit (length bs)) c refl e
+        → OpenedFrom f start v
+    go true r s c e = let q : answer tt ≡ refusal 7 0 = ap (λ (z : Outcome (Unit {0})). z .reply) e in not-answered tt 7 0 (sym q)
+    go false (refusal n t) s c e = let q : answer tt ≡ refusal n t = ap (λ (z : Outcome (Unit {0})). z .reply) e in not-answered tt n t (sym q)
+    go false (answer bs) s c e = few bs (ltb tableLimit (length bs)) (ltb-false _ _ s) c refl e
+
+-- so its table is afresh, whatever stood there before
+pub open-afresh : (f : List ℕ) (start : ℕ) (w v : List ℕ) → record { reply = answer tt; buffer = v } ≡ opened f start w → Afresh f (addressesOf (chainOf idDT f start)) v
+open-afresh f start w v e =
+    let o = opened-from f start w v e in
+    subst (Afresh f (addressesOf (chainOf idDT f start))) (sym (o .table)) (opened-afresh f start (o .blocks) (o .chain) (o .few))

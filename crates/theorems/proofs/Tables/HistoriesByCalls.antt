@@ -1,14 +1,13 @@
 -- A history of calls: each is what one of the library's calls, or one of those for C, replies and leaves by its own clause.
-use mathlib.Core.Path.{_≡_, refl, sym, ap, ap₂, subst, _∙_}
-use mathlib.Core.List.{List, [], _∷_}
+use mathlib.Core.Path.{_≡_, refl, sym, ap, ap₂, _∙_}
+use mathlib.Core.List.{List, []}
 use Prim.Native.Nat.{ℕ}
 use contract.Lifetimes.{Lfts}
 use lib.ListN.{replicate}
 use Rattle.definitions.specs.Reply.{Reply, Outcome, answer}
 use Rattle.definitions.specs.Chain.{idDT, chainOf}
 use Rattle.definitions.specs.Table.{opened, extended, shortened}
-use Rattle.places.specs.declared.place.FileAddress.{FileAddress}
-use Rattle.table.specs.Meaning.{changeReply, changedBy}
+use Rattle.table.specs.Meaning.{changeReply}
 use Rattle.table.specs.declared.layout.TableChanged.{TableChanged}
 use Rattle.block_replies.specs.Replies.{Returned}
 use Rattle.replies.specs.declared.done.Mf4DoneReply.{Mf4DoneReply}
@@ -16,7 +15,7 @@ use Rattle.replies.proofs.ToldToC.{doneAgain}
 use Rattle.mf4.specs.Clauses.{Slice}
 use Rattle.theorems.specs.Clauses.{OpensTable, ExtendsTable, ShortensTable}
 use Rattle.theorems.specs.ClausesToC.{OpensTableC, ExtendsTableC, ShortensTableC}
-use Rattle.theorems.specs.Histories.{Afresh, Operation, opens, extends, shortens, outcomeOf, addressesOf, Runs}
+use Rattle.theorems.specs.Histories.{Afresh, Operation, opens, extends, shortens, addressesOf, Runs}
 use Rattle.theorems.proofs.Tables.TableNumbers.{mf4-open-table-told, mf4-extend-table-told, mf4-shorten-table-told}
 use Rattle.theorems.proofs.Tables.Histories.{Faithful, history, zeros-afresh, open-afresh}
 

@@ -1,18 +1,15 @@
 -- The pass over a table, in turn, finds exactly the tables that can be right.
-use mathlib.Core.Path.{_≡_, refl, sym, ap, subst, _∙_}
-use mathlib.Core.Bool.{Bool, true, false, _&&_}
+use mathlib.Core.Path.{_≡_, refl, sym, subst, _∙_}
+use mathlib.Core.Bool.{true}
 use mathlib.Core.Logic.{inl, inr}
-use mathlib.Core.List.{List, [], _∷_, _++_}
+use mathlib.Core.List.{List, [], _∷_}
 use Prim.Native.Nat.{ℕ, zero, suc, _+_, _-_, _≤_, _<_}
 use native.Mathlib.Omega.{arith}
 use native.Mathlib.Nat.{eq-or-lt-of-le, eq-zero-or-pos}
-use native.Mathlib.Numerals.{add-one}
 use lib.ListN.{length}
-use lib.Dec.{leb, eqb}
-use borrow.Author.Tests.{le-leb, leb-true, eq-eqb}
+use borrow.Author.Tests.{le-leb, eq-eqb}
 use Rattle.definitions.specs.Chain.{Block}
-use Rattle.definitions.specs.Table.{tableLimit, countOf, totalIn, addressAt, positionAt, beginOf, fragmentIn, fragmentsIn, blocksIn, rising, ordered, inFile, sound}
-use Rattle.definitions.proofs.Replies.{both}
+use Rattle.definitions.specs.Table.{countOf, totalIn, addressAt, positionAt, beginOf, fragmentIn, fragmentsIn, blocksIn, rising, ordered, inFile, sound}
 use Rattle.chain.specs.Walk.{Inside}
 use Rattle.chain.proofs.Chains.{inside-more}
 use Rattle.table.proofs.Ordered.{begin-at, begin-past}

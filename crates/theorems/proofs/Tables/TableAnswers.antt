@@ -10,8 +10,8 @@ use borrow.Author.Tests.{le-ltb, lt-leb, leb-false, ltb-false, ne-eqb, eqb-false
 use Rattle.definitions.specs.Reply.{Reply, Outcome, answer, refusal, if_then_else_, onAnswer}
 use Rattle.definitions.specs.Bytes.{span}
 use Rattle.definitions.specs.Channel.{Channel, Group, ValidValue, boundedValueOf}
-use Rattle.definitions.specs.Chain.{Block, idDT, fileLimit, joined, blockAt, chainOf, fieldOf}
-use Rattle.definitions.specs.Table.{tableLimit, countOf, totalIn, blocksIn, ordered, sound, refusing, leaving, tableOf, opened, withBlock, extended, withoutLast, shortened, tableFetched, tableValueFetched}
+use Rattle.definitions.specs.Chain.{Block, idDT, fileLimit, joined, blockAt}
+use Rattle.definitions.specs.Table.{tableLimit, countOf, blocksIn, ordered, sound, refusing, leaving, opened, withBlock, extended, withoutLast, shortened, tableFetched, tableValueFetched}
 use Rattle.definitions.proofs.Replies.{not-answered}
 use Rattle.words.proofs.Spans.{length-span}
 use Rattle.places.proofs.Answers.{followed}
@@ -24,8 +24,8 @@ use Rattle.theorems.proofs.Chains.AcceptedChains.{accepted, accepts}
 use Rattle.theorems.proofs.Chains.BlocksStand.{block-taken}
 use Rattle.theorems.proofs.Records.FetchEnds.{outcome-is}
 use Rattle.theorems.proofs.Tables.RightTables.{tests-order, tests-right}
-use Rattle.theorems.proofs.Tables.TableCauses.{passes, Passed, table-passed, table-record, table-front}
-use Rattle.theorems.proofs.Tables.TableFetches.{opened-from}
+use Rattle.theorems.proofs.Tables.TableCauses.{Passed, table-passed, table-record, table-front}
+use Rattle.theorems.proofs.Tables.Histories.{opened-from}
 
 -- ---- a table is changed
 

@@ -3,11 +3,10 @@ use mathlib.Core.Path.{_≡_, refl, sym, ap, subst, _∙_}
 use mathlib.Core.Bool.{Bool, true, false, not}
 use mathlib.Core.List.{List, _++_}
 use Prim.Native.Nat.{ℕ, _+_, _*_, _≤_, _<_}
-use native.Mathlib.Omega.{arith}
 use lib.ListN.{length, take, drop}
 use lib.Dec.{ltb, leb, eqb}
-use borrow.Author.Tests.{ltb-true, lt-ltb, le-ltb, ltb-false, leb-true, le-leb, not-false}
-use Rattle.definitions.specs.Reply.{Reply, Outcome, answer, refusal, if_then_else_}
+use borrow.Author.Tests.{ltb-true, lt-ltb, ltb-false, leb-true, le-leb, not-false}
+use Rattle.definitions.specs.Reply.{Outcome, answer, if_then_else_}
 use Rattle.definitions.specs.Bytes.{span}
 use Rattle.definitions.specs.Channel.{Channel, Group, boundedValueOf}
 use Rattle.definitions.specs.Chain.{Block, idDT, fileLimit, joined, blockAt, chainOf, badSize, recordOf}
@@ -15,8 +14,7 @@ use Rattle.definitions.specs.Table.{tableLimit, countOf, totalIn, blocksIn, ord
 use Rattle.definitions.proofs.Replies.{answered, not-answered}
 use Rattle.words.proofs.Spans.{length-span}
 use Rattle.table.proofs.Fragments.{data-long}
-use Rattle.theorems.specs.Causes.{boundedRefused}
-use Rattle.theorems.specs.Refused.{Cause, RefusedExactly}
+use Rattle.theorems.specs.Refused.{RefusedExactly}
 use Rattle.theorems.specs.TableCauses.{TooMany, openRefused, extendRefused, shortenRefused, tableRecordRefused, tableValueRefused}
 use Rattle.theorems.proofs.Blocks.Rewritten.{front-of}
 use Rattle.theorems.proofs.Chains.AcceptedChains.{accepted, accepts}
@@ -93,7 +91,7 @@ module _ (f w : List ℕ) (k size : ℕ) (out : List ℕ) where
 
   -- ---- a record that was fetched
 
-  pub passes : (b : Bool) (n : ℕ) (o : Outcome (Unit {0})) → (if b then refusing n out else o) .reply ≡ answer tt → (b ≡ false) × (o .reply ≡ answer tt)
+  passes : (b : Bool) (n : ℕ) (o : Outcome (Unit {0})) → (if b then refusing n out else o) .reply ≡ answer tt → (b ≡ false) × (o .reply ≡ answer tt)
   passes true n o e = not-answered tt n 0 e
   passes false n o e = (refl, e)
 

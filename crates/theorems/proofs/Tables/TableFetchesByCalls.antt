@@ -1,15 +1,13 @@
 -- The same about the clauses of the calls: a fetch by a table that calls made, held beside the fetch through the chain.
-use mathlib.Core.Path.{_≡_, refl, sym, ap, ap₂, subst, _∙_}
+use mathlib.Core.Path.{_≡_, sym, ap, _∙_}
 use mathlib.Core.List.{List}
 use Prim.Native.Nat.{ℕ, _≤_}
 use contract.Lifetimes.{Lfts}
 use lib.ListN.{length}
-use Rattle.definitions.specs.Reply.{Reply, Outcome, answer}
+use Rattle.definitions.specs.Reply.{Outcome, answer}
 use Rattle.definitions.specs.Channel.{ValidValue}
 use Rattle.definitions.specs.Chain.{fileLimit, joined}
-use Rattle.definitions.specs.Table.{tableFetched, tableValueFetched}
-use Rattle.places.specs.declared.place.FileAddress.{FileAddress}
-use Rattle.fields.specs.Meaning.{channelMeant, groupMeant, validValueReply}
+use Rattle.fields.specs.Meaning.{channelMeant, groupMeant}
 use Rattle.fields.specs.declared.channel.Channel.{Channel}
 use Rattle.fields.specs.declared.group.Group.{Group}
 use Rattle.fields.specs.declared.value.ValidValueRead.{ValidValueRead}
@@ -31,7 +29,8 @@ use Rattle.theorems.specs.ClausesToC.{ReadsRecordC, ReadsRecordValueC, F
 use Rattle.theorems.specs.Histories.{blocksThere, Afresh, opens}
 use Rattle.theorems.proofs.Records.TwoFiles.{Joins, recordIn, valueIn}
 use Rattle.theorems.proofs.Tables.HistoriesByCalls.{ByCalls, ToC, calls-faithful, c-faithful}
-use Rattle.theorems.proofs.Tables.TableFetches.{OpenedFrom, opened-from, fetch-afresh, value-afresh, fetch-opened, value-opened, fetch-on-joined, value-on-joined}
+use Rattle.theorems.proofs.Tables.Histories.{OpenedFrom, opened-from}
+use Rattle.theorems.proofs.Tables.TableFetches.{fetch-afresh, value-afresh, fetch-opened, value-opened, fetch-on-joined, value-on-joined}
 
 -- a table just opened by a call, from whatever stood in it
 pub opened-by-call : (f : List ℕ) (start : ℕ) (w v : List ℕ) → ByCalls f (opens start) w (answer tt) v → OpenedFrom f start v

@@ -1,7 +1,7 @@
 -- Which numbers the refusals of a table have: 30 to 32 and those of blocks, chains and records, and of a value through it also the
 -- field's; so a reply of 0 is an answer. About the definitions, and about the clauses of the calls; and what C is told.
 use mathlib.Core.Path.{_≡_, refl, sym, ap, _∙_}
-use mathlib.Core.Logic.{_⊎_, inl, inr, ⊎-elim}
+use mathlib.Core.Logic.{_⊎_, inl, inr}
 use mathlib.Core.Bool.{true, not, _&&_}
 use mathlib.Core.List.{List}
 use Prim.Native.Nat.{ℕ, _+_, _*_, _<_}
@@ -9,9 +9,9 @@ use native.Mathlib.Omega.{arith}
 use contract.Lifetimes.{Lfts}
 use lib.ListN.{length, take}
 use lib.Dec.{ltb, leb, eqb}
-use Rattle.definitions.specs.Reply.{Reply, Outcome, answer, refusal, if_then_else_, andThen, onAnswer}
+use Rattle.definitions.specs.Reply.{Reply, Outcome, answer, refusal, andThen, onAnswer}
 use Rattle.definitions.specs.Channel.{Channel, Group, boundedValueOf}
-use Rattle.definitions.specs.Chain.{Block, idDT, fileLimit, joined, blockAt, chainOf, badSize, recordOf}
+use Rattle.definitions.specs.Chain.{idDT, fileLimit, joined, blockAt, chainOf, badSize, recordOf}
 use Rattle.definitions.specs.Table.{tableLimit, countOf, blocksIn, ordered, sound, opened, extended, shortened, tableFetched, tableValueFetched}
 use Rattle.fields.specs.Meaning.{groupMeant, channelMeant, validValueReply}
 use Rattle.fields.specs.declared.channel.Channel.{Channel as Description}

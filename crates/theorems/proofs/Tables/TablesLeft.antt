@@ -1,12 +1,12 @@
 -- What a call leaves of a table. Where it refuses: every word. Where it extends: all but the count, the total and the place that the
 -- block takes; where it gives up: all but the count, the total and the place that is cleared. And a fetch leaves what a fetch
 -- through a chain does.
-use mathlib.Core.Path.{_≡_, refl, sym, ap, subst, _∙_}
+use mathlib.Core.Path.{_≡_, refl, sym, ap, _∙_}
 use mathlib.Core.Bool.{Bool, true, false, not}
-use mathlib.Core.List.{List, _++_}
-use Prim.Native.Nat.{ℕ, _+_, _-_, _*_, _≤_, _<_}
+use mathlib.Core.List.{List}
+use Prim.Native.Nat.{ℕ, _+_, _-_, _*_}
 use contract.Lifetimes.{Lfts}
-use lib.ListN.{length, drop, getD, set, length-set}
+use lib.ListN.{length, getD, set, length-set}
 use lib.Seq.{getD-set-other}
 use lib.Dec.{ltb, leb, eqb}
 use borrow.Author.Tests.{ltb-false}
@@ -31,7 +31,7 @@ use Rattle.theorems.proofs.Calls.Answers.{size-fits}
 use Rattle.theorems.proofs.Calls.LeftAlone.{Leaves}
 use Rattle.theorems.proofs.Calls.LeftAlone as left
 use Rattle.theorems.proofs.Calls.LeftAloneByCalls as by-calls
-use Rattle.theorems.proofs.Calls.LeftAloneByCalls.{Spares, Sparing, Refused, reported}
+use Rattle.theorems.proofs.Calls.LeftAloneByCalls.{Sparing, Refused, reported}
 use Rattle.theorems.proofs.Calls.LeftAloneToC as to-c
 
 -- ---- where it refuses

@@ -1,4 +1,3 @@
-use mathlib.Core.Path.{_≡_}
 use Rattle.replies.specs.Replies.{doneC}
 use Rattle.block_replies.proofs.Handed.{by-numbers}
 use borrow.Author.Needs.{needs}

@@ -1,6 +1,6 @@
 -- The data of the fragments before this one is laid into the window.
 use mathlib.Core.Path.{_≡_, refl, sym, _∙_}
-use Prim.Native.Nat.{ℕ, _+_, _-_, _≤_, _<_}
+use Prim.Native.Nat.{_+_, _-_, _≤_, _<_}
 use native.Mathlib.Omega.{arith}
 use lib.ListN.{length}
 use borrow.Author.Needs.{needs}
@@ -9,7 +9,7 @@ use Rattle.definitions.specs.Chain.{joined}
 use Rattle.definitions.specs.Table.{countOf, fragmentsIn}
 use Rattle.records.specs.Window.{laid}
 use Rattle.table.proofs.Fragments.{sound-ordered, some-first}
-use Rattle.table.proofs.Windows.{Laid, Turned, window-start, rises, lies-in, window-turn, window-end, window-on}
+use Rattle.table.proofs.Windows.{window-start, rises, lies-in, window-turn, window-end, window-on}
 use Rattle.table.proofs.fetch.window.Statement.{statement}
 use Rattle.table.proofs.fetch.window.Tie as tie
 

@@ -1,6 +1,5 @@
 -- The fragment at `low` begins no later than the position, and the one at `high`, if there is one, later.
-use mathlib.Core.Path.{_≡_, sym, subst}
-use Prim.Native.Nat.{ℕ, _-_, _+_, _≤_, _<_}
+use Prim.Native.Nat.{_-_, _≤_, _<_}
 use native.Mathlib.Omega.{arith}
 use borrow.Author.Needs.{needs}
 use Rattle.definitions.specs.Table.{tableLimit, countOf, positionAt}
