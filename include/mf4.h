@@ -77,7 +77,7 @@ enum mf4_reply {
     MF4_TOO_MANY_FRAGMENTS = 9,  /* a chain of more than 4096 data blocks                                          */
     MF4_LIST_DISAGREES = 10,     /* a list whose count or block length does not match its links                    */
     MF4_NO_BLOCK_THERE = 11,     /* an address of 0, or with fewer than 24 bytes of the file from there on         */
-    MF4_BAD_DATA_BLOCK = 12,     /* a list links something else than a whole ##DT (or, of payloads, ##SD) block    */
+    MF4_BAD_DATA_BLOCK = 12,     /* something else than a whole ##DT (or, of payloads, ##SD) block is linked       */
     MF4_UNTRUE_DECLARATION = 13, /* a data block is not as its list declares, or a list not as the first one does  */
     MF4_DATA_TOO_LONG = 14,      /* more joined data than 2^63-1 bytes                                             */
     MF4_BAD_RECORD_SIZE = 15,    /* a record size of 0, over 16384 or over the room of the record's buffer         */
@@ -119,7 +119,7 @@ static inline const char *mf4_reply_text(uint32_t reply)
     case MF4_TOO_MANY_FRAGMENTS: return "the chain has over 4096 data blocks";
     case MF4_LIST_DISAGREES: return "a list's count or block length disagrees with its links";
     case MF4_NO_BLOCK_THERE: return "a link leads to no block";
-    case MF4_BAD_DATA_BLOCK: return "a list links something else than a whole block of its chain's kind";
+    case MF4_BAD_DATA_BLOCK: return "a link leads to something else than a whole data block of its kind";
     case MF4_UNTRUE_DECLARATION: return "a data block is not as its list declares, or a list declares otherwise than the first";
     case MF4_DATA_TOO_LONG: return "the joined data passes 2^63-1 bytes";
     case MF4_BAD_RECORD_SIZE: return "the record size is 0 or over 16384, or the buffer is too short";
