@@ -68,7 +68,7 @@ use Rattle.mf4.proofs.mf4_record_payload.Kinds as mf4-record-payload-kinds
 use Rattle.mf4.proofs.mf4_record_payload.Reads as mf4-record-payload
 
 -- what is returned comes of one struct, and of one buffer, which stands among the lent ones at its place
-one-returned : {R B : Type 0} (place : List ℕ → B) {y z : R} {b c : List ℕ} → returned y b ≡ returned z c → (y ≡ z) × (place b ≡ place c)
+pub one-returned : {R B : Type 0} (place : List ℕ → B) {y z : R} {b c : List ℕ} → returned y b ≡ returned z c → (y ≡ z) × (place b ≡ place c)
 one-returned {R} place e = (ap (λ (x : Returned R). x .result) e, ap (λ (x : Returned R). place (x .buffer)) e)
 
 -- the same of two buffers

@@ -2,7 +2,7 @@
 use mathlib.Core.Path.{_≡_, refl, sym, ap, subst, _∙_}
 use mathlib.Core.Bool.{Bool, true, false, not}
 use mathlib.Core.List.{List}
-use Prim.Native.Nat.{ℕ, zero, suc, _+_, _*_, _≤_, _<_}
+use Prim.Native.Nat.{ℕ, _+_, _*_, _≤_}
 use native.Mathlib.Omega.{arith}
 use lib.ListN.{length}
 use lib.Dec.{ltb, leb, eqb}
@@ -19,6 +19,7 @@ use Rattle.places.proofs.Blocks.{block-stands}
 use Rattle.table.proofs.Fragments.{data-long}
 use Rattle.theorems.specs.Exactly.{Exactly, InArea}
 use Rattle.theorems.specs.TableCauses.{Openable, Extendable, Shortenable, TableFetchable, TableValueFetchable}
+use Rattle.theorems.proofs.Blocks.ListAnswers.{above-zero}
 use Rattle.theorems.proofs.Calls.Answers.{size-fits, size-passes, bounded-value-exactly}
 use Rattle.theorems.proofs.Chains.AcceptedChains.{accepted, accepts}
 use Rattle.theorems.proofs.Chains.BlocksStand.{block-taken}
@@ -75,17 +76,13 @@ module _ (w : List ℕ) where
   shortened-by false true u e = not-answered u 31 0 e
   shortened-by false false u e = (refl, refl)
 
-  above : (n : ℕ) → (n ≡ 0 → ⊥) → 0 < n
-  above zero h = absurd (h refl)
-  above (suc n) h = omega arith
-
   pub shorten-exactly : Exactly (Shortenable w) (shortened w .reply)
   unfolding shortened
   shorten-exactly = record {
     answers = λ h. let n : countOf w ≡ 0 → ⊥ = λ z. omega (arith, h .some) in (tt, rw (tests-order w .shows (h .order), ne-eqb _ _ n) refl);
     only = λ u e.
         let p = shortened-by (not (ordered w)) (eqb (countOf w) 0) u e in
-        record { order = tests-order w .holds (not-false (ordered w) (p .0)); some = above (countOf w) (eqb-false _ _ (p .1)) };
+        record { order = tests-order w .holds (not-false (ordered w) (p .0)); some = above-zero (countOf w) (eqb-false _ _ (p .1)) };
   }
 
 -- ---- a record, and a value in it

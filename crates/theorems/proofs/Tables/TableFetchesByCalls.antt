@@ -15,7 +15,7 @@ use Rattle.fields.proofs.Back.{valid-value-one}
 use Rattle.records.specs.Meaning.{fetchedBy, valueFetchedBy}
 use Rattle.records.specs.declared.record.RecordRead.{RecordRead}
 use Rattle.records.proofs.Back.{fetched-one}
-use Rattle.block_replies.specs.Replies.{Returned, returned, returnedBy}
+use Rattle.block_replies.specs.Replies.{returned, returnedBy}
 use Rattle.block_replies.specs.Channels.{channelGiven}
 use Rattle.replies.specs.Replies.{doneC}
 use Rattle.replies.specs.Values.{groupGiven, validValueC}
@@ -27,6 +27,7 @@ use Rattle.mf4.specs.Clauses.{Slice}
 use Rattle.theorems.specs.Clauses.{ReadsRecord, ReadsRecordValue, FetchesRecord, FetchesValue}
 use Rattle.theorems.specs.ClausesToC.{ReadsRecordC, ReadsRecordValueC, FetchesRecordC, FetchesValueC}
 use Rattle.theorems.specs.Histories.{blocksThere, Afresh, opens}
+use Rattle.theorems.proofs.Calls.NoSecondReplyToC.{one-returned}
 use Rattle.theorems.proofs.Records.TwoFiles.{Joins, recordIn, valueIn}
 use Rattle.theorems.proofs.Tables.HistoriesByCalls.{ByCalls, ToC, calls-faithful, c-faithful}
 use Rattle.theorems.proofs.Tables.Histories.{OpenedFrom, opened-from}
@@ -41,9 +42,6 @@ opened-to-c f start w v c = opened-from f start w v (c-faithful f (opens start) 
 
 one-value : (a b : ValidValueRead) (x y : List ℕ) → valueFetchedBy a x ≡ valueFetchedBy b y → (a ≡ b) × (x ≡ y)
 one-value a b x y e = (valid-value-one a b (ap (λ (o : Outcome ValidValue). o .reply) e), ap (λ (o : Outcome ValidValue). o .buffer) e)
-
-one-returned : {R : Type 0} (a b : R) (x y : List ℕ) → returned a x ≡ returned b y → (a ≡ b) × (x ≡ y)
-one-returned {R} a b x y e = (ap (λ (l : Returned R). l .result) e, ap (λ (l : Returned R). l .buffer) e)
 
 module _ (κs : Lfts 3) (file table : Slice) (number size : ℕ) (out : Slice) where
   -- ---- what a history left
@@ -86,13 +84,13 @@ module _ (κs : Lfts 3) (file table : Slice) (number size : ℕ) (out : Slice) w
     pub mf4-table-record-as-plain : (y z : Mf4DoneReply) (after later : List ℕ) → FetchesRecordC κs file table number size out y after
         → ReadsRecordC λs file start number size out z later → (y ≡ z) × (after ≡ later)
     mf4-table-record-as-plain y z after later p q =
-        one-returned y z after later (p ∙ ap (returnedBy doneC) (fetch-opened (file .now) start (table .now) h number size (out .now)) ∙ sym q)
+        one-returned (λ left. left) (p ∙ ap (returnedBy doneC) (fetch-opened (file .now) start (table .now) h number size (out .now)) ∙ sym q)
 
     pub mf4-table-value-as-plain : (group : Mf4Group) (channel : Mf4Channel) (y z : Mf4ValidValueReply) (after later : List ℕ)
         → FetchesValueC κs file table number size group channel out y after
         → ReadsRecordValueC λs file start number size group channel out z later → (y ≡ z) × (after ≡ later)
     mf4-table-value-as-plain group channel y z after later p q =
-        one-returned y z after later
+        one-returned (λ left. left)
         (p ∙ ap (returnedBy validValueC) (value-opened (file .now) start (table .now) h number size (groupGiven group) (channelGiven channel) (out .now)) ∙ sym q)
 
 -- ---- two files whose chains join to the same bytes j, each with a table opened from its chain
@@ -119,7 +117,7 @@ module _ (κs : Lfts 3) (j : List ℕ) (f g s t : Slice) (a b : ℕ) (h : Opened
   pub mf4-table-record-alike : (y z : Mf4DoneReply) (after later : List ℕ) → FetchesRecordC κs f s number size out y after → FetchesRecordC κs g t number size room z later
       → (y ≡ z) × (after ≡ later)
   mf4-table-record-alike y z after later p q =
-      one-returned y z after later
+      one-returned (λ left. left)
       (p ∙ ap (returnedBy doneC) (fetch-on-joined (f .now) a (s .now) h number size j (out .now) hj ∙ ap (recordIn j number size) same
       ∙ sym (fetch-on-joined (g .now) b (t .now) i number size j (room .now) ij)) ∙ sym q)
 
@@ -129,6 +127,6 @@ module _ (κs : Lfts 3) (j : List ℕ) (f g s t : Slice) (a b : ℕ) (h : Opened
   mf4-table-value-alike group channel y z after later p q =
       let gm = groupGiven group in
       let cm = channelGiven channel in
-      one-returned y z after later
+      one-returned (λ left. left)
       (p ∙ ap (returnedBy validValueC) (value-on-joined (f .now) a (s .now) h number size gm cm j (out .now) hj ∙ ap (valueIn j number size gm cm) same
       ∙ sym (value-on-joined (g .now) b (t .now) i number size gm cm j (room .now) ij)) ∙ sym q)
