@@ -177,7 +177,7 @@ static int are_blocks_good(chain_walk *walk, const char *id)
 int mdf_is_of_chain(uint32_t reply)
 {
     return reply == MF4_TOO_FEW_BYTES || reply == MF4_OTHER_ID || reply == MF4_NO_LINKS
-        || (reply >= MF4_FILE_TOO_LONG && reply <= MF4_DATA_TOO_LONG);
+        || (reply >= MF4_FILE_TOO_LONG && reply <= MF4_UNTRUE_DECLARATION);
 }
 
 /* List by list; or the one data block that stands in the chain's place. */

@@ -34,9 +34,9 @@
 #include <string.h>
 
 #define MF4_VERSION_MAJOR 0
-#define MF4_VERSION_MINOR 5
-#define MF4_VERSION_PATCH 1
-#define MF4_VERSION "0.5.1"
+#define MF4_VERSION_MINOR 6
+#define MF4_VERSION_PATCH 0
+#define MF4_VERSION "0.6.0"
 #define MF4_VERSION_NUMBER (MF4_VERSION_MAJOR * 10000 + MF4_VERSION_MINOR * 100 + MF4_VERSION_PATCH)
 
 #ifdef __cplusplus
@@ -79,7 +79,7 @@ enum mf4_reply {
     MF4_NO_BLOCK_THERE = 11,     /* an address of 0, or with fewer than 24 bytes of the file from there on         */
     MF4_BAD_DATA_BLOCK = 12,     /* something else than a whole ##DT (or, of payloads, ##SD) block is linked       */
     MF4_UNTRUE_DECLARATION = 13, /* a data block is not as its list declares, or a list not as the first one does  */
-    MF4_DATA_TOO_LONG = 14,      /* more joined data than 2^63-1 bytes                                             */
+    /* 14 is not used any more: the limits of 7 and 9 keep joined data below 2^52 bytes. */
     MF4_BAD_RECORD_SIZE = 15,    /* a record size of 0, over 16384 or over the room of the record's buffer         */
     MF4_NO_SUCH_RECORD = 16,     /* a record number behind the last whole record                                   */
     MF4_TOO_FEW_LINKS = 17,      /* a channel block with fewer than 8 links                                        */
@@ -121,7 +121,6 @@ static inline const char *mf4_reply_text(uint32_t reply)
     case MF4_NO_BLOCK_THERE: return "a link leads to no block";
     case MF4_BAD_DATA_BLOCK: return "a link leads to something else than a whole data block of its kind";
     case MF4_UNTRUE_DECLARATION: return "a data block is not as its list declares, or a list declares otherwise than the first";
-    case MF4_DATA_TOO_LONG: return "the joined data passes 2^63-1 bytes";
     case MF4_BAD_RECORD_SIZE: return "the record size is 0 or over 16384, or the buffer is too short";
     case MF4_NO_SUCH_RECORD: return "the record is not inside the data";
     case MF4_TOO_FEW_LINKS: return "the channel block has fewer than 8 links";
@@ -584,12 +583,13 @@ typedef struct mf4_length_reply {
     uint64_t length;
 } mf4_length_reply;
 
-/* The length of the joined data: length / record_size records; length % record_size trailing bytes are ignored.
+/* The length of the joined data: length / record_size records; length % record_size trailing bytes are ignored. It is below 2^52,
+ * since a chain has at most 4096 data blocks and a file 2^40 bytes, and a block that is linked twice counts twice.
  *
  * Refuses with MF4_FILE_TOO_LONG (7); then, list by list, with MF4_TOO_MANY_LISTS (8), MF4_NO_BLOCK_THERE (11),
  * MF4_TOO_FEW_BYTES (2), MF4_OTHER_ID (3), MF4_NO_LINKS (4), MF4_TOO_FEW_BYTES (2), MF4_LIST_DISAGREES (10),
  * MF4_TOO_MANY_FRAGMENTS (9), MF4_UNTRUE_DECLARATION (13), and for each of its blocks with MF4_NO_BLOCK_THERE (11),
- * MF4_BAD_DATA_BLOCK (12), MF4_DATA_TOO_LONG (14), MF4_UNTRUE_DECLARATION (13). */
+ * MF4_BAD_DATA_BLOCK (12), MF4_UNTRUE_DECLARATION (13). */
 mf4_length_reply mf4_data_length(const uint8_t *file, size_t file_len, uint64_t start);
 
 /* Copies record `number`, counted from 0, into the first record_size bytes of the buffer. Each call walks the chain, so fetch

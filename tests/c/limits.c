@@ -2,7 +2,6 @@
  * Every call of mf4.h at its limits, checked against values written out by hand from the rules.
  *
  * Everything is run three times, with the lent slices in each of the places that guarded.h names.
- * Reply 14 has no check: 4,096 fragments of at most 2^40 bytes never pass 2^63-1, so no file reaches it.
  *
  * Prints "limits: N checks, 0 failed"; else the name of each check that failed, and exits 1.
  */

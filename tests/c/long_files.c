@@ -6,7 +6,7 @@
 #include <stdio.h>
 #include <sys/mman.h>
 
-/* The address space is reserved and never touched, except for the last bytes, which read as zeros. */
+/* The address space is reserved and hardly touched: what is read there, and not written before, is zeros. */
 static uint8_t *reserve(size_t length)
 {
     uint8_t *file = mmap(NULL, length, PROT_READ, MAP_PRIVATE | MAP_ANONYMOUS | MAP_NORESERVE, -1, 0);
@@ -91,6 +91,59 @@ static void check_long_table(const uint8_t *file, long_table a)
     CHECK(is_unchanged(table));
 }
 
+/* One block that fills the longest file, listed as often as a chain may list it: the most data that a chain can join. */
+enum { LIST_AT = 8, BLOCK_AT = 1 << 17, WRITTEN = BLOCK_AT + MF4_HEADER_SIZE };
+
+static const uint64_t block_size = LONGEST - WRITTEN;
+
+static void put_most_data(uint8_t *file, int is_equal)
+{
+    static uint64_t links[MF4_MAX_FRAGMENTS], offsets[MF4_MAX_FRAGMENTS];
+    const mf4_header header = { MF4_ID_DT, 0, MF4_HEADER_SIZE + block_size, 0 };
+    uint64_t i;
+    for (i = 0; i < MF4_MAX_FRAGMENTS; i++)
+        links[i] = BLOCK_AT, offsets[i] = i * block_size;
+    if (is_equal)
+        mf4_write_list_equal(0, links, COUNT(links), block_size, file + LIST_AT, BLOCK_AT - LIST_AT);
+    else
+        mf4_write_list_variable(0, links, COUNT(links), offsets, COUNT(offsets), file + LIST_AT, BLOCK_AT - LIST_AT);
+    mf4_write_header(header, file + BLOCK_AT, MF4_HEADER_SIZE);
+}
+
+static mf4_done_reply fetch_long(const uint8_t *file, uint64_t number, uint64_t size, lent buffer)
+{
+    return mf4_read_record(file, LONGEST, LIST_AT, number, size, buffer.bytes, buffer.length);
+}
+
+/* Its length, its last records of 1 byte and of three, and none behind these, even where the product of number and size wraps. */
+static void check_most_data(uint8_t *file)
+{
+    const uint64_t most = MF4_MAX_FRAGMENTS * block_size;
+    lent buffer = lend_marked(OUTPUT, 4);
+    CHECK(most < UINT64_C(1) << 52 && most > (UINT64_C(1) << 52) - (UINT64_C(1) << 30));
+    CHECK(length_is(mf4_data_length(file, LONGEST, LIST_AT), 0, 0, most));
+    CHECK(done_is(fetch_long(file, most, 1, buffer), 16, 0) && done_is(fetch_long(file, most / 3, 3, buffer), 16, 0));
+    CHECK(done_is(fetch_long(file, UINT64_C(1) << 63, 2, buffer), 16, 0) && done_is(fetch_long(file, MOST, 4, buffer), 16, 0));
+    CHECK(is_unchanged(buffer));
+    CHECK(done_is(fetch_long(file, most - 1, 1, buffer), 0, 0) && holds_only_hex(buffer, "00"));
+    buffer = lend_marked(OUTPUT, 4);
+    CHECK(done_is(fetch_long(file, most / 3 - 1, 3, buffer), 0, 0) && holds_only_hex(buffer, "00 00 00"));
+}
+
+static void check_long_chains_of(uint8_t *file)
+{
+    int is_equal;
+    if (mprotect(file, WRITTEN, PROT_READ | PROT_WRITE) != 0) {
+        puts("limits: note: the front of 2^40 bytes cannot be written here, the most data of a chain is not checked");
+        return;
+    }
+    for (is_equal = 0; is_equal <= 1; is_equal++) {
+        name_row("the most data of a chain", (size_t)is_equal);
+        put_most_data(file, is_equal);
+        check_most_data(file);
+    }
+}
+
 void check_long_files(void)
 {
     uint8_t *file = reserve(LONGEST + 1);
@@ -108,5 +161,6 @@ void check_long_files(void)
         name_row("tables of a file of 2^40 bytes", i);
         check_long_table(file, long_tables[i]);
     }
+    check_long_chains_of(file);
     munmap(file, LONGEST + 1);
 }

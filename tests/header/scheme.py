@@ -20,6 +20,9 @@ LENT_WHOLE = "mf4_table"
 PREFIXES = {"mf4_reply": "MF4_", "mf4_block_id": "MF4_ID_", "mf4_data_type": "MF4_TYPE_", "mf4_list_flag": "MF4_LIST_",
             "mf4_channel_type": "MF4_CHANNEL_", "mf4_channel_flag": "MF4_CHANNEL_", "mf4_kind": "MF4_KIND_"}
 
+# The numbers of replies that were given once. They are not used again, since an old loader would take one for what it was.
+RETIRED = {"1", "14"}
+
 BY_NUMBER_ALONE = re.compile(r"\b(?:refuse|refuses|refused|then|and) with \d+", re.I)
 BY_NAME = re.compile(r"\b(MF4_\w+) \((\d+)\)")
 
@@ -66,6 +69,11 @@ def misnumbered(comments, numbers):
                 if numbers.get(name) != number)
 
 
+def used_again(numbers):
+    yield from (f"{name} has the number {number}, which was another reply's" for name, number in numbers.items()
+                if number in RETIRED)
+
+
 def broken(header):
     """What breaks the scheme, in words."""
     returned = {prototype.split()[0] for prototype in header.calls.values()}
@@ -80,3 +88,4 @@ def broken(header):
             yield from misnamed_word(call, name)
     yield from misnamed_constants(header.enums)
     yield from misnumbered(header.comments, header.enums["mf4_reply"])
+    yield from used_again(header.enums["mf4_reply"])

@@ -2376,8 +2376,7 @@ RANDOM_CASES = ([random_header_case] + [random_list_case] * 2 + [random_channel_
                 + [random_area_case] * 2 + [random_write_case] * 4 + [random_overlap_case] * 2 + [random_text_case] * 4
                 + [random_chain_case] * 5 + [random_payload_case] * 4 + [random_table_case] * 2 + [random_history])
 
-# The replies of each call that has any, which the boundary cases reach. Reply 14 has no case: 4,096 fragments of at most
-# 2^40 bytes never pass 2^63-1.
+# The replies of each call that has any, which the boundary cases reach.
 FIELD_REPLIES = {0, 18, 19, 20, 21, 22}
 AREA_REPLIES = {0, 28, 29}
 CHAIN_REPLIES = {0, 2, 3, 4, 7, 8, 9, 10, 11, 12, 13}

@@ -23,7 +23,6 @@ CHANNEL_ID = b"##CN"
 MOST_FILE_BYTES = 2**40
 MOST_LISTS = 256
 MOST_FRAGMENTS = 4096
-MOST_JOINED_BYTES = 2**63 - 1
 MOST_RECORD_BYTES = 16384
 MOST_CHANNELS = 256
 MOST_TABLE_FRAGMENTS = 512
@@ -43,7 +42,6 @@ LIST_DISAGREES = 10
 NO_BLOCK_THERE = 11
 BAD_DATA_BLOCK = 12
 UNTRUE_DECLARATION = 13
-DATA_TOO_LONG = 14
 BAD_RECORD_SIZE = 15
 NO_SUCH_RECORD = 16
 TOO_FEW_LINKS = 17
@@ -957,7 +955,6 @@ def fragments_of_chain(file, start, data_id=DATA_ID):
         refuse_if(not fits_first(chain_list, first), UNTRUE_DECLARATION)
         for index, link in enumerate(chain_list.links):
             data = fragment_at(file, link, data_id)
-            refuse_if(joined_size + len(data) > MOST_JOINED_BYTES, DATA_TOO_LONG)
             refuse_if(not is_declared_truly(chain_list, index, joined_size, data), UNTRUE_DECLARATION)
             found.append((link, data))
             joined_size += len(data)

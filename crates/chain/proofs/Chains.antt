@@ -2,8 +2,8 @@
 use mathlib.Core.Path.{_≡_, refl, subst}
 use mathlib.Core.Bool.{Bool, true, false}
 use mathlib.Core.List.{List, [], _∷_, _++_, append-assoc, append-nil}
-use Prim.Native.Nat.{ℕ, zero, suc, _+_, _*_, _≤_, _<_}
-use native.Mathlib.Nat.{mul-le-mul, suc-mul}
+use Prim.Native.Nat.{ℕ, zero, suc, _+_, _-_, _*_, _≤_, _<_}
+use native.Mathlib.Nat.{suc-mul}
 use native.Mathlib.Omega.{arith}
 use lib.ListN.{length, drop, length-append}
 use lib.Dec.{eqb}
@@ -53,21 +53,15 @@ joined-length f (b ∷ bs) h =
 
 -- ---- how much data there is
 
--- no block has more than the file
-pub total-bound : (f : List ℕ) (bs : List Block) → Inside f bs → total bs ≤ length bs * length f
+-- no block has more than the file, less its header
+pub total-bound : (f : List ℕ) (n : ℕ) (bs : List Block) → length f ≤ n + 24 → Inside f bs → total bs ≤ length bs * n
 unfolding total Inside
-total-bound f [] h = omega arith
-total-bound f (b ∷ bs) h = let one = h .0 in omega (arith, suc-mul (length bs) (length f), total-bound f bs (h .1))
+total-bound f n [] l h = omega arith
+total-bound f n (b ∷ bs) l h = let one = h .0 in omega (arith, suc-mul (length bs) n, total-bound f n bs l (h .1))
 
--- 2^52: 4,096 times 2^40
-abbrev pub mostData : ℕ
-mostData = 4503599627370496
-
--- so the joined data of a file that is not too long is far shorter than data may be
-pub data-bound : (f : List ℕ) (bs : List Block) → length f ≤ fileLimit → Stand f bs → total bs ≤ mostData
-data-bound f bs short h =
-    let all : length bs * length f ≤ fragmentLimit * fileLimit = mul-le-mul (h .few) short in
-    omega (arith, total-bound f bs (h .inside))
+-- so by 7 and 9 the data of a walk's blocks is below 2^52 bytes, far less than a word can count, and no sum of it wraps
+pub data-bound : (f : List ℕ) (bs : List Block) → length f ≤ fileLimit → Stand f bs → total bs < fragmentLimit * fileLimit
+data-bound f bs short h = let few = h .few in omega (arith, total-bound f (fileLimit - 24) bs (omega arith) (h .inside))
 
 -- ---- all of them
 

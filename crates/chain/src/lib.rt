@@ -7,7 +7,6 @@ pub use acceptance::Located;
 pub use acceptance::data_length;
 pub use acceptance::locate_data;
 pub use places::BlockRead;
-pub use places::DATA_LIMIT;
 pub use places::DataBlock;
 pub use places::DataPosition;
 pub use places::FileAddress;

@@ -8,7 +8,7 @@ use lib.ListN.{length, drop}
 use Rattle.definitions.specs.Reply.{answer}
 use Rattle.definitions.specs.Bytes.{u64At, idAt, bit}
 use Rattle.definitions.specs.DataList.{DataList, listOf}
-use Rattle.definitions.specs.Chain.{Block, total, listLimit, fragmentLimit, dataLimit}
+use Rattle.definitions.specs.Chain.{Block, total, listLimit, fragmentLimit}
 
 -- P holds of each element of a list, with those before it and those after it
 unfoldable pub Each : {A : Type 0} → (List A → A → List A → Type 0) → List A → List A → Type 0
@@ -90,4 +90,3 @@ pub record Accepted (id f : List ℕ) (start : ℕ) (blocks : List Block) : Type
   pub together : blocks ≡ blocksOf parts
   pub fewLists : length parts ≤ listLimit
   pub fewBlocks : length blocks ≤ fragmentLimit
-  pub bounded : total blocks ≤ dataLimit

@@ -20,10 +20,6 @@ idDT = 35 ∷ 35 ∷ 68 ∷ 84 ∷ []
 abbrev pub fileLimit : ℕ
 fileLimit = 1099511627776
 
--- 14: the joined data has at most 2^63-1
-abbrev pub dataLimit : ℕ
-dataLimit = 9223372036854775807
-
 -- 8: a chain has at most so many lists
 abbrev pub listLimit : ℕ
 listLimit = 256
@@ -84,12 +80,9 @@ declared s d i p size =
     then (if isLast d i then leb size (u64At s (d .restAt)) else eqb size (u64At s (d .restAt)))
     else eqb (u64At s (d .restAt + i * 8)) p
 
--- 14: more than 2^63-1 bytes with this block; 13: the list declares it falsely
+-- 13: the list declares it falsely
 abbrev pub judged : List ℕ → DataList → ℕ → ℕ → Block → Reply Block
-judged s d i p b =
-    if ltb dataLimit (p + b .size) then refusal 14 0
-    else if not (declared s d i p (b .size)) then refusal 13 0
-    else answer b
+judged s d i p b = if not (declared s d i p (b .size)) then refusal 13 0 else answer b
 
 unfoldable pub fragmentOf : List ℕ → List ℕ → List ℕ → DataList → ℕ → ℕ → Reply Block
 fragmentOf id f s d i p = andThen (blockAt id f (u64At s (d .linksAt + i * 8))) (judged s d i p)

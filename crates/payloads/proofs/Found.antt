@@ -10,7 +10,7 @@ use lib.Dec.{leb}
 use borrow.Author.Tests.{lt-ltb, le-ltb, leb-true, leb-false}
 use Rattle.definitions.specs.Reply.{answer, refusal}
 use Rattle.definitions.specs.Bytes.{leOf, span, u32At}
-use Rattle.definitions.specs.Chain.{Block, dataLimit, fileLimit, joined, chainOf, totalOf, lengthBy}
+use Rattle.definitions.specs.Chain.{Block, fileLimit, joined, chainOf, totalOf, lengthBy}
 use Rattle.definitions.specs.Payload.{idSD, payloadAt, joinedOf}
 use Rattle.chain.specs.Meaning.{locatedReply}
 use Rattle.chain.specs.Located.{Locates}
@@ -20,7 +20,6 @@ use Rattle.places.specs.declared.place.Place.{Place}
 use Rattle.chain.specs.declared.acceptance.Located.{Located}
 use Rattle.chain.specs.declared.acceptance.Located.the-variants.{Whole}
 use Rattle.places.proofs.Answers.{unfollowed}
-use Rattle.chain.proofs.Chains.{joined-length, chain-stands, data-bound}
 use Rattle.chain.proofs.Walks.{length-total}
 use Rattle.words.proofs.Spans.{length-span}
 use Rattle.records.specs.Window.{laid}
@@ -77,11 +76,6 @@ module _ (f : List ℕ) (start : ℕ) (short : length f ≤ fileLimit) where
     as-long : length (joined f (on-the-way .blocks)) ≡ n .0
     unfolding on-the-way
     as-long = accepted .2
-
-    pub limited : n .0 ≤ dataLimit
-    limited =
-        let s = chain-stands idSD f start (accepted .0) (accepted .1) in
-        omega (arith, accepted .2, joined-length f (accepted .0) (s .inside), data-bound f (accepted .0) short s)
 
     in-chain : payloadFrom f start p ≡ payloadAt (joined f (on-the-way .blocks)) p
     unfolding joinedOf on-the-way

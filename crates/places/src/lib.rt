@@ -8,7 +8,6 @@ pub use block::BlockRead;
 pub use block::DataBlock;
 pub use block::data_block_at;
 pub use block::data_of;
-pub use limits::DATA_LIMIT;
 pub use limits::FILE_LIMIT;
 pub use limits::LIST_LIMIT;
 pub use list::list_at;

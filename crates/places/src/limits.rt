@@ -3,9 +3,6 @@
 // the bytes of a file
 pub const FILE_LIMIT: usize = 1099511627776;
 
-// the bytes of joined data
-pub const DATA_LIMIT: u64 = 9223372036854775807;
-
 // the lists of a chain
 pub const LIST_LIMIT: u64 = 256;
 

@@ -4,10 +4,9 @@ ghost use mathlib.Core.Bool.{_&&_};
 ghost use Prim.Native.Nat.{_+_, _≤_, _<_};
 ghost use lib.ListN.{length, drop};
 ghost use lib.Dec.{ltb, leb, eqb};
-ghost use Rattle.definitions.specs.Chain.{dataLimit, hasHeader};
+ghost use Rattle.definitions.specs.Chain.{hasHeader};
 ghost use Rattle.blocks.specs.Meaning.{listMeant};
 ghost use Rattle.places.specs.Places.{startAt, further, behind, ended, entered};
-use crate::limits::DATA_LIMIT;
 use blocks::DataListBlock;
 
 // where a block stands in the file
@@ -79,13 +78,6 @@ pub fn bytes_from(file: &[u8], address: FileAddress) -> &[u8]
 }
 
 impl DataPosition {
-    // whether so many bytes more are too many for joined data
-    pub fn passes_limit(self, size: u64) -> bool
-        ensures { λ r. ⌜ r ≡ ltb dataLimit (self .0 + size) ⌝ }
-    {
-        sum_passes(self.0, size, DATA_LIMIT)
-    }
-
     // whether so many bytes from another position on all stand before this one
     pub fn is_behind(self, from: DataPosition, size: u64) -> bool
         ensures { λ r. ⌜ r ≡ leb (from .0 + size) (self .0) ⌝ }

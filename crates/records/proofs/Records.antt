@@ -11,10 +11,10 @@ use lib.Dec.{eqb, leb, ltb}
 use borrow.Author.Tests.{eq-eqb, ne-eqb, lt-ltb, le-ltb, le-leb, lt-leb, ltb-true, ltb-false, eqb-false}
 use Rattle.definitions.specs.Reply.{answer, refusal, if_then_else_}
 use Rattle.definitions.specs.Bytes.{span}
-use Rattle.definitions.specs.Chain.{Block, fileLimit, dataLimit, recordLimit, idDT, joined, chainOf, totalOf, dataLength, badSize, recordOf, fetched}
+use Rattle.definitions.specs.Chain.{Block, fileLimit, recordLimit, idDT, joined, chainOf, totalOf, dataLength, badSize, recordOf, fetched}
 use Rattle.records.specs.Window.{laid}
 use Rattle.places.proofs.Answers.{passed, followed, answered, unfollowed}
-use Rattle.chain.proofs.Chains.{joined-length, chain-stands, data-bound}
+use Rattle.chain.proofs.Chains.{joined-length, chain-stands}
 use Rattle.records.proofs.Laying.{laid-whole}
 
 -- ---- a record's size
@@ -57,15 +57,15 @@ module _ (t k size : ℕ) (z : 0 < size) where
 
 -- ---- a record's first byte
 
-module _ (k size : ℕ) (z : 0 < size) where
-  pub first-past : (n : ℕ) → dataLimit / size < k → k * size ≤ dataLimit → n ≡ k * size
+module _ (last k size : ℕ) (z : 0 < size) where
+  pub first-past : (n : ℕ) → last / size < k → k * size ≤ last → n ≡ k * size
   first-past n h l =
-      let m : dataLimit < k * size = div-lt-iff-lt-mul {k = size} {x = dataLimit} {y = k} z .0 h in
+      let m : last < k * size = div-lt-iff-lt-mul {k = size} {x = last} {y = k} z .0 h in
       let no : ⊥ = omega arith in
       absurd no
 
-  pub first-fits : k ≤ dataLimit / size → k * size ≤ dataLimit
-  first-fits h = le-div-iff-mul-le {k = size} {x = k} {y = dataLimit} z .0 h
+  pub first-fits : k ≤ last / size → k * size ≤ last
+  first-fits h = le-div-iff-mul-le {k = size} {x = k} {y = last} z .0 h
 
 -- ---- the ways out
 
@@ -106,13 +106,6 @@ module _ (f : List ℕ) (start k size : ℕ) (out : List ℕ) where
       pub fetch-behind : ltb n (k * size + size) ≡ true → record { reply = refusal 16 0; buffer = out } ≡ fetched f start k size out
       unfolding fetched recordOf
       fetch-behind h = let w = data-whole f start n e in rw (good, w .0, w .2, w .3, h)
-
-      -- where the record begins
-      pub fetch-first : ltb n (k * size + size) ≡ false → k * size ≤ dataLimit
-      fetch-first h =
-          let w = data-whole f start n e in
-          let s = chain-stands idDT f start (w .1) (w .2) in
-          omega (arith, w .3, joined-length f (w .1) (s .inside), data-bound f (w .1) (ltb-false _ _ (w .0)) s, ltb-false n (k * size + size) h)
 
       -- the window on the record, in the front of the buffer
       pub fetch-record : (r : List ℕ) (from : ℕ) → ltb n (k * size + size) ≡ false → from ≡ k * size → r ≡ laid (take size out) from 0 (joined f (data-whole f start n e .1))

@@ -2,10 +2,9 @@
 ghost use mathlib.Core.Path.{_≡_};
 ghost use Prim.Native.Nat.{_+_, _*_, _≤_, _<_};
 ghost use lib.Dec.{ltb};
-ghost use Rattle.definitions.specs.Chain.{dataLimit, badSize, fetched};
+ghost use Rattle.definitions.specs.Chain.{badSize, fetched};
 ghost use Rattle.records.specs.Meaning.{fetchedBy};
 use crate::joined::window;
-use chain::DATA_LIMIT;
 use chain::DataBlock;
 use chain::DataPosition;
 use chain::FileAddress;
@@ -15,6 +14,9 @@ use refusals::Refusal;
 
 // the bytes of a record
 const RECORD_LIMIT: u64 = 16384;
+
+// the last position that a word can hold, behind all data
+const LAST_POSITION: u64 = 18446744073709551615;
 
 pub enum RecordRead {
     // it stands in the front of the buffer
@@ -46,10 +48,10 @@ pub fn ends_behind(total: u64, number: u64, size: u64) -> bool
 // The position of a record's first byte. A product that could wrap is behind all data, and is not taken.
 fn first_byte(number: u64, size: u64) -> DataPosition
     requires { ⌜ 0 < size ⌝ }
-    ensures { λ r. ⌜ (number * size ≤ dataLimit → r .0 ≡ number * size) ⌝ }
+    ensures { λ r. ⌜ (number * size ≤ 18446744073709551615 → r .0 ≡ number * size) ⌝ }
 {
-    if DATA_LIMIT / size < number {
-        return DataPosition(DATA_LIMIT);
+    if LAST_POSITION / size < number {
+        return DataPosition(LAST_POSITION);
     }
     DataPosition(number * size)
 }

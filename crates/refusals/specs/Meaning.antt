@@ -2,7 +2,7 @@
 use Prim.Native.Nat.{ℕ}
 use Rattle.definitions.specs.Reply.{Reply, refusal}
 use Rattle.refusals.specs.declared.Refusal.{Refusal}
-use Rattle.refusals.specs.declared.Refusal.the-variants.{TooFewBytes, OtherId, NoLinks, UnwritableList, NoRoom, FileTooLong, TooManyLists, TooManyFragments, ListDisagrees, NoBlockThere, BadDataBlock, UntrueDeclaration, DataTooLong, BadRecordSize, NoSuchRecord, TooFewLinks, NoBits, BadBitOffset, IntegerTooWide, FieldOutside, BadFloatWidth, PayloadOutside, DoesNotFit, OtherKind, TooManyChannels, NoFixedNumber, OtherLength, BitOutside, TableFull, TableEmpty, BadTable, NoPosition}
+use Rattle.refusals.specs.declared.Refusal.the-variants.{TooFewBytes, OtherId, NoLinks, UnwritableList, NoRoom, FileTooLong, TooManyLists, TooManyFragments, ListDisagrees, NoBlockThere, BadDataBlock, UntrueDeclaration, BadRecordSize, NoSuchRecord, TooFewLinks, NoBits, BadBitOffset, IntegerTooWide, FieldOutside, BadFloatWidth, PayloadOutside, DoesNotFit, OtherKind, TooManyChannels, NoFixedNumber, OtherLength, BitOutside, TableFull, TableEmpty, BadTable, NoPosition}
 
 abbrev pub refusalNumber : Refusal → ℕ
 refusalNumber (TooFewBytes n) = 2
@@ -17,7 +17,6 @@ refusalNumber ListDisagrees = 10
 refusalNumber NoBlockThere = 11
 refusalNumber BadDataBlock = 12
 refusalNumber UntrueDeclaration = 13
-refusalNumber DataTooLong = 14
 refusalNumber BadRecordSize = 15
 refusalNumber NoSuchRecord = 16
 refusalNumber TooFewLinks = 17
@@ -51,7 +50,6 @@ toldOf ListDisagrees = 0
 toldOf NoBlockThere = 0
 toldOf BadDataBlock = 0
 toldOf UntrueDeclaration = 0
-toldOf DataTooLong = 0
 toldOf BadRecordSize = 0
 toldOf NoSuchRecord = 0
 toldOf TooFewLinks = 0

@@ -1,4 +1,4 @@
-// The numbered refusals, as one enum that every crate's answers share. 1 was given once, and is given no more.
+// The numbered refusals, as one enum that every crate's answers share. 1 and 14 were given once, and are given no more.
 ghost use mathlib.Core.Path.{_≡_};
 ghost use Rattle.refusals.specs.Meaning.{refusalNumber, toldOf};
 
@@ -27,8 +27,6 @@ pub enum Refusal {
     BadDataBlock,
     // 13
     UntrueDeclaration,
-    // 14
-    DataTooLong,
     // 15
     BadRecordSize,
     // 16
@@ -86,7 +84,6 @@ impl Refusal {
             Refusal::NoBlockThere => 11,
             Refusal::BadDataBlock => 12,
             Refusal::UntrueDeclaration => 13,
-            Refusal::DataTooLong => 14,
             Refusal::BadRecordSize => 15,
             Refusal::NoSuchRecord => 16,
             Refusal::TooFewLinks => 17,
@@ -126,7 +123,6 @@ impl Refusal {
             Refusal::NoBlockThere => 0,
             Refusal::BadDataBlock => 0,
             Refusal::UntrueDeclaration => 0,
-            Refusal::DataTooLong => 0,
             Refusal::BadRecordSize => 0,
             Refusal::NoSuchRecord => 0,
             Refusal::TooFewLinks => 0,

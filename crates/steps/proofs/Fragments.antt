@@ -5,12 +5,12 @@ use mathlib.Core.List.{List}
 use Prim.Native.Nat.{ℕ, _+_, _*_, _%_, _≤_, _<_}
 use native.Mathlib.Omega.{arith}
 use lib.ListN.{length, drop}
-use lib.Dec.{leb, ltb, eqb}
+use lib.Dec.{leb, eqb}
 use borrow.Author.Tests.{ne-eqb, lt-leb, le-leb, eqb-true, eqb-false}
 use Rattle.definitions.specs.Reply.{answer, refusal, if_then_else_}
 use Rattle.definitions.specs.Bytes.{u64At}
 use Rattle.definitions.specs.DataList.{DataList}
-use Rattle.definitions.specs.Chain.{Block, dataLimit, blockAt, isLast, declared, judged, fragmentOf, listAt}
+use Rattle.definitions.specs.Chain.{Block, blockAt, isLast, declared, judged, fragmentOf, listAt}
 use Rattle.blocks.proofs.Lists.{rest-one, rest-many}
 use Rattle.places.specs.Places.{Opens}
 use Rattle.steps.specs.Steps.{LinkWithin, fragmentAt}
@@ -88,18 +88,13 @@ module _ (id f s : List ℕ) (d : DataList) (i p a : ℕ) (link : a ≡ u64At s 
   fragment-refused n t h = rw (sym link, h)
 
   module _ (b : Block) (h : blockAt id f a ≡ answer b) where
-    pub fragment-long : ltb dataLimit (p + b .size) ≡ true → refusal 14 0 ≡ fragmentOf id f s d i p
+    pub fragment-untrue : declared s d i p (b .size) ≡ false → refusal 13 0 ≡ fragmentOf id f s d i p
     unfolding fragmentOf
-    fragment-long l = rw (sym link, h, l)
+    fragment-untrue t = rw (sym link, h, t)
 
-    module _ (l : ltb dataLimit (p + b .size) ≡ false) where
-      pub fragment-untrue : declared s d i p (b .size) ≡ false → refusal 13 0 ≡ fragmentOf id f s d i p
-      unfolding fragmentOf
-      fragment-untrue t = rw (sym link, h, l, t)
-
-      pub fragment-taken : declared s d i p (b .size) ≡ true → answer b ≡ fragmentOf id f s d i p
-      unfolding fragmentOf
-      fragment-taken t = rw (sym link, h, l, t)
+    pub fragment-taken : declared s d i p (b .size) ≡ true → answer b ≡ fragmentOf id f s d i p
+    unfolding fragmentOf
+    fragment-taken t = rw (sym link, h, t)
 
 -- the list of a place is the one that stands there
 pub fragment-there : (id f s : List ℕ) (p : Place) (d : DataList) → listAt f (p .fragments) (p .list .address .0) ≡ answer d
@@ -115,7 +110,6 @@ unfolding fragmentOf
 fragment-inside id f s d i p b h =
     let read = followed (blockAt id f (u64At s (d .linksAt + i * 8))) (judged s d i p) b h in
     let x = read .0 in
-    let fits = passed (ltb dataLimit (p + x .size)) _ _ _ _ (read .2) in
-    let truthful = passed (not (declared s d i p (x .size))) _ _ _ _ (fits .1) in
+    let truthful = passed (not (declared s d i p (x .size))) _ _ _ _ (read .2) in
     let e : x .address + 24 + x .size ≤ length f = block-stands id f (u64At s (d .linksAt + i * 8)) x (read .1) .1 .inside in
     rw (answered (truthful .1)) at e

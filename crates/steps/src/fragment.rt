@@ -75,10 +75,6 @@ fn fragment_in(file: &[u8], bytes: &[u8], place: Place, id: &[u8; 4]) -> BlockRe
     let BlockRead::Block(block) = read else {
         return BlockRead::Refused(read.refusal());
     };
-    let position = place.position;
-    if position.passes_limit(block.size) {
-        return BlockRead::Refused(Refusal::DataTooLong);
-    }
     if !truly_declared(bytes, place, block.size) {
         return BlockRead::Refused(Refusal::UntrueDeclaration);
     }

@@ -3,7 +3,6 @@ use mathlib.Core.Path.{_≡_, refl, sym, ap, _∙_}
 use mathlib.Core.Bool.{Bool, true, false, not}
 use mathlib.Core.List.{List}
 use Prim.Native.Nat.{ℕ, zero, suc, _+_, _-_, _*_, _≤_, _<_}
-use native.Mathlib.Nat.{mul-le-mul}
 use native.Mathlib.Omega.{arith}
 use lib.ListN.{length, set}
 use borrow.Author.Tests.{lt-ltb, le-ltb, lt-leb, le-leb, eq-eqb, ne-eqb, not-true, not-false}
@@ -66,9 +65,9 @@ module _ (w : List ℕ) (t : Bool) (passed : t ≡ passes Unknown w) where
 -- so many fragments of a file that is not too long have far less data than a word can count
 room : (f w : List ℕ) → length f ≤ fileLimit → sound f w ≡ true → totalIn w ≤ tableLimit * fileLimit
 room f w l s =
-    let all : total (blocksIn w) ≤ length (blocksIn w) * length f = total-bound f (blocksIn w) (all-inside w f s) in
+    let all : total (blocksIn w) ≤ length (blocksIn w) * fileLimit = total-bound f fileLimit (blocksIn w) (omega arith) (all-inside w f s) in
     let few : length (blocksIn w) ≤ tableLimit = omega (arith, length-fragments w (countOf w), sound-ordered w f s .few) in
-    omega (arith, all, mul-le-mul few l, total-all w (sound-ordered w f s))
+    omega (arith, all, total-all w (sound-ordered w f s))
 
 module _ (f w : List ℕ) (a : ℕ) where
   pub extend-long : fileLimit < length f → changedBy (Refused FileTooLong) w ≡ extended f a w

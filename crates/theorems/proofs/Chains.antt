@@ -11,5 +11,5 @@ pub mod ListCauses
 pub mod ChainCauses
 -- where blocks and lists stand, by the length and the count that are declared
 pub mod FoundByLength
--- how much data there is at most, so that no chain of a file that passes 7 is refused with 14
+-- how much data there is, by the limits alone
 pub mod WithinLimits

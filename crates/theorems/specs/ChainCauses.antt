@@ -9,7 +9,7 @@ use lib.ListN.{length, drop}
 use Rattle.definitions.specs.Bytes.{u64At, idAt, bit}
 use Rattle.definitions.specs.Header.{headerIn}
 use Rattle.definitions.specs.DataList.{DataList, listIn}
-use Rattle.definitions.specs.Chain.{Block, total, dataLimit, listLimit, fragmentLimit}
+use Rattle.definitions.specs.Chain.{Block, total, listLimit, fragmentLimit}
 use Rattle.theorems.specs.Causes.{Not}
 use Rattle.theorems.specs.Refused.{Cause, refused, _orElse_, firstOf, provided}
 use Rattle.theorems.specs.BlockCauses.{listRefused}
@@ -55,7 +55,6 @@ fragmentThere f s d i = blockThere f (u64At s (d .linksAt + i * 8))
 abbrev pub fragmentRefused : List ℕ → List ℕ → List ℕ → DataList → ℕ → ℕ → Cause
 fragmentRefused id f s d i p =
     blockRefused id f (fragmentThere f s d i .address)
-    orElse refused 14 0 (dataLimit < p + fragmentThere f s d i .size)  -- too much data with this block
     orElse refused 13 0 (Untrue s d i p (fragmentThere f s d i .size))  -- the list does not tell the truth of it
 
 -- ---- a list

@@ -120,8 +120,6 @@ use Rattle.places.proofs.place.DataPosition.is_behind.Kinds as position-behind-
 use Rattle.places.proofs.place.DataPosition.is_behind.Reads as position-behind
 use Rattle.places.proofs.place.DataPosition.stands_in.Kinds as position-in-kinds
 use Rattle.places.proofs.place.DataPosition.stands_in.Reads as position-in
-use Rattle.places.proofs.place.DataPosition.passes_limit.Kinds as position-limit-kinds
-use Rattle.places.proofs.place.DataPosition.passes_limit.Reads as position-limit
 use Rattle.places.proofs.place.OpenList.is_last.Kinds as open-list-last-kinds
 use Rattle.places.proofs.place.OpenList.is_last.Reads as open-list-last
 use Rattle.places.proofs.place.Place.has_ended.Kinds as place-ended-kinds
@@ -303,9 +301,6 @@ position-behind-settled = settled (λ κs a y z b c p q. (p ∙ sym q, refl))
 
 pub position-in-settled : Settled 0 position-in-kinds.ps position-in-kinds.r position-in.Asked position-in.ensures position-in.Learnt
 position-in-settled = settled (λ κs a y z b c p q. (p ∙ sym q, refl))
-
-pub position-limit-settled : Settled 0 position-limit-kinds.ps position-limit-kinds.r position-limit.Asked position-limit.ensures position-limit.Learnt
-position-limit-settled = settled (λ κs a y z b c p q. (p ∙ sym q, refl))
 
 pub open-list-last-settled : Settled 0 open-list-last-kinds.ps open-list-last-kinds.r open-list-last.Asked open-list-last.ensures open-list-last.Learnt
 open-list-last-settled = settled (λ κs a y z b c p q. (p ∙ sym q, refl))

@@ -1,14 +1,14 @@
--- Which numbers refusals have: a field's are 18 to 22, its validity's 28 and 29, those of blocks, chains and records 2 to 17, and a payload's also 21, 23
--- and 35; of a number that is written `WrittenEnds` has them, and of a list of channels `Overlaps`. So a reply of 0 is an answer.
+-- Which numbers refusals have: a field's are 18 to 22, its validity's 28 and 29, those of blocks, chains and records 2 to 17 without
+-- 14, and a payload's also 21, 23 and 35; of a number that is written `WrittenEnds` has them, and of a list of channels `Overlaps`.
+-- So a reply of 0 is an answer.
 use mathlib.Core.Path.{_≡_, refl, sym}
 use mathlib.Core.Logic.{_⊎_, inl, inr}
 use mathlib.Core.Bool.{Bool, true, false, not, _&&_, _||_}
 use mathlib.Core.List.{List, [], _∷_, _++_}
-use Prim.Native.Nat.{ℕ, zero, suc, _+_, _*_, _≤_}
+use Prim.Native.Nat.{ℕ, zero, suc, _+_, _*_, _<_}
 use native.Mathlib.Omega.{arith}
 use lib.ListN.{length, take, drop}
 use lib.Dec.{ltb, leb, eqb}
-use borrow.Author.Tests.{leb-true, le-leb}
 use Rattle.definitions.specs.Reply.{Reply, Outcome, answer, refusal, if_then_else_, andThen, told, writing, onAnswer}
 use Rattle.definitions.specs.Bytes.{u32At, u64At, idAt}
 use Rattle.definitions.specs.Unicode.{Encoding, textOf, writtenText, textWritten}
@@ -17,21 +17,17 @@ use Rattle.definitions.specs.DataType.{Kind, kindOf}
 use Rattle.definitions.specs.DataList.{DataList, Lengths, idDL, listOf, linksOf, restOf, restIn, flagsAt, listBytes, listSize, flagsFor, restFor, unwritable, listWritten}
 use Rattle.definitions.specs.ChannelBlock.{ChannelBlock, idCN, fieldsAt, fieldsOf, channelBlockOf, channelBytes, channelWritten}
 use Rattle.definitions.specs.Channel.{Channel, Group, startOf, spanOf, isInteger, isFloating, isNumber, valueBy, valueOf, validOf, validValueOf, recordLength, hasInvalidationBit, areaOf, boundedValidOf, boundedValueOf}
-use Rattle.definitions.specs.Chain.{Block, idDT, dataLimit, fileLimit, fragmentLimit, hasHeader, blockAt, declared, judged, fragmentOf, fragments, agrees, admitted, listAt, Declaration, declarationOf, keepsTo, chainedAt, lists, listLimit, chainOf, totalOf, dataLength, joined, badSize, recordOf, fetched, valueFetched}
+use Rattle.definitions.specs.Chain.{Block, idDT, fileLimit, fragmentLimit, hasHeader, blockAt, declared, judged, fragmentOf, fragments, agrees, admitted, listAt, Declaration, declarationOf, keepsTo, chainedAt, lists, listLimit, chainOf, totalOf, dataLength, joined, badSize, recordOf, fetched, valueFetched}
 use Rattle.definitions.specs.Payload.{idSD, positionOf, payloadAt, joinedOf, payloadOf}
-use Rattle.definitions.proofs.Replies.{not-answered, both}
+use Rattle.definitions.proofs.Replies.{not-answered}
 
 -- P holds of every refusal's number and of what it tells
 abbrev pub Numbered : {A : Type 0} → (ℕ → ℕ → Type 0) → Reply A → Type 0
 Numbered P r = (n t : ℕ) → r ≡ refusal n t → P n t
 
--- of blocks, buffers, chains and records
+-- of blocks, buffers, chains and records; 14 is not used any more
 abbrev pub OfBlocks : ℕ → ℕ → Type 0
-OfBlocks n t = leb 2 n && leb n 17 ≡ true
-
--- of the lists and blocks of a chain alone
-abbrev pub OfLists : ℕ → ℕ → Type 0
-OfLists n t = leb 2 n && leb n 13 ≡ true
+OfBlocks n t = leb 2 n && leb n 17 && not (eqb n 14) ≡ true
 
 abbrev pub OfFields : ℕ → ℕ → Type 0
 OfFields n t = leb 18 n && leb n 22 ≡ true
@@ -40,14 +36,13 @@ OfFields n t = leb 18 n && leb n 22 ≡ true
 abbrev pub OfArea : ℕ → ℕ → Type 0
 OfArea n t = leb 28 n && leb n 29 ≡ true
 
-pub between : (a b n : ℕ) → leb a n && leb n b ≡ true → (a ≤ n) × (n ≤ b)
-between a b n h = let p = both (leb a n) (leb n b) h in (leb-true a n (p .0), leb-true n b (p .1))
+-- a number is above 0, if 0 is none of them
+pub not-zero : (P : ℕ → ℕ → Type 0) → ((t : ℕ) → P 0 t → ⊥) → (n t : ℕ) → P n t → 0 < n
+not-zero P none zero t h = absurd (none t h)
+not-zero P none (suc n) t h = omega arith
 
 pub weaker : {A : Type 0} {P Q : ℕ → ℕ → Type 0} (r : Reply A) → ((n t : ℕ) → P n t → Q n t) → Numbered P r → Numbered Q r
 weaker r on h n t e = on n t (h n t e)
-
-pub of-lists-too : (n t : ℕ) → OfLists n t → OfBlocks n t
-of-lists-too n t h = let p = between 2 13 n h in rw (le-leb 2 n (p .0)) (le-leb n 17 (omega (arith, p .1)))
 
 module _ (P : ℕ → ℕ → Type 0) where
   pub of-answer : {A : Type 0} (a : A) → Numbered P (answer a)
@@ -74,30 +69,24 @@ module _ (P : ℕ → ℕ → Type 0) where
 
 -- ---- blocks
 
-header-low : (s : List ℕ) → Numbered OfLists (headerOf s)
-unfolding headerOf
-header-low s = of-test OfLists (ltb (length s) 24) 2 (told 24) _ refl (of-answer OfLists _)
-
 pub header-numbered : (s : List ℕ) → Numbered OfBlocks (headerOf s)
-header-numbered s = weaker _ of-lists-too (header-low s)
+unfolding headerOf
+header-numbered s = of-test OfBlocks (ltb (length s) 24) 2 (told 24) _ refl (of-answer OfBlocks _)
 
-rest-low : (s : List ℕ) (h : Header) → Numbered OfLists (restOf s h)
+rest-numbered : (s : List ℕ) (h : Header) → Numbered OfBlocks (restOf s h)
 unfolding restOf
-rest-low s h = of-test OfLists (ltb (length s) (flagsAt (h .linkCount) + 8 + restIn s (h .linkCount) * 8)) 2 _ _ refl (of-answer OfLists _)
+rest-numbered s h = of-test OfBlocks (ltb (length s) (flagsAt (h .linkCount) + 8 + restIn s (h .linkCount) * 8)) 2 _ _ refl (of-answer OfBlocks _)
 
-links-low : (s : List ℕ) (h : Header) → Numbered OfLists (linksOf s h)
+links-numbered : (s : List ℕ) (h : Header) → Numbered OfBlocks (linksOf s h)
 unfolding linksOf
-links-low s h =
-    of-test OfLists (not (idAt s 0 idDL)) 3 0 _ refl
-    (of-test OfLists (eqb (h .linkCount) 0) 4 0 _ refl
-    (of-test OfLists (ltb (length s) (flagsAt (h .linkCount) + 8)) 2 _ _ refl (rest-low s h)))
-
-list-low : (s : List ℕ) → Numbered OfLists (listOf s)
-unfolding listOf
-list-low s = of-following OfLists (headerOf s) (linksOf s) (header-low s) (links-low s)
+links-numbered s h =
+    of-test OfBlocks (not (idAt s 0 idDL)) 3 0 _ refl
+    (of-test OfBlocks (eqb (h .linkCount) 0) 4 0 _ refl
+    (of-test OfBlocks (ltb (length s) (flagsAt (h .linkCount) + 8)) 2 _ _ refl (rest-numbered s h)))
 
 pub list-numbered : (s : List ℕ) → Numbered OfBlocks (listOf s)
-list-numbered s = weaker _ of-lists-too (list-low s)
+unfolding listOf
+list-numbered s = of-following OfBlocks (headerOf s) (linksOf s) (header-numbered s) (links-numbered s)
 
 fields-numbered : (s : List ℕ) (h : Header) → Numbered OfBlocks (fieldsOf s h)
 unfolding fieldsOf
@@ -135,57 +124,55 @@ text-written-numbered out e s = writing-numbered out (textOf e s .bytes) _
 
 -- ---- a chain
 
-pub block-low : (id f : List ℕ) (a : ℕ) → Numbered OfLists (blockAt id f a)
+pub block-numbered : (id f : List ℕ) (a : ℕ) → Numbered OfBlocks (blockAt id f a)
 unfolding blockAt
-block-low id f a =
-    of-test OfLists (not (hasHeader f a)) 11 0 _ refl
-    (of-test OfLists (not (idAt f a id)) 12 0 _ refl
-    (of-test OfLists (not (eqb (u64At f (a + 16)) 0)) 12 0 _ refl
-    (of-test OfLists (ltb (u64At f (a + 8)) 24) 12 0 _ refl
-    (of-test OfLists (ltb (length f) (a + u64At f (a + 8))) 12 0 _ refl (of-answer OfLists _)))))
+block-numbered id f a =
+    of-test OfBlocks (not (hasHeader f a)) 11 0 _ refl
+    (of-test OfBlocks (not (idAt f a id)) 12 0 _ refl
+    (of-test OfBlocks (not (eqb (u64At f (a + 16)) 0)) 12 0 _ refl
+    (of-test OfBlocks (ltb (u64At f (a + 8)) 24) 12 0 _ refl
+    (of-test OfBlocks (ltb (length f) (a + u64At f (a + 8))) 12 0 _ refl (of-answer OfBlocks _)))))
 
 judged-numbered : (s : List ℕ) (d : DataList) (i p : ℕ) (b : Block) → Numbered OfBlocks (judged s d i p b)
-judged-numbered s d i p b =
-    of-test OfBlocks (ltb dataLimit (p + b .size)) 14 0 _ refl
-    (of-test OfBlocks (not (declared s d i p (b .size))) 13 0 _ refl (of-answer OfBlocks b))
+judged-numbered s d i p b = of-test OfBlocks (not (declared s d i p (b .size))) 13 0 _ refl (of-answer OfBlocks b)
 
 fragments-numbered : (id f s : List ℕ) (d : DataList) (i n : ℕ) (before : List Block) → Numbered OfBlocks (fragments id f s d i n before)
 unfolding fragments fragmentOf
 fragments-numbered id f s d i zero before = of-answer OfBlocks before
 fragments-numbered id f s d i (suc n) before =
     of-following OfBlocks (andThen (blockAt id f (u64At s (d .linksAt + i * 8))) (judged s d i _)) _
-    (of-following OfBlocks (blockAt id f (u64At s (d .linksAt + i * 8))) _ (weaker _ of-lists-too (block-low id f _)) (judged-numbered s d i _))
+    (of-following OfBlocks (blockAt id f (u64At s (d .linksAt + i * 8))) _ (block-numbered id f _) (judged-numbered s d i _))
     (λ b. fragments-numbered id f s d (i + 1) n (before ++ (b ∷ [])))
 
-admitted-low : (n : ℕ) (d : DataList) → Numbered OfLists (admitted n d)
-admitted-low n d =
-    of-test OfLists (not (agrees d)) 10 0 _ refl
-    (of-test OfLists (ltb fragmentLimit (n + d .links)) 9 0 _ refl (of-answer OfLists d))
+admitted-numbered : (n : ℕ) (d : DataList) → Numbered OfBlocks (admitted n d)
+admitted-numbered n d =
+    of-test OfBlocks (not (agrees d)) 10 0 _ refl
+    (of-test OfBlocks (ltb fragmentLimit (n + d .links)) 9 0 _ refl (of-answer OfBlocks d))
 
-pub list-at-low : (f : List ℕ) (n a : ℕ) → Numbered OfLists (listAt f n a)
+list-at-numbered : (f : List ℕ) (n a : ℕ) → Numbered OfBlocks (listAt f n a)
 unfolding listAt
-list-at-low f n a =
-    of-test OfLists (not (hasHeader f a)) 11 0 _ refl
-    (of-following OfLists (listOf (drop a f)) (admitted n) (list-low (drop a f)) (admitted-low n))
+list-at-numbered f n a =
+    of-test OfBlocks (not (hasHeader f a)) 11 0 _ refl
+    (of-following OfBlocks (listOf (drop a f)) (admitted n) (list-numbered (drop a f)) (admitted-numbered n))
 
-pub chained-low : (first : Declaration) (f : List ℕ) (n a : ℕ) → Numbered OfLists (chainedAt first f n a)
+chained-numbered : (first : Declaration) (f : List ℕ) (n a : ℕ) → Numbered OfBlocks (chainedAt first f n a)
 unfolding chainedAt
-chained-low first f n a =
-    of-following OfLists (listAt f n a) _ (list-at-low f n a)
-    (λ d. of-test OfLists (not (keepsTo first (eqb (d .next) 0) (declarationOf (drop a f) d))) 13 0 _ refl (of-answer OfLists d))
+chained-numbered first f n a =
+    of-following OfBlocks (listAt f n a) _ (list-at-numbered f n a)
+    (λ d. of-test OfBlocks (not (keepsTo first (eqb (d .next) 0) (declarationOf (drop a f) d))) 13 0 _ refl (of-answer OfBlocks d))
 
 lists-numbered : (id f : List ℕ) (first : Declaration) (k a : ℕ) (before : List Block) → Numbered OfBlocks (lists id f first k a before)
 unfolding lists
 lists-numbered id f first zero a before = of-refusal OfBlocks 8 0 refl
 lists-numbered id f first (suc k) a before =
-    of-following OfBlocks (chainedAt first f (length before) a) _ (weaker _ of-lists-too (chained-low first f (length before) a))
+    of-following OfBlocks (chainedAt first f (length before) a) _ (chained-numbered first f (length before) a)
     (λ d. of-following OfBlocks (fragments id f (drop a f) d 0 (d .links) before) _ (fragments-numbered id f (drop a f) d 0 (d .links) before)
     (λ bs. of-either OfBlocks (eqb (d .next) 0) _ _ (of-answer OfBlocks bs) (lists-numbered id f first k (d .next) bs)))
 
 pub chain-numbered : (id f : List ℕ) (start : ℕ) → Numbered OfBlocks (chainOf id f start)
 unfolding chainOf
 chain-numbered id f start =
-    of-following OfBlocks (listAt f 0 start) _ (weaker _ of-lists-too (list-at-low f 0 start))
+    of-following OfBlocks (listAt f 0 start) _ (list-at-numbered f 0 start)
     (λ d. lists-numbered id f (declarationOf (drop start f) d) listLimit start [])
 
 pub total-numbered : (id f : List ℕ) (start : ℕ) → Numbered OfBlocks (totalOf id f start)
@@ -270,7 +257,7 @@ value-fetched-numbered f start k size out g c =
 -- ---- a payload
 
 abbrev pub OfPayloads : ℕ → ℕ → Type 0
-OfPayloads n t = leb 2 n && leb n 17 || eqb n 21 || eqb n 23 || eqb n 35 ≡ true
+OfPayloads n t = leb 2 n && leb n 17 && not (eqb n 14) || eqb n 21 || eqb n 23 || eqb n 35 ≡ true
 
 pub of-blocks-too : (n t : ℕ) → OfBlocks n t → OfPayloads n t
 of-blocks-too n t h = rw h

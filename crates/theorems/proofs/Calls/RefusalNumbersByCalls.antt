@@ -42,7 +42,7 @@ use Rattle.theorems.proofs.Payloads.PayloadEnds.{fetched-payload-number
 use Rattle.theorems.proofs.Writing.WrittenEnds.{OfWriting, value-written-numbered}
 
 -- a reply that is the definition's
-numbered : {A : Type 0} {P : ℕ → ℕ → Type 0} {r q : Reply A} → r ≡ q → Numbered P q → Numbered P r
+pub numbered : {A : Type 0} {P : ℕ → ℕ → Type 0} {r q : Reply A} → r ≡ q → Numbered P q → Numbered P r
 numbered e h n t i = h n t (sym e ∙ i)
 
 -- ---- blocks

@@ -1,6 +1,6 @@
 -- From what a call returns to C, the definition's reply comes back: about each call's own clause.
-use mathlib.Core.Path.{_≡_, refl, ap, _∙_}
-use mathlib.Core.Bool.{Bool, true, false, not, _&&_, _||_}
+use mathlib.Core.Path.{_≡_, refl, sym, ap, _∙_}
+use mathlib.Core.Bool.{Bool, true, false, not, _&&_, _||_, true≢false}
 use mathlib.Core.List.{List}
 use Prim.Native.Nat.{ℕ, suc, _+_, _-_, _*_, _^_, _≤_, _<_}
 use native.Mathlib.Nat.{mod-lt}
@@ -8,9 +8,9 @@ use native.Mathlib.Omega.{arith}
 use contract.Lifetimes.{Lfts}
 use lib.IntN.{pos, negsuc}
 use lib.ListN.{length, getD, take, drop}
-use lib.Dec.{ltb, leb, eqb}
+use lib.Dec.{ltb, eqb}
 use lib.Pow.{pow-pos, pow-mono, pow-add}
-use borrow.Author.Tests.{ltb-true, ltb-false, leb-true, eqb-false}
+use borrow.Author.Tests.{ltb-true, ltb-false, eqb-false}
 use Rattle.definitions.specs.Reply.{Reply, Outcome, answer, refusal, if_then_else_, andThen, told}
 use Rattle.definitions.specs.Bytes.{twosComplement, u64At}
 use Rattle.definitions.specs.Unicode.{Encoding, textWritten}
@@ -21,7 +21,6 @@ use Rattle.definitions.specs.ChannelBlock.{ChannelBlock, fieldsAt, described, c
 use Rattle.definitions.specs.DataList.{listOf, listWritten, equal, variable}
 use Rattle.definitions.specs.WrittenValue.{valueWritten}
 use Rattle.definitions.specs.Chain.{dataLength, fetched, valueFetched}
-use Rattle.definitions.proofs.Replies.{both}
 use Rattle.mf4.specs.Clauses.{Slice}
 use Rattle.block_replies.specs.Replies.{Returned, returned, returnedBy, writtenC, headerGiven}
 use Rattle.replies.specs.Replies.{textC, doneC}
@@ -50,7 +49,23 @@ use Rattle.theorems.proofs.Types.TypeCodes.{code-back, code-owned}
 use Rattle.theorems.proofs.Blocks.ChannelAnswers.{channel-stands}
 use Rattle.theorems.proofs.Texts.TextClausesToC.{text-clause}
 use Rattle.theorems.proofs.Writing.WrittenEnds.{OfWriting, value-written-numbered}
-use Rattle.theorems.proofs.Calls.RefusalNumbers.{Numbered, OfBlocks, OfArea, between, header-numbered, list-numbered, channel-numbered, header-written-numbered, channel-written-numbered, list-written-numbered, text-written-numbered, length-numbered, fetched-numbered, bounded-valid-numbered}
+use Rattle.theorems.proofs.Calls.RefusalNumbers.{Numbered, OfBlocks, OfArea, not-zero, header-numbered, list-numbered, channel-numbered, header-written-numbered, channel-written-numbered, list-written-numbered, text-written-numbered, length-numbered, fetched-numbered, bounded-valid-numbered}
+
+-- ---- refusals can be told
+
+-- where 0 is none of their numbers
+pub by-number : {A : Type 0} (P : ℕ → ℕ → Type 0) → ((t : ℕ) → P 0 t → ⊥) → (r : Reply A) → Numbered P r → Tellable Any r
+by-number P none (answer a) h = tt
+by-number P none (refusal n t) h = not-zero P none n t (h n t refl)
+
+of-blocks : {A : Type 0} (r : Reply A) → Numbered OfBlocks r → Tellable Any r
+of-blocks = by-number OfBlocks (λ t h. true≢false (sym h))
+
+of-area : {A : Type 0} (r : Reply A) → Numbered OfArea r → Tellable Any r
+of-area = by-number OfArea (λ t h. true≢false (sym h))
+
+of-writing : {A : Type 0} (r : Reply A) → Numbered OfWriting r → Tellable Any r
+of-writing = by-number OfWriting (λ t h. true≢false (sym h))
 
 -- ---- the values of fields can be told
 
@@ -123,22 +138,10 @@ bounded-value-tellable s g c = go (valueOf s (g .idSize) c) (boundedValidOf s g 
     go : (r : Reply Value) (q : Reply Bool) → Tellable Reversible r → Numbered OfArea q
         → Tellable Judged (andThen r (λ v. andThen q (λ b. answer (record { value = v; valid = b }))))
     go (answer v) (answer b) h i = h
-    go (answer v) (refusal n t) h i = omega (arith, between 28 29 n (i n t refl) .0)
+    go (answer v) (refusal n t) h i = of-area (refusal n t) i
     go (refusal n t) q h i = h
 
 -- ---- what each call returns
-
-of-blocks : {A : Type 0} (r : Reply A) → Numbered OfBlocks r → Tellable Any r
-of-blocks (answer a) h = tt
-of-blocks (refusal n t) h = omega (arith, between 2 17 n (h n t refl) .0)
-
-of-area : {A : Type 0} (r : Reply A) → Numbered OfArea r → Tellable Any r
-of-area (answer a) h = tt
-of-area (refusal n t) h = omega (arith, between 28 29 n (h n t refl) .0)
-
-of-writing : {A : Type 0} (r : Reply A) → Numbered OfWriting r → Tellable Any r
-of-writing (answer a) h = tt
-of-writing (refusal n t) h = omega (arith, leb-true 18 n (both (leb 18 n) _ (h n t refl) .0))
 
 -- of a call that wrote
 pub by-result : {A R : Type 0} (toC : Reply A → R) (back : R → Reply A) {y : R} {after : List ℕ} {o : Outcome A}
@@ -242,7 +245,7 @@ value-fetched-tellable f start k size g c out = go (fetched f start k size out .
     go : (r : Reply (Unit {0})) → Numbered OfBlocks r
         → Tellable Judged (andThen r (λ u. boundedValueOf (take size (fetched f start k size out .buffer)) g c))
     go (answer u) h = bounded-value-tellable (take size (fetched f start k size out .buffer)) g c
-    go (refusal n t) h = omega (arith, between 2 17 n (h n t refl) .0)
+    go (refusal n t) h = of-blocks (refusal n t) h
 
 pub mf4-record-value-told : (κs : Lfts 2) (file : Slice) (start number size : ℕ) (group : Mf4Group) (channel : Mf4Channel) (out : Slice) (y : Mf4ValidValueReply) (after : List ℕ)
     → ReadsRecordValueC κs file start number size group channel out y after

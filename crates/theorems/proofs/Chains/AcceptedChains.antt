@@ -10,7 +10,7 @@ use lib.Dec.{eqb}
 use borrow.Author.Tests.{eqb-true, eq-eqb, ne-eqb}
 use Rattle.definitions.specs.Reply.{answer, if_then_else_}
 use Rattle.definitions.specs.DataList.{DataList}
-use Rattle.definitions.specs.Chain.{Block, total, listLimit, fragmentLimit, dataLimit, fragmentOf, fragments, listAt, Declaration, declarationOf, keepsTo, chainedAt, lists, chainOf}
+use Rattle.definitions.specs.Chain.{Block, total, listLimit, fragmentLimit, fragmentOf, fragments, listAt, Declaration, declarationOf, keepsTo, chainedAt, lists, chainOf}
 use Rattle.definitions.specs.Accepted.{Each, Part, blocksOf, linkTo, Truthful, BlockListed, PartStands, Accepted}
 use Rattle.definitions.proofs.Replies.{not-answered}
 use Rattle.places.proofs.Answers.{followed}
@@ -22,10 +22,6 @@ total-append : (bs cs : List Block) → total (bs ++ cs) ≡ total bs + total cs
 unfolding total
 total-append [] cs = omega arith
 total-append (b ∷ bs) cs = omega (arith, total-append bs cs)
-
-total-one : (b : Block) → total (b ∷ []) ≡ b .size
-unfolding total
-total-one b = omega arith
 
 blocks-append : (ps qs : List Part) → blocksOf (ps ++ qs) ≡ blocksOf ps ++ blocksOf qs
 unfolding blocksOf
@@ -53,35 +49,30 @@ module _ (id f : List ℕ) (a : ℕ) (d : DataList) (old : List Block) where
   moved : (bs : List Block) (b : Block) (new : List Block) → old ++ (bs ++ (b ∷ [])) ++ new ≡ old ++ bs ++ (b ∷ new)
   moved bs b new = simp append-assoc
 
-  fragments-stand : (n : ℕ) (bs all : List Block) → length bs + n ≡ d .links → total (old ++ bs) ≤ dataLimit
+  fragments-stand : (n : ℕ) (bs all : List Block) → length bs + n ≡ d .links
       → fragments id f (drop a f) d (length bs) n (old ++ bs) ≡ answer all
-      → (new : List Block) × (all ≡ old ++ bs ++ new) × (length new ≡ n) × Listed bs new × (total all ≤ dataLimit)
+      → (new : List Block) × (all ≡ old ++ bs ++ new) × (length new ≡ n) × Listed bs new
   unfolding fragments Each
-  fragments-stand zero bs all l t h =
+  fragments-stand zero bs all l h =
       let same : old ++ bs ≡ all = cc in
-      ([], sym same ∙ sym (append-nil (old ++ bs)), refl, tt, rw (sym same) t)
-  fragments-stand (suc n) bs all l t h =
+      ([], sym same ∙ sym (append-nil (old ++ bs)), refl, tt)
+  fragments-stand (suc n) bs all l h =
       let g = followed (fragmentOf id f (drop a f) d (length bs) (total (old ++ bs))) (λ b. fragments id f (drop a f) d (length bs + 1) n (old ++ bs ++ (b ∷ []))) all h in
       let b : Block = g .0 in
       let k = fragment-stands id f (drop a f) d (length bs) n (total (old ++ bs)) (omega arith) b (g .1) in
-      let more : total (old ++ (bs ++ (b ∷ []))) ≤ dataLimit =
-      omega (arith, total-append old (bs ++ (b ∷ [])), total-append bs (b ∷ []), total-append old bs, total-one b, k .3) in
-      let r = fragments-stand n (bs ++ (b ∷ [])) all (omega (arith, length-append bs (b ∷ []))) more (sym (one-on bs b n) ∙ g .2) in
+      let r = fragments-stand n (bs ++ (b ∷ [])) all (omega (arith, length-append bs (b ∷ []))) (sym (one-on bs b n) ∙ g .2) in
       let true : Truthful (drop a f) d (total old + total bs) (length bs) (length (r .0)) (b .size) = rw (sym (total-append old bs), r .2) (k .2) in
-      (b ∷ r .0, r .1 ∙ moved bs b (r .0), ap suc (r .2), (record { link = k .0; stands = k .1; truthful = true }, r .3), r .4)
+      (b ∷ r .0, r .1 ∙ moved bs b (r .0), ap suc (r .2), (record { link = k .0; stands = k .1; truthful = true }, r .3))
 
-  fragments-taken : (new bs : List Block) → length bs + length new ≡ d .links → Listed bs new → total (old ++ bs ++ new) ≤ dataLimit
+  fragments-taken : (new bs : List Block) → length bs + length new ≡ d .links → Listed bs new
       → fragments id f (drop a f) d (length bs) (length new) (old ++ bs) ≡ answer (old ++ bs ++ new)
   unfolding fragments Each
-  fragments-taken [] bs n l t = ap answer (sym (append-nil (old ++ bs)))
-  fragments-taken (b ∷ new) bs n l t =
-      let more : total (old ++ (bs ++ (b ∷ [])) ++ new) ≤ dataLimit = rw (moved bs b new) t in
-      let room : total (old ++ bs) + b .size ≤ dataLimit =
-      omega (arith, total-append (old ++ bs) (b ∷ new), total-append (b ∷ []) new, total-one b) in
+  fragments-taken [] bs n l = ap answer (sym (append-nil (old ++ bs)))
+  fragments-taken (b ∷ new) bs n l =
       let true : Truthful (drop a f) d (total (old ++ bs)) (length bs) (length new) (b .size) = rw (total-append old bs) (l .0 .truthful) in
       let here : fragmentOf id f (drop a f) d (length bs) (total (old ++ bs)) ≡ answer b =
-      fragment-taken id f (drop a f) d (length bs) (length new) (total (old ++ bs)) (omega arith) b (l .0 .link) (l .0 .stands) true room in
-      rw here (one-on bs b (length new) ∙ fragments-taken new (bs ++ (b ∷ [])) (omega (arith, length-append bs (b ∷ []))) (l .1) more ∙ ap answer (moved bs b new))
+      fragment-taken id f (drop a f) d (length bs) (length new) (total (old ++ bs)) (omega arith) b (l .0 .link) (l .0 .stands) true in
+      rw here (one-on bs b (length new) ∙ fragments-taken new (bs ++ (b ∷ [])) (omega (arith, length-append bs (b ∷ []))) (l .1) ∙ ap answer (moved bs b new))
 
 -- ---- the lists of the chain
 
@@ -96,28 +87,25 @@ module _ (id f : List ℕ) (common : Declaration) where
     pub keep : Each (Keeps f common) ps qs
     pub together : all ≡ blocksOf (ps ++ qs)
     pub fewBlocks : length all ≤ fragmentLimit
-    pub bounded : total all ≤ dataLimit
 
   parts-on : (ps : List Part) (q : Part) (qs : List Part) → ps ++ (q ∷ []) ++ qs ≡ ps ++ q ∷ qs
   parts-on ps q qs = simp append-assoc
 
   -- the part that a list and its fragments make
-  part-stands : (a : ℕ) (ps : List Part) (d : DataList) (bs : List Block) → total (blocksOf ps) ≤ dataLimit
+  part-stands : (a : ℕ) (ps : List Part) (d : DataList) (bs : List Block)
       → listAt f (length (blocksOf ps)) a ≡ answer d → fragments id f (drop a f) d 0 (d .links) (blocksOf ps) ≡ answer bs
-      → (new : List Block) × (bs ≡ blocksOf ps ++ new) × (length bs ≤ fragmentLimit) × (total bs ≤ dataLimit)
+      → (new : List Block) × (bs ≡ blocksOf ps ++ new) × (length bs ≤ fragmentLimit)
       × ((after : List Part) → d .next ≡ linkTo after → PartStands id f ps (record { address = a; list = d; blocks = new }) after)
-  part-stands a ps d bs t there got =
+  part-stands a ps d bs there got =
       let known = list-there f (length (blocksOf ps)) a d there in
       let old : blocksOf ps ++ [] ≡ blocksOf ps = append-nil (blocksOf ps) in
-      let t′ : total (blocksOf ps ++ []) ≤ dataLimit = rw old t in
       let got′ : fragments id f (drop a f) d 0 (d .links) (blocksOf ps ++ []) ≡ answer bs = rw old got in
-      let r = fragments-stand id f a d (blocksOf ps) (d .links) [] bs (zero-add (d .links)) t′ got′ in
+      let r = fragments-stand id f a d (blocksOf ps) (d .links) [] bs (zero-add (d .links)) got′ in
       let all : bs ≡ blocksOf ps ++ r .0 = r .1 ∙ ap (λ (x : List Block). x ++ r .0) old in
       let few : length bs ≤ fragmentLimit = omega (arith, ap length all, length-append (blocksOf ps) (r .0), r .2, known .5) in (
         r .0,
         all,
         few,
-        r .4,
         λ after e. record {
           somewhere = known .0;
           inside = known .1;
@@ -132,14 +120,13 @@ module _ (id f : List ℕ) (common : Declaration) where
 
   -- the last list, or the rest of the chain behind it
   on-next : (k a : ℕ) (ps : List Part) (d : DataList) (bs all : List Block) (b : Bool)
-      → ((c : ℕ) (qs : List Part) → total (blocksOf qs) ≤ dataLimit → lists id f common k c (blocksOf qs) ≡ answer all → Chained k c qs all)
-      → total (blocksOf ps) ≤ dataLimit
+      → ((c : ℕ) (qs : List Part) → lists id f common k c (blocksOf qs) ≡ answer all → Chained k c qs all)
       → listAt f (length (blocksOf ps)) a ≡ answer d → keepsTo common (eqb (d .next) 0) (declarationOf (drop a f) d) ≡ true
       → fragments id f (drop a f) d 0 (d .links) (blocksOf ps) ≡ answer bs
       → eqb (d .next) 0 ≡ b → (if b then answer bs else lists id f common k (d .next) bs) ≡ answer all → Chained (suc k) a ps all
   unfolding Each
-  on-next k a ps d bs all true rest t there kept got e h =
-      let p = part-stands a ps d bs t there got in
+  on-next k a ps d bs all true rest there kept got e h =
+      let p = part-stands a ps d bs there got in
       let q : Part = record { address = a; list = d; blocks = p .0 } in
       let same : bs ≡ all = cc in
       record {
@@ -147,43 +134,41 @@ module _ (id f : List ℕ) (common : Declaration) where
         some = list-there f (length (blocksOf ps)) a d there .0;
         first = refl;
         few = omega arith;
-        each = (p .4 [] (eqb-true (d .next) 0 e), tt);
+        each = (p .3 [] (eqb-true (d .next) 0 e), tt);
         keep = (kept, tt);
         together = sym same ∙ p .1 ∙ sym (blocks-one ps q);
         fewBlocks = rw (sym same) (p .2);
-        bounded = rw (sym same) (p .3);
       }
-  on-next k a ps d bs all false rest t there kept got e h =
-      let p = part-stands a ps d bs t there got in
+  on-next k a ps d bs all false rest there kept got e h =
+      let p = part-stands a ps d bs there got in
       let q : Part = record { address = a; list = d; blocks = p .0 } in
       let next : bs ≡ blocksOf (ps ++ (q ∷ [])) = p .1 ∙ sym (blocks-one ps q) in
-      let c = rest (d .next) (ps ++ (q ∷ [])) (rw (sym next) (p .3)) (ap (lists id f common k (d .next)) (sym next) ∙ h) in
+      let c = rest (d .next) (ps ++ (q ∷ [])) (ap (lists id f common k (d .next)) (sym next) ∙ h) in
       record {
         qs = q ∷ c .qs;
         some = list-there f (length (blocksOf ps)) a d there .0;
         first = refl;
         few = omega (arith, c .few);
-        each = (p .4 (c .qs) (sym (c .first)), c .each);
+        each = (p .3 (c .qs) (sym (c .first)), c .each);
         keep = (kept, c .keep);
         together = c .together ∙ ap blocksOf (parts-on ps q (c .qs));
         fewBlocks = c .fewBlocks;
-        bounded = c .bounded;
       }
 
-  lists-stand : (k a : ℕ) (ps : List Part) (all : List Block) → total (blocksOf ps) ≤ dataLimit
+  lists-stand : (k a : ℕ) (ps : List Part) (all : List Block)
       → lists id f common k a (blocksOf ps) ≡ answer all → Chained k a ps all
   unfolding lists
-  lists-stand zero a ps all t h = not-answered all 8 0 h
-  lists-stand (suc k) a ps all t h =
+  lists-stand zero a ps all h = not-answered all 8 0 h
+  lists-stand (suc k) a ps all h =
       let g = followed (chainedAt common f (length (blocksOf ps)) a) _ all h in
       let d : DataList = g .0 in
       let read = chained-answer common f (length (blocksOf ps)) a d (g .1) in
       let m = followed (fragments id f (drop a f) d 0 (d .links) (blocksOf ps)) _ all (g .2) in
-      on-next k a ps d (m .0) all (eqb (d .next) 0) (λ c qs. lists-stand k c qs all) t (read .0) (read .1) (m .1) refl (m .2)
+      on-next k a ps d (m .0) all (eqb (d .next) 0) (λ c qs. lists-stand k c qs all) (read .0) (read .1) (m .1) refl (m .2)
 
   -- a part that stands is taken
   module _ (k : ℕ) (ps : List Part) (q : Part) (after : List Part) (h : PartStands id f ps q after) (kept : Keeps f common ps q after)
-      (few : length (blocksOf (ps ++ (q ∷ []))) ≤ fragmentLimit) (t : total (blocksOf (ps ++ (q ∷ []))) ≤ dataLimit) where
+      (few : length (blocksOf (ps ++ (q ∷ []))) ≤ fragmentLimit) where
     list-here : listAt f (length (blocksOf ps)) (q .address) ≡ answer (q .list)
     list-here =
         let links = h .links in
@@ -193,10 +178,9 @@ module _ (id f : List ℕ) (common : Declaration) where
     fragments-here : fragments id f (drop (q .address) f) (q .list) 0 (q .list .links) (blocksOf ps) ≡ answer (blocksOf (ps ++ (q ∷ [])))
     fragments-here =
         let old : blocksOf ps ++ [] ≡ blocksOf ps = append-nil (blocksOf ps) in
-        let room : total (blocksOf ps ++ [] ++ q .blocks) ≤ dataLimit = rw (old, sym (blocks-one ps q)) t in
         ap (λ (n : ℕ). fragments id f (drop (q .address) f) (q .list) 0 n (blocksOf ps)) (sym (h .links))
         ∙ ap (fragments id f (drop (q .address) f) (q .list) 0 (length (q .blocks))) (sym old)
-        ∙ fragments-taken id f (q .address) (q .list) (blocksOf ps) (q .blocks) [] (zero-add (length (q .blocks)) ∙ h .links) (h .each) room
+        ∙ fragments-taken id f (q .address) (q .list) (blocksOf ps) (q .blocks) [] (zero-add (length (q .blocks)) ∙ h .links) (h .each)
         ∙ ap (λ (bs : List Block). answer (bs ++ q .blocks)) old ∙ ap answer (sym (blocks-one ps q))
 
     part-taken : lists id f common (suc k) (q .address) (blocksOf ps)
@@ -206,38 +190,35 @@ module _ (id f : List ℕ) (common : Declaration) where
         let here : chainedAt common f (length (blocksOf ps)) (q .address) ≡ answer (q .list) = sym (chained-kept common f _ _ (q .list) list-here kept) in
         rw (here, fragments-here)
 
-  fewer : (ps qs : List Part) → (length (blocksOf ps) ≤ length (blocksOf (ps ++ qs))) × (total (blocksOf ps) ≤ total (blocksOf (ps ++ qs)))
-  fewer ps qs =
-      rw (blocks-append ps qs)
-      (omega (arith, length-append (blocksOf ps) (blocksOf qs)), omega (arith, total-append (blocksOf ps) (blocksOf qs)))
+  fewer : (ps qs : List Part) → length (blocksOf ps) ≤ length (blocksOf (ps ++ qs))
+  fewer ps qs = rw (blocks-append ps qs) (omega (arith, length-append (blocksOf ps) (blocksOf qs)))
 
   lists-taken : (qs ps : List Part) (k a : ℕ) → Each (PartStands id f) ps qs → Each (Keeps f common) ps qs → linkTo qs ≡ a → 0 < a → length qs ≤ k
-      → length (blocksOf (ps ++ qs)) ≤ fragmentLimit → total (blocksOf (ps ++ qs)) ≤ dataLimit
+      → length (blocksOf (ps ++ qs)) ≤ fragmentLimit
       → lists id f common k a (blocksOf ps) ≡ answer (blocksOf (ps ++ qs))
   unfolding Each
-  lists-taken [] ps k a h d e z few m t = let no : ⊥ = omega arith in absurd no
-  lists-taken (q ∷ qs) ps zero a h d e z few m t = let no : ⊥ = omega arith in absurd no
-  lists-taken (q ∷ []) ps (suc k) a h d e z few m t =
-      ap (λ (x : ℕ). lists id f common (suc k) x (blocksOf ps)) (sym e) ∙ part-taken k ps q [] (h .0) (d .0) m t ∙ rw (eq-eqb _ _ (h .0 .next))
-  lists-taken (q ∷ r ∷ qs) ps (suc k) a h d e z few m t =
+  lists-taken [] ps k a h d e z few m = let no : ⊥ = omega arith in absurd no
+  lists-taken (q ∷ qs) ps zero a h d e z few m = let no : ⊥ = omega arith in absurd no
+  lists-taken (q ∷ []) ps (suc k) a h d e z few m =
+      ap (λ (x : ℕ). lists id f common (suc k) x (blocksOf ps)) (sym e) ∙ part-taken k ps q [] (h .0) (d .0) m ∙ rw (eq-eqb _ _ (h .0 .next))
+  lists-taken (q ∷ r ∷ qs) ps (suc k) a h d e z few m =
       let on : ps ++ (q ∷ []) ++ (r ∷ qs) ≡ ps ++ q ∷ r ∷ qs = parts-on ps q (r ∷ qs) in
-      let part : (length (blocksOf (ps ++ (q ∷ []))) ≤ length (blocksOf (ps ++ q ∷ r ∷ qs))) × (total (blocksOf (ps ++ (q ∷ []))) ≤ total (blocksOf (ps ++ q ∷ r ∷ qs))) =
-      rw on at (fewer (ps ++ (q ∷ [])) (r ∷ qs)) in
+      let part : length (blocksOf (ps ++ (q ∷ []))) ≤ length (blocksOf (ps ++ q ∷ r ∷ qs)) = rw on at (fewer (ps ++ (q ∷ [])) (r ∷ qs)) in
       let some : 0 < q .list .next = omega (arith, h .0 .next, h .1 .0 .somewhere) in
       let more : q .list .next ≡ 0 → ⊥ = λ x. omega arith in
-      let rest = lists-taken (r ∷ qs) (ps ++ (q ∷ [])) k (q .list .next) (h .1) (d .1) (sym (h .0 .next)) some (omega arith) (rw on m) (rw on t) in
-      ap (λ (x : ℕ). lists id f common (suc k) x (blocksOf ps)) (sym e) ∙ part-taken k ps q (r ∷ qs) (h .0) (d .0) (omega (arith, part .0)) (omega (arith, part .1))
+      let rest = lists-taken (r ∷ qs) (ps ++ (q ∷ [])) k (q .list .next) (h .1) (d .1) (sym (h .0 .next)) some (omega arith) (rw on m) in
+      ap (λ (x : ℕ). lists id f common (suc k) x (blocksOf ps)) (sym e) ∙ part-taken k ps q (r ∷ qs) (h .0) (d .0) (omega arith)
       ∙ rw (ne-eqb _ _ more) (rest ∙ ap (λ (x : List Part). answer (blocksOf x)) on)
 
 -- ---- the two are one
 
 module _ (id f : List ℕ) (start : ℕ) where
   pub accepted : (blocks : List Block) → chainOf id f start ≡ answer blocks → Accepted id f start blocks
-  unfolding chainOf blocksOf total
+  unfolding chainOf blocksOf
   accepted blocks h =
       let g = followed (listAt f 0 start) _ blocks h in
       let common : Declaration = declarationOf (drop start f) (g .0) in
-      let c = lists-stand id f common listLimit start [] blocks (omega arith) (g .2) in
+      let c = lists-stand id f common listLimit start [] blocks (g .2) in
       record {
         parts = c .qs;
         some = c .some;
@@ -247,25 +228,24 @@ module _ (id f : List ℕ) (start : ℕ) where
         together = c .together;
         fewLists = c .few;
         fewBlocks = c .fewBlocks;
-        bounded = c .bounded;
       }
 
   -- the first of the parts declares, and all keep to that
   parts-taken : (qs : List Part) → Each (PartStands id f) [] qs → Alike f qs → linkTo qs ≡ start → 0 < start → length qs ≤ listLimit
-      → length (blocksOf qs) ≤ fragmentLimit → total (blocksOf qs) ≤ dataLimit → chainOf id f start ≡ answer (blocksOf qs)
+      → length (blocksOf qs) ≤ fragmentLimit → chainOf id f start ≡ answer (blocksOf qs)
   unfolding chainOf blocksOf Each
-  parts-taken [] h d e z few m t = let no : ⊥ = omega arith in absurd no
-  parts-taken (q ∷ qs) h d e z few m t =
+  parts-taken [] h d e z few m = let no : ⊥ = omega arith in absurd no
+  parts-taken (q ∷ qs) h d e z few m =
       let common : Declaration = declarationOf (drop (q .address) f) (q .list) in
       let keep = all-keep id f q qs h d in
       let part = fewer id f common (q ∷ []) qs in
-      let here = list-here id f common 0 [] q qs (h .0) (keep .0) (omega (arith, part .0)) (omega (arith, part .1)) in
-      rw (sym e, here) (lists-taken id f common (q ∷ qs) [] listLimit (q .address) h keep refl (rw e z) few m t)
+      let here = list-here id f common 0 [] q qs (h .0) (keep .0) (omega arith) in
+      rw (sym e, here) (lists-taken id f common (q ∷ qs) [] listLimit (q .address) h keep refl (rw e z) few m)
 
   pub accepts : (blocks : List Block) → Accepted id f start blocks → chainOf id f start ≡ answer blocks
   accepts blocks h =
       let e = h .together in
-      parts-taken (h .parts) (h .each) (h .alike) (h .first) (h .some) (h .fewLists) (rw (sym e) (h .fewBlocks)) (rw (sym e) (h .bounded)) ∙ ap answer (sym e)
+      parts-taken (h .parts) (h .each) (h .alike) (h .first) (h .some) (h .fewLists) (rw (sym e) (h .fewBlocks)) ∙ ap answer (sym e)
 
   -- so a chain has its blocks and no others
   pub accepted-once : (bs cs : List Block) → Accepted id f start bs → Accepted id f start cs → bs ≡ cs

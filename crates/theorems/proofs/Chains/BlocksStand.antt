@@ -12,7 +12,7 @@ use borrow.Author.Tests.{leb-true, leb-false, ltb-false, eqb-true, eqb-false, no
 use Rattle.definitions.specs.Reply.{answer, if_then_else_}
 use Rattle.definitions.specs.Bytes.{u64At, bit}
 use Rattle.definitions.specs.DataList.{DataList, oneLength, listOf}
-use Rattle.definitions.specs.Chain.{Block, fragmentLimit, dataLimit, hasHeader, blockAt, isLast, judged, declared, fragmentOf, agrees, admitted, listAt}
+use Rattle.definitions.specs.Chain.{Block, fragmentLimit, hasHeader, blockAt, isLast, judged, declared, fragmentOf, agrees, admitted, listAt}
 use Rattle.definitions.specs.Accepted.{BlockStands, Truthful}
 use Rattle.definitions.proofs.Replies.{both}
 use Rattle.places.proofs.Addresses.{header-there}
@@ -91,24 +91,22 @@ module _ (id f : List ℕ) where
 
   module _ (s : List ℕ) (d : DataList) (i more p : ℕ) (here : i + 1 + more ≡ d .links) where
     pub fragment-stands : (b : Block) → fragmentOf id f s d i p ≡ answer b
-        → (u64At s (d .linksAt + i * 8) ≡ b .address) × BlockStands id f b × Truthful s d p i more (b .size) × (p + b .size ≤ dataLimit)
+        → (u64At s (d .linksAt + i * 8) ≡ b .address) × BlockStands id f b × Truthful s d p i more (b .size)
     unfolding fragmentOf
     fragment-stands b h =
         let g = followed (blockAt id f (u64At s (d .linksAt + i * 8))) (judged s d i p) b h in
         let k = block-stands id f (u64At s (d .linksAt + i * 8)) (g .0) (g .1) in
-        let m = passed (ltb dataLimit (p + g .0 .size)) 14 0 _ b (g .2) in
-        let t = passed (not (declared s d i p (g .0 .size))) 13 0 _ b (m .1) in
+        let t = passed (not (declared s d i p (g .0 .size))) 13 0 _ b (g .2) in
         let same : g .0 ≡ b = cc in (
           rw (sym same) (sym (k .0)),
           rw (sym same) (k .1),
           rw (sym same) (test-true s d p i more (g .0 .size) here (not-false _ (t .0))),
-          rw (sym same) (ltb-false _ _ (m .0)),
         )
 
     pub fragment-taken : (b : Block) → u64At s (d .linksAt + i * 8) ≡ b .address → BlockStands id f b → Truthful s d p i more (b .size)
-        → p + b .size ≤ dataLimit → fragmentOf id f s d i p ≡ answer b
+        → fragmentOf id f s d i p ≡ answer b
     unfolding fragmentOf
-    fragment-taken b e h t l = rw (e, block-taken b h, le-ltb _ _ l, true-tested s d p i more (b .size) here t)
+    fragment-taken b e h t = rw (e, block-taken b h, true-tested s d p i more (b .size) here t)
 
 module _ (f : List ℕ) (n a : ℕ) where
   pub list-there : (d : DataList) → listAt f n a ≡ answer d

@@ -11,7 +11,7 @@ use borrow.Author.Tests.{leb-true, leb-false, eqb-true, eqb-false}
 use Rattle.definitions.specs.Reply.{Reply, answer, refusal, if_then_else_}
 use Rattle.definitions.specs.Bytes.{u64At, idAt}
 use Rattle.definitions.specs.DataList.{DataList, oneLength, listOf}
-use Rattle.definitions.specs.Chain.{Block, dataLimit, fragmentLimit, hasHeader, blockAt, isLast, declared, judged, fragmentOf, agrees, admitted, listAt, Declaration, byLength, byOffsets, declarationOf, keepsTo, chainedAt}
+use Rattle.definitions.specs.Chain.{Block, fragmentLimit, hasHeader, blockAt, isLast, declared, judged, fragmentOf, agrees, admitted, listAt, Declaration, byLength, byOffsets, declarationOf, keepsTo, chainedAt}
 use Rattle.definitions.proofs.Replies.{both, answered}
 use Rattle.places.proofs.Answers.{passed, followed}
 use Rattle.steps.proofs.Declarations.{chained-answer}
@@ -95,16 +95,14 @@ module _ (id f s : List ℕ) (d : DataList) (i p : ℕ) where
       let b = fragmentThere f s d i in
       going-on (blockAt id f (b .address)) (judged s d i p) (block-refused id f (b .address))
       (λ x e. as-is (ap (judged s d i p) (block-there id f (b .address) x e))
-      (tested (ltb dataLimit (p + b .size)) 14 0 _ (tests-less dataLimit (p + b .size))
-      (last-tested (not (declared s d i p (b .size))) 13 0 b (tests-untrue s d i p (b .size)))))
+      (last-tested (not (declared s d i p (b .size))) 13 0 b (tests-untrue s d i p (b .size))))
 
   pub fragment-there : (b : Block) → fragmentOf id f s d i p ≡ answer b → b ≡ fragmentThere f s d i
   unfolding fragmentOf
   fragment-there b h =
       let a = u64At s (d .linksAt + i * 8) in
       let g = followed (blockAt id f a) (judged s d i p) b h in
-      let m = passed (ltb dataLimit (p + g .0 .size)) _ _ _ b (g .2) in
-      let t = passed (not (declared s d i p (g .0 .size))) _ _ _ b (m .1) in
+      let t = passed (not (declared s d i p (g .0 .size))) _ _ _ b (g .2) in
       sym (answered (t .1)) ∙ block-there id f a (g .0) (g .1)
 
 -- ---- a list

@@ -2,8 +2,7 @@
 use mathlib.Core.Path.{_≡_, refl, sym, ap, subst, _∙_}
 use mathlib.Core.List.{List}
 use mathlib.Core.Bool.{true≢false}
-use Prim.Native.Nat.{ℕ, zero, suc, _<_}
-use native.Mathlib.Omega.{arith}
+use Prim.Native.Nat.{ℕ}
 use contract.Lifetimes.{Lfts}
 use Rattle.definitions.specs.Reply.{Reply, answer, refusal}
 use Rattle.definitions.specs.Channel.{Channel, Group}
@@ -20,7 +19,7 @@ use Rattle.replies.proofs.ToldToC.{Reversible, of-kind-told, payloadAgain, payl
 use Rattle.theorems.specs.ClausesToC.{ReadsPayloadC}
 use Rattle.theorems.specs.Exactly.{ExactlyZero, PayloadFetchable}
 use Rattle.theorems.specs.PayloadEnds.{PayloadEnds}
-use Rattle.theorems.proofs.Calls.RefusalNumbers.{Numbered, OfPayloads}
+use Rattle.theorems.proofs.Calls.RefusalNumbers.{Numbered, OfPayloads, not-zero}
 use Rattle.theorems.proofs.Calls.ToldToC.{value-tellable}
 use Rattle.theorems.proofs.Calls.AnswersToC.{zero-exactly}
 use Rattle.theorems.proofs.Payloads.PayloadEnds.{payload-ends, fetched-payload-numbered, payload-answered}
@@ -31,14 +30,10 @@ use Rattle.theorems.proofs.Payloads.PayloadAnswers.{payload-exactly}
 abbrev pub Told : PayloadValue → Type 0
 Told v = Reversible (v .value)
 
-none-is-zero : (n t : ℕ) → OfPayloads n t → 0 < n
-none-is-zero zero t h = absurd (true≢false (sym h))
-none-is-zero (suc n) t h = omega arith
-
 module _ (f : List ℕ) (start k size : ℕ) (g : Group) (c : Channel) (out room : List ℕ) where
   by-reply : (r : Reply PayloadValue) → Numbered OfPayloads r → ((v : PayloadValue) → r ≡ answer v → Told v) → Tellable Told r
   by-reply (answer v) h g = g v refl
-  by-reply (refusal n t) h g = none-is-zero n t (h n t refl)
+  by-reply (refusal n t) h g = not-zero OfPayloads (λ t h. true≢false (sym h)) n t (h n t refl)
 
   told-value : (v : PayloadValue) → payloadFetched f start k size g c out room .reply ≡ answer v → Told v
   told-value v e =

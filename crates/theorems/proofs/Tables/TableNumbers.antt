@@ -1,11 +1,10 @@
 -- Which numbers the refusals of a table have: 30 to 32 and those of blocks, chains and records, and of a value through it also the
 -- field's; so a reply of 0 is an answer. About the definitions, and about the clauses of the calls; and what C is told.
 use mathlib.Core.Path.{_≡_, refl, sym, ap, _∙_}
-use mathlib.Core.Logic.{_⊎_, inl, inr}
-use mathlib.Core.Bool.{true, not, _&&_}
+use mathlib.Core.Logic.{_⊎_, inl, inr, ⊎-elim}
+use mathlib.Core.Bool.{true, not, _&&_, true≢false}
 use mathlib.Core.List.{List}
-use Prim.Native.Nat.{ℕ, _+_, _*_, _<_}
-use native.Mathlib.Omega.{arith}
+use Prim.Native.Nat.{ℕ, _+_, _*_}
 use contract.Lifetimes.{Lfts}
 use lib.ListN.{length, take}
 use lib.Dec.{ltb, leb, eqb}
@@ -37,9 +36,10 @@ use Rattle.theorems.specs.Clauses.{OpensTable, ExtendsTable, ShortensTab
 use Rattle.theorems.specs.ClausesToC.{OpensTableC, ExtendsTableC, ShortensTableC, FetchesRecordC, FetchesValueC}
 use Rattle.theorems.proofs.Calls.AnswersByCalls.{of-outcome}
 use Rattle.theorems.proofs.Calls.RefusalNumbers as numbers
-use Rattle.theorems.proofs.Calls.RefusalNumbers.{Numbered, OfBlocks, OfBounded, between, weaker, of-refusal, of-following, of-lists-too, chain-numbered, block-low, of-answer, bounded-value-numbered}
+use Rattle.theorems.proofs.Calls.RefusalNumbers.{Numbered, OfBlocks, OfBounded, weaker, of-refusal, of-following, chain-numbered, block-numbered, of-answer, bounded-value-numbered}
+use Rattle.theorems.proofs.Calls.RefusalNumbersByCalls.{numbered}
 use Rattle.theorems.proofs.Calls.RefusalNumbersToC.{NumberedC, done, valid-value}
-use Rattle.theorems.proofs.Calls.ToldToC.{Judged, bounded-value-tellable, by-result}
+use Rattle.theorems.proofs.Calls.ToldToC.{Judged, by-number, bounded-value-tellable, by-result}
 
 -- of a table, or of blocks, chains and records
 abbrev pub OfTables : ℕ → ℕ → Type 0
@@ -69,7 +69,7 @@ unfolding extended
 extended-numbered f a w =
     numbers.of-outcome OfTables (ltb fileLimit (length f)) 7 0 w _ (inl refl)
     (numbers.of-outcome OfTables (not (sound f w)) 32 0 w _ (inr refl)
-    (on-answer OfTables (blockAt idDT f a) _ w (weaker _ (λ n t p. inl (of-lists-too n t p)) (block-low idDT f a))
+    (on-answer OfTables (blockAt idDT f a) _ w (weaker _ (λ n t p. inl p) (block-numbered idDT f a))
     (λ b. numbers.of-outcome OfTables (leb tableLimit (countOf w)) 30 0 w _ (inr refl) (of-answer OfTables tt))))
 
 pub shortened-numbered : (w : List ℕ) → Numbered OfTables (shortened w .reply)
@@ -95,9 +95,6 @@ module _ (f w : List ℕ) (k size : ℕ) (out : List ℕ) where
 
 -- ---- the calls
 
-numbered : {A : Type 0} {P : ℕ → ℕ → Type 0} {r q : Reply A} → r ≡ q → Numbered P q → Numbered P r
-numbered e h n t i = h n t (sym e ∙ i)
-
 module _ (κs : Lfts 2) (file : Slice) (at : FileAddress) (table : Slice) (y : TableChanged) (after : List ℕ) where
   pub table-open-numbered : OpensTable κs file at table y after → Numbered OfTables (changeReply y)
   table-open-numbered p = numbered (of-outcome p) (opened-numbered (file .now) (at .0) (table .now))
@@ -120,12 +117,7 @@ module _ (κs : Lfts 3) (file table : Slice) (number size : ℕ) where
 -- ---- for C: the numbers, and the definition's reply, which comes back from the struct
 
 of-tables : {A : Type 0} (r : Reply A) → Numbered OfTables r → Tellable Any r
-of-tables (answer a) h = tt
-of-tables (refusal n t) h = some-number (h n t refl)
-  where
-    some-number : OfTables n t → 0 < n
-    some-number (inl p) = omega (arith, between 2 17 n p .0)
-    some-number (inr p) = omega (arith, between 30 32 n p .0)
+of-tables = by-number OfTables (λ t. ⊎-elim (λ h. true≢false (sym h)) (λ h. true≢false (sym h)))
 
 module _ (κs : Lfts 2) (file : Slice) (at : ℕ) (table : Slice) (y : Mf4DoneReply) (after : List ℕ) where
   pub mf4-open-table-numbered : OpensTableC κs file at table y after → NumberedC OfTables (y .reply) (y .told)

@@ -8,7 +8,7 @@ use borrow.Author.Needs.{needs}
 use borrow.Author.Tests.{not-true, not-false, leb-true}
 use Rattle.chain.specs.Meaning.{locatedReply}
 use Rattle.places.specs.declared.place.DataPosition.{DataPosition}
-use Rattle.payloads.proofs.Found.{chain-refused, on-the-way, ahead, limited, found-no-length, found-cut, found-whole}
+use Rattle.payloads.proofs.Found.{chain-refused, on-the-way, ahead, found-no-length, found-cut, found-whole}
 use Rattle.payloads.proofs.payload.find_payload.Statement.{statement}
 use Rattle.payloads.proofs.payload.find_payload.Tie as tie
 
@@ -42,11 +42,7 @@ further-requires c κs =
     let told = else .before .before in
     let start = told .before .before .before .before .before .before in
     let a = start .args in
-    omega (
-      arith,
-      leb-true (a .position .0 + 4) (told .before .found .given .0 .0 .0) (there else),
-      limited (a .file .now) (a .start .0) (start .pre) (a .position .0) (told .before .before .before .locate-data .ensures) (told .before .found .given .1),
-    )
+    omega (arith, leb-true (a .position .0 + 4) (told .before .found .given .0 .0 .0) (there else))
 
 returns-3 : tie.Need-returns-3
 returns-3 c =

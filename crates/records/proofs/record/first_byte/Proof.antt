@@ -6,10 +6,10 @@ use Rattle.records.proofs.record.first_byte.Statement.{statement}
 use Rattle.records.proofs.record.first_byte.Tie as tie
 
 returns : tie.Need-returns
-returns c = let a = c .before .args in first-past (a .number) (a .size) (c .before .pre) _ (c .if1 .taken)
+returns c = let a = c .before .args in first-past 18446744073709551615 (a .number) (a .size) (c .before .pre) _ (c .if1 .taken)
 
 product : tie.Need-mul-t3
-product c = let a = c .before .args in omega (arith, first-fits (a .number) (a .size) (c .before .pre) (c .if1 .left))
+product c = let a = c .before .args in omega (arith, first-fits 18446744073709551615 (a .number) (a .size) (c .before .pre) (c .if1 .left))
 
 returns-2 : tie.Need-returns-2
 returns-2 c = λ l. refl

@@ -4,12 +4,14 @@ use Prim.Native.Nat.{_+_, _*_, _≤_, _<_}
 use lib.ListN.{length}
 use lib.Seq.{length-take-le}
 use lib.Dec.{ltb}
+use native.Mathlib.Omega.{arith}
 use borrow.Author.Needs.{needs}
+use borrow.Author.Tests.{ltb-false}
 use Rattle.definitions.specs.Reply.{answer}
 use Rattle.definitions.specs.Chain.{idDT, badSize, dataLength}
 use Rattle.chain.specs.Meaning.{locatedReply}
 use Rattle.chain.specs.Walk.{Walked}
-use Rattle.records.proofs.Records.{size-good, data-whole, fetch-bad, fetch-refused, fetch-behind, fetch-first, fetch-record}
+use Rattle.records.proofs.Records.{size-good, data-whole, fetch-bad, fetch-refused, fetch-behind, fetch-record}
 use Rattle.records.proofs.record.read_record.Statement.{statement}
 use Rattle.records.proofs.record.read_record.Tie as tie
 
@@ -83,7 +85,8 @@ returns-4 c =
     let told = two .before .before in
     let a = told .before .before .before .before .before .before .before .before .before .before .args in
     let sized = good (told .before .before .before .before .before .before) in
-    let first = told .before .before .before .before .before .first-byte .ensures (fetch-first (a .file .now) (a .start .0) (a .number) (a .record-size) (a .buffer .now) sized _ (total told) (inside two)) in
+    let fits : a .number * a .record-size ≤ 18446744073709551615 = omega (arith, ltb-false (told .before .found .given .0 .0 .0) (a .number * a .record-size + a .record-size) (inside two)) in
+    let first = told .before .before .before .before .before .first-byte .ensures fits in
     fetch-record _ _ _ _ _ sized _ (total told) _ _ (inside two) first (call .window .ensures (walked told) .0)
 
 pub read-record-spec : {M : Type 1} → statement M

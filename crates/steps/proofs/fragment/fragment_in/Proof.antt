@@ -8,7 +8,7 @@ use Rattle.definitions.specs.DataList.{DataList}
 use Rattle.definitions.specs.Chain.{blockAt}
 use Rattle.places.specs.Meaning.{blockMeant, blockReply}
 use Rattle.places.specs.Places.{Opens}
-use Rattle.steps.proofs.Fragments.{link-is, fragment-refused, fragment-long, fragment-untrue, fragment-taken}
+use Rattle.steps.proofs.Fragments.{link-is, fragment-refused, fragment-untrue, fragment-taken}
 use Rattle.steps.proofs.fragment.fragment_in.Statement.{statement}
 use Rattle.steps.proofs.fragment.fragment_in.Tie as tie
 
@@ -35,22 +35,15 @@ block c = sym (c .before .before .before .data-block-at .ensures) ∙ ap blockRe
 
 returns-2 : tie.Need-returns-2
 returns-2 c d k =
-    let told = c .before .before .before in
-    fragment-long _ _ _ _ _ _ _ (linked (told .before .before .before .before) d k) _ (block told) (sym (c .before .passes-limit .ensures) ∙ c .if1 .taken)
+    let told = c .before .before in
+    fragment-untrue _ _ _ _ _ _ _ (linked (told .before .before .before .before) d k) _ (block told)
+    (sym (c .before .truly-declared .ensures d k) ∙ not-true _ (c .if1 .taken))
 
 returns-3 : tie.Need-returns-3
 returns-3 c d k =
-    let one = c .before .before in
-    let told = one .before .before .before in
-    fragment-untrue _ _ _ _ _ _ _ (linked (told .before .before .before .before) d k) _ (block told) (sym (one .before .passes-limit .ensures) ∙ one .if1 .left)
-    (sym (c .before .truly-declared .ensures d k) ∙ not-true _ (c .if2 .taken))
-
-returns-4 : tie.Need-returns-4
-returns-4 c d k =
-    let one = c .before .before in
-    let told = one .before .before .before in
-    fragment-taken _ _ _ _ _ _ _ (linked (told .before .before .before .before) d k) _ (block told) (sym (one .before .passes-limit .ensures) ∙ one .if1 .left)
-    (sym (c .before .truly-declared .ensures d k) ∙ not-false _ (c .if2 .left))
+    let told = c .before .before in
+    fragment-taken _ _ _ _ _ _ _ (linked (told .before .before .before .before) d k) _ (block told)
+    (sym (c .before .truly-declared .ensures d k) ∙ not-false _ (c .if1 .left))
 
 pub fragment-in-spec : {M : Type 1} → statement M
 fragment-in-spec =
@@ -64,6 +57,4 @@ fragment-in-spec =
     returns
     (λ c κs. search needs)
     returns-2
-    (λ c κs. search needs)
-    returns-3
-    returns-4)
+    returns-3)
