@@ -584,7 +584,7 @@ typedef struct mf4_length_reply {
 } mf4_length_reply;
 
 /* The length of the joined data: length / record_size records; length % record_size trailing bytes are ignored. It is below 2^52,
- * since a chain has at most 4096 data blocks and a file 2^40 bytes, and a block that is linked twice counts twice.
+ * and may be more than the file's length, since a block that is linked twice counts twice.
  *
  * Refuses with MF4_FILE_TOO_LONG (7); then, list by list, with MF4_TOO_MANY_LISTS (8), MF4_NO_BLOCK_THERE (11),
  * MF4_TOO_FEW_BYTES (2), MF4_OTHER_ID (3), MF4_NO_LINKS (4), MF4_TOO_FEW_BYTES (2), MF4_LIST_DISAGREES (10),

@@ -5,6 +5,7 @@
 
 #include <stdio.h>
 #include <sys/mman.h>
+#include <unistd.h>
 
 /* The address space is reserved and hardly touched: what is read there, and not written before, is zeros. */
 static uint8_t *reserve(size_t length)
@@ -91,10 +92,18 @@ static void check_long_table(const uint8_t *file, long_table a)
     CHECK(is_unchanged(table));
 }
 
-/* One block that fills the longest file, listed as often as a chain may list it: the most data that a chain can join. */
+/* One block that fills the longest file, listed as often as a chain may list it: the most data that a chain can join. The
+ * block's last byte is 5A, and all others are 0. */
 enum { LIST_AT = 8, BLOCK_AT = 1 << 17, WRITTEN = BLOCK_AT + MF4_HEADER_SIZE };
 
 static const uint64_t block_size = LONGEST - WRITTEN;
+
+static int can_be_written(uint8_t *file)
+{
+    const size_t page = (size_t)sysconf(_SC_PAGESIZE);
+    return mprotect(file, WRITTEN, PROT_READ | PROT_WRITE) == 0
+        && mprotect(file + LONGEST - page, page, PROT_READ | PROT_WRITE) == 0;
+}
 
 static void put_most_data(uint8_t *file, int is_equal)
 {
@@ -108,33 +117,33 @@ static void put_most_data(uint8_t *file, int is_equal)
     else
         mf4_write_list_variable(0, links, COUNT(links), offsets, COUNT(offsets), file + LIST_AT, BLOCK_AT - LIST_AT);
     mf4_write_header(header, file + BLOCK_AT, MF4_HEADER_SIZE);
+    file[LONGEST - 1] = 0x5A;
 }
 
-static mf4_done_reply fetch_long(const uint8_t *file, uint64_t number, uint64_t size, lent buffer)
+static int long_record_is(const uint8_t *file, uint64_t number, uint64_t size, uint32_t reply, const char *record)
 {
-    return mf4_read_record(file, LONGEST, LIST_AT, number, size, buffer.bytes, buffer.length);
+    lent buffer = lend_marked(OUTPUT, 16);
+    const mf4_done_reply done = mf4_read_record(file, LONGEST, LIST_AT, number, size, buffer.bytes, buffer.length);
+    return done_is(done, reply, 0) && holds_only_hex(buffer, record);
 }
 
-/* Its length, its last records of 1 byte and of three, and none behind these, even where the product of number and size wraps. */
-static void check_most_data(uint8_t *file)
+/* Its length; records that end with the data, or lie over two fragments; and none behind, also where number x size wraps. */
+static void check_most_data(const uint8_t *file)
 {
     const uint64_t most = MF4_MAX_FRAGMENTS * block_size;
-    lent buffer = lend_marked(OUTPUT, 4);
     CHECK(most < UINT64_C(1) << 52 && most > (UINT64_C(1) << 52) - (UINT64_C(1) << 30));
     CHECK(length_is(mf4_data_length(file, LONGEST, LIST_AT), 0, 0, most));
-    CHECK(done_is(fetch_long(file, most, 1, buffer), 16, 0) && done_is(fetch_long(file, most / 3, 3, buffer), 16, 0));
-    CHECK(done_is(fetch_long(file, UINT64_C(1) << 63, 2, buffer), 16, 0) && done_is(fetch_long(file, MOST, 4, buffer), 16, 0));
-    CHECK(is_unchanged(buffer));
-    CHECK(done_is(fetch_long(file, most - 1, 1, buffer), 0, 0) && holds_only_hex(buffer, "00"));
-    buffer = lend_marked(OUTPUT, 4);
-    CHECK(done_is(fetch_long(file, most / 3 - 1, 3, buffer), 0, 0) && holds_only_hex(buffer, "00 00 00"));
+    CHECK(long_record_is(file, most - 1, 1, 0, "5A") && long_record_is(file, most, 1, 16, ""));
+    CHECK(long_record_is(file, most / 4 - 1, 4, 0, "00 00 00 5A") && long_record_is(file, most / 4, 4, 16, ""));
+    CHECK(long_record_is(file, block_size / 16, 16, 0, "00 00 00 00 00 00 00 5A 00 00 00 00 00 00 00 00"));
+    CHECK(long_record_is(file, UINT64_C(1) << 60, 16, 16, "") && long_record_is(file, MOST, 16, 16, ""));
 }
 
-static void check_long_chains_of(uint8_t *file)
+static void check_longest_chain(uint8_t *file)
 {
     int is_equal;
-    if (mprotect(file, WRITTEN, PROT_READ | PROT_WRITE) != 0) {
-        puts("limits: note: the front of 2^40 bytes cannot be written here, the most data of a chain is not checked");
+    if (!can_be_written(file)) {
+        puts("limits: note: 2^40 bytes cannot be written here, the most data of a chain is not checked");
         return;
     }
     for (is_equal = 0; is_equal <= 1; is_equal++) {
@@ -161,6 +170,6 @@ void check_long_files(void)
         name_row("tables of a file of 2^40 bytes", i);
         check_long_table(file, long_tables[i]);
     }
-    check_long_chains_of(file);
+    check_longest_chain(file);
     munmap(file, LONGEST + 1);
 }

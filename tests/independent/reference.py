@@ -248,7 +248,7 @@ class Table(NamedTuple):
 
 # ---- the version -------------------------------------------------------------------------------------------------------
 
-MAJOR, MINOR, PATCH = 0, 5, 1
+MAJOR, MINOR, PATCH = 0, 6, 0
 
 
 def version():

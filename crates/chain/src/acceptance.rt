@@ -66,8 +66,8 @@ fn locate(file: &[u8], start: FileAddress, id: &[u8; 4], wanted: DataPosition) -
     }
 }
 
-// The same in any file. The one caller of that loop: so it is inlined, and the compiler knows there that no block is too long.
-// The loop is a function of its own all the same: written here it took 55 instructions a fragment, and so it takes 42.
+// The same in any file. The one caller of that loop, so that it is inlined. The loop is a function of its own all the same:
+// written here it took 13 instructions more a fragment.
 pub fn locate_data(file: &[u8], start: FileAddress, id: &[u8; 4], wanted: DataPosition) -> Located
     ensures { λ r. ⌜ Locates (now (id .entry)) (now (file .entry)) (start .0) (wanted .0) (lengthBy (now (id .entry)) (now (file .entry)) (start .0)) r ⌝ }
 {
