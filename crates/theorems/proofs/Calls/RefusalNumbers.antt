@@ -26,8 +26,11 @@ abbrev pub Numbered : {A : Type 0} → (ℕ → ℕ → Type 0) → Reply A → 
 Numbered P r = (n t : ℕ) → r ≡ refusal n t → P n t
 
 -- of blocks, buffers, chains and records; 14 is not used any more
+abbrev isOfBlocks : ℕ → Bool
+isOfBlocks n = leb 2 n && leb n 17 && not (eqb n 14)
+
 abbrev pub OfBlocks : ℕ → ℕ → Type 0
-OfBlocks n t = leb 2 n && leb n 17 && not (eqb n 14) ≡ true
+OfBlocks n t = isOfBlocks n ≡ true
 
 abbrev pub OfFields : ℕ → ℕ → Type 0
 OfFields n t = leb 18 n && leb n 22 ≡ true
@@ -257,7 +260,7 @@ value-fetched-numbered f start k size out g c =
 -- ---- a payload
 
 abbrev pub OfPayloads : ℕ → ℕ → Type 0
-OfPayloads n t = leb 2 n && leb n 17 && not (eqb n 14) || eqb n 21 || eqb n 23 || eqb n 35 ≡ true
+OfPayloads n t = isOfBlocks n || eqb n 21 || eqb n 23 || eqb n 35 ≡ true
 
 pub of-blocks-too : (n t : ℕ) → OfBlocks n t → OfPayloads n t
 of-blocks-too n t h = rw h
