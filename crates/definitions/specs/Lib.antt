@@ -14,3 +14,4 @@ pub mod Chain
 pub mod Accepted
 pub mod Payload
 pub mod Table
+pub mod Report

@@ -15,6 +15,7 @@ use Rattle.definitions.specs.Channel.{valueOf, validOf, validValueOf, boundedVa
 use Rattle.definitions.specs.WrittenValue.{valueWritten}
 use Rattle.definitions.specs.Chain.{dataLength, fetched, valueFetched}
 use Rattle.definitions.specs.Table.{opened, extended, shortened, tableFetched, tableValueFetched}
+use Rattle.definitions.specs.Report.{reported}
 use Rattle.definitions.specs.Payload.{payloadFetched}
 use Rattle.definitions.specs.Overlap.{overlapOf}
 use Rattle.mf4.specs.Clauses.{Slice, Allows}
@@ -24,6 +25,7 @@ use Rattle.replies.specs.Replies.{flagC, textC, doneC}
 use Rattle.block_replies.specs.Replies.{writtenC, headerC, headerGiven, listC, returned, returnedBy, returnedBoth, returnedBothBy}
 use Rattle.block_replies.specs.Channels.{channelGiven, channelC, blockGiven}
 use Rattle.replies.specs.Values.{groupGiven, valueC, validValueC, validityC, lengthC, payloadC}
+use Rattle.replies.specs.Reports.{reportC}
 use Rattle.replies.specs.Stored.{numberGiven}
 use Rattle.replies.specs.Overlaps.{overlapC}
 use Rattle.block_replies.specs.declared.written.Mf4WrittenReply.{Mf4WrittenReply}
@@ -40,6 +42,7 @@ use Rattle.replies.specs.declared.valid_values.Mf4ValidValueReply.{Mf4ValidValu
 use Rattle.replies.specs.declared.validity.Mf4ValidityReply.{Mf4ValidityReply}
 use Rattle.replies.specs.declared.fetches.Mf4LengthReply.{Mf4LengthReply}
 use Rattle.replies.specs.declared.done.Mf4DoneReply.{Mf4DoneReply}
+use Rattle.replies.specs.declared.reports.Mf4ReportReply.{Mf4ReportReply}
 use Rattle.replies.specs.declared.payload.Mf4PayloadReply.{Mf4PayloadReply}
 use Rattle.replies.specs.declared.stored.Mf4Number.{Mf4Number}
 use Rattle.replies.specs.declared.overlap.Mf4OverlapReply.{Mf4OverlapReply}
@@ -101,6 +104,8 @@ use Rattle.mf4.proofs.mf4_table_record.Kinds as mf4-table-record-kinds
 use Rattle.mf4.proofs.mf4_table_record.Reads as mf4-table-record
 use Rattle.mf4.proofs.mf4_table_value.Kinds as mf4-table-value-kinds
 use Rattle.mf4.proofs.mf4_table_value.Reads as mf4-table-value
+use Rattle.mf4.proofs.mf4_report.Kinds as mf4-report-kinds
+use Rattle.mf4.proofs.mf4_report.Reads as mf4-report
 use Rattle.mf4.proofs.mf4_version.Kinds as mf4-version-kinds
 use Rattle.mf4.proofs.mf4_version.Reads as mf4-version
 use Rattle.mf4.proofs.mf4_first_overlap as mf4-first-overlap
@@ -249,6 +254,11 @@ pub mf4-table-value-arguments : (κs : Lfts 3) (file table : Slice) (number reco
     → Allows 3 mf4-table-value-kinds.ps mf4-table-value-kinds.r mf4-table-value.Learnt κs (file, (table, (number, (recordSize, (group, (channel, (buffer, tt))))))) y (tt, (tt, (tt, (tt, (tt, (tt, (after, tt)))))))
     ≡ (returned y after ≡ returnedBy validValueC (tableValueFetched (file .now) (table .now) number recordSize (groupGiven group) (channelGiven channel) (buffer .now)))
 mf4-table-value-arguments κs file table number recordSize group channel buffer y after = refl
+
+pub mf4-report-arguments : (κs : Lfts 2) (file : Slice) (start recordSize : ℕ) (group : Mf4Group) (channel : Mf4Channel) (buffer : Slice) (y : Mf4ReportReply) (after : List ℕ)
+    → Allows 2 mf4-report-kinds.ps mf4-report-kinds.r mf4-report.Learnt κs (file, (start, (recordSize, (group, (channel, (buffer, tt)))))) y (tt, (tt, (tt, (tt, (tt, (after, tt))))))
+    ≡ (returned y after ≡ returnedBy reportC (reported (file .now) start recordSize (groupGiven group) (channelGiven channel) (buffer .now)))
+mf4-report-arguments κs file start recordSize group channel buffer y after = refl
 
 -- proved by hand
 abbrev pub mf4-first-overlap-clauses : ClausesIn mf4-first-overlap.ended

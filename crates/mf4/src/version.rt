@@ -6,7 +6,7 @@ const MAJOR: u32 = 0;
 
 const MINOR: u32 = 6;
 
-const PATCH: u32 = 0;
+const PATCH: u32 = 1;
 
 #[no_mangle]
 pub extern "C" fn mf4_version() -> u32

@@ -6,16 +6,16 @@ use native.Mathlib.Omega.{arith}
 use lib.ListN.{getD}
 use Rattle.refusals.specs.Meaning.{refusalNumber, toldOf}
 use Rattle.refusals.specs.declared.Refusal.{Refusal}
-use Rattle.refusals.specs.declared.Refusal.the-variants.{TooFewBytes, OtherId, NoLinks, UnwritableList, NoRoom, FileTooLong, TooManyLists, TooManyFragments, ListDisagrees, NoBlockThere, BadDataBlock, UntrueDeclaration, BadRecordSize, NoSuchRecord, TooFewLinks, NoBits, BadBitOffset, IntegerTooWide, FieldOutside, BadFloatWidth, PayloadOutside, DoesNotFit, OtherKind, TooManyChannels, NoFixedNumber, OtherLength, BitOutside, TableFull, TableEmpty, BadTable, NoPosition}
+use Rattle.refusals.specs.declared.Refusal.the-variants.{TooFewBytes, OtherId, NoLinks, UnwritableList, NoRoom, FileTooLong, TooManyLists, TooManyFragments, ListDisagrees, NoBlockThere, BadDataBlock, UntrueDeclaration, BadRecordSize, NoSuchRecord, TooFewLinks, NoBits, BadBitOffset, IntegerTooWide, FieldOutside, BadFloatWidth, PayloadOutside, DoesNotFit, OtherKind, TooManyChannels, NoFixedNumber, OtherLength, BitOutside, TableFull, TableEmpty, BadTable, NoNumberChannel, NoPosition}
 
--- the refusals by their numbers, where they tell t; no refusal has 0, 1 or 14, nor 33 or 34
+-- the refusals by their numbers, where they tell t; no refusal has 0, 1, 14 or 34
 abbrev pub numbered : ℕ → List Refusal
 numbered t =
     OtherId ∷ OtherId ∷ TooFewBytes t ∷ OtherId ∷ NoLinks ∷ UnwritableList ∷ NoRoom t ∷ FileTooLong ∷ TooManyLists
     ∷ TooManyFragments ∷ ListDisagrees ∷ NoBlockThere ∷ BadDataBlock ∷ UntrueDeclaration ∷ OtherId ∷ BadRecordSize
     ∷ NoSuchRecord ∷ TooFewLinks ∷ NoBits ∷ BadBitOffset ∷ IntegerTooWide ∷ FieldOutside t ∷ BadFloatWidth ∷ PayloadOutside
     ∷ DoesNotFit ∷ OtherKind ∷ TooManyChannels ∷ NoFixedNumber t ∷ OtherLength ∷ BitOutside
-    ∷ TableFull ∷ TableEmpty ∷ BadTable ∷ OtherId ∷ OtherId ∷ NoPosition ∷ []
+    ∷ TableFull ∷ TableEmpty ∷ BadTable ∷ NoNumberChannel ∷ OtherId ∷ NoPosition ∷ []
 
 abbrev pub refusalOf : ℕ → ℕ → Refusal
 refusalOf n t = getD (numbered t) n OtherId
@@ -51,6 +51,7 @@ back BitOutside = refl
 back TableFull = refl
 back TableEmpty = refl
 back BadTable = refl
+back NoNumberChannel = refl
 back NoPosition = refl
 
 pub one : (a b : Refusal) → refusalNumber a ≡ refusalNumber b → toldOf a ≡ toldOf b → a ≡ b

@@ -2,7 +2,7 @@
 use Prim.Native.Nat.{ℕ}
 use Rattle.definitions.specs.Reply.{Reply, refusal}
 use Rattle.refusals.specs.declared.Refusal.{Refusal}
-use Rattle.refusals.specs.declared.Refusal.the-variants.{TooFewBytes, OtherId, NoLinks, UnwritableList, NoRoom, FileTooLong, TooManyLists, TooManyFragments, ListDisagrees, NoBlockThere, BadDataBlock, UntrueDeclaration, BadRecordSize, NoSuchRecord, TooFewLinks, NoBits, BadBitOffset, IntegerTooWide, FieldOutside, BadFloatWidth, PayloadOutside, DoesNotFit, OtherKind, TooManyChannels, NoFixedNumber, OtherLength, BitOutside, TableFull, TableEmpty, BadTable, NoPosition}
+use Rattle.refusals.specs.declared.Refusal.the-variants.{TooFewBytes, OtherId, NoLinks, UnwritableList, NoRoom, FileTooLong, TooManyLists, TooManyFragments, ListDisagrees, NoBlockThere, BadDataBlock, UntrueDeclaration, BadRecordSize, NoSuchRecord, TooFewLinks, NoBits, BadBitOffset, IntegerTooWide, FieldOutside, BadFloatWidth, PayloadOutside, DoesNotFit, OtherKind, TooManyChannels, NoFixedNumber, OtherLength, BitOutside, TableFull, TableEmpty, BadTable, NoNumberChannel, NoPosition}
 
 abbrev pub refusalNumber : Refusal → ℕ
 refusalNumber (TooFewBytes n) = 2
@@ -35,6 +35,7 @@ refusalNumber BitOutside = 29
 refusalNumber TableFull = 30
 refusalNumber TableEmpty = 31
 refusalNumber BadTable = 32
+refusalNumber NoNumberChannel = 33
 refusalNumber NoPosition = 35
 
 abbrev pub toldOf : Refusal → ℕ
@@ -68,6 +69,7 @@ toldOf BitOutside = 0
 toldOf TableFull = 0
 toldOf TableEmpty = 0
 toldOf BadTable = 0
+toldOf NoNumberChannel = 0
 toldOf NoPosition = 0
 
 abbrev pub refused : {A : Type 0} → Refusal → Reply A

@@ -63,6 +63,8 @@ pub enum Refusal {
     TableEmpty,
     // 32
     BadTable,
+    // 33
+    NoNumberChannel,
     // 35
     NoPosition,
 }
@@ -102,6 +104,7 @@ impl Refusal {
             Refusal::TableFull => 30,
             Refusal::TableEmpty => 31,
             Refusal::BadTable => 32,
+            Refusal::NoNumberChannel => 33,
             Refusal::NoPosition => 35,
         }
     }
@@ -141,6 +144,7 @@ impl Refusal {
             Refusal::TableFull => 0,
             Refusal::TableEmpty => 0,
             Refusal::BadTable => 0,
+            Refusal::NoNumberChannel => 0,
             Refusal::NoPosition => 0,
         }
     }

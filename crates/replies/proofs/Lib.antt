@@ -1,3 +1,4 @@
+pub mod Lines
 pub mod Structs
 pub mod InOrder
 pub mod Examples

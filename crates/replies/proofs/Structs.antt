@@ -10,6 +10,8 @@ use Rattle.replies.specs.declared.done.Mf4DoneReply.{Mf4DoneReply}
 use Rattle.replies.specs.declared.payload.Mf4PayloadReply.{Mf4PayloadReply}
 use Rattle.replies.specs.declared.stored.Mf4Number.{Mf4Number}
 use Rattle.replies.specs.declared.overlap.Mf4OverlapReply.{Mf4OverlapReply}
+use Rattle.replies.specs.declared.reports.Mf4Point.{Mf4Point}
+use Rattle.replies.specs.declared.reports.Mf4ReportReply.{Mf4ReportReply}
 use Rattle.replies.proofs.texts.Mf4TextReply as mf4-text-reply
 use Rattle.replies.proofs.group.Mf4Group as mf4-group
 use Rattle.replies.proofs.values.Mf4ValueReply as mf4-value-reply
@@ -20,6 +22,8 @@ use Rattle.replies.proofs.done.Mf4DoneReply as mf4-done-reply
 use Rattle.replies.proofs.payload.Mf4PayloadReply as mf4-payload-reply
 use Rattle.replies.proofs.stored.Mf4Number as mf4-number
 use Rattle.replies.proofs.overlap.Mf4OverlapReply as mf4-overlap-reply
+use Rattle.replies.proofs.reports.Mf4Point as mf4-point
+use Rattle.replies.proofs.reports.Mf4ReportReply as mf4-report-reply
 
 pub mf4-text-reply-fields : (s : Mf4TextReply) → mf4-text-reply.struct .as-values s ≡ (s .reply, (s .told, (s .count, (s .damaged, tt))))
 mf4-text-reply-fields s = refl
@@ -50,3 +54,9 @@ mf4-number-fields s = refl
 
 pub mf4-overlap-reply-fields : (s : Mf4OverlapReply) → mf4-overlap-reply.struct .as-values s ≡ (s .reply, (s .told, (s .found, (s .first, (s .second, tt)))))
 mf4-overlap-reply-fields s = refl
+
+pub mf4-point-fields : (s : Mf4Point) → mf4-point.struct .as-values s ≡ (s .number, (s .value, tt))
+mf4-point-fields s = refl
+
+pub mf4-report-reply-fields : (s : Mf4ReportReply) → mf4-report-reply.struct .as-values s ≡ (s .reply, (s .told, (s .records, (s .valid, (s .invalid, (s .«without_value», (s .nan, (s .«has_doubles», (s .first, (s .last, (s .smallest, (s .largest, (s .«sum_high», (s .«sum_low», tt))))))))))))))
+mf4-report-reply-fields s = refl

@@ -14,10 +14,12 @@ use Rattle.definitions.specs.Bytes.{twosComplement}
 use Rattle.definitions.specs.Unicode.{TextWritten}
 use Rattle.definitions.specs.Payload.{PayloadValue}
 use Rattle.definitions.specs.Overlap.{Overlap, pair, none}
+use Rattle.definitions.specs.Report.{Point, Report}
 use Rattle.definitions.specs.Channel.{Value, ValidValue, unsigned, signed, double, text, bytes, sample, stream, unknownValue, doubleValue}
 use Rattle.replies.specs.Replies.{flagC, textC, doneC}
 use Rattle.replies.specs.Values.{wordOf, decodedC, valueC, validValueC, validityC, lengthC, payloadC}
 use Rattle.replies.specs.Overlaps.{overlapC}
+use Rattle.replies.specs.Reports.{reportC}
 use Rattle.replies.specs.declared.texts.Mf4TextReply.{Mf4TextReply}
 use Rattle.replies.specs.declared.values.Mf4ValueReply.{Mf4ValueReply}
 use Rattle.replies.specs.declared.valid_values.Mf4ValidValueReply.{Mf4ValidValueReply}
@@ -26,6 +28,9 @@ use Rattle.replies.specs.declared.payload.Mf4PayloadReply.{Mf4PayloadRep
 use Rattle.replies.specs.declared.fetches.Mf4LengthReply.{Mf4LengthReply}
 use Rattle.replies.specs.declared.done.Mf4DoneReply.{Mf4DoneReply}
 use Rattle.replies.specs.declared.overlap.Mf4OverlapReply.{Mf4OverlapReply}
+use Rattle.replies.specs.declared.reports.Mf4Point.{Mf4Point}
+use Rattle.replies.specs.declared.reports.Mf4ReportReply.{Mf4ReportReply}
+use Rattle.replies.proofs.Lines.{ofWords, sum-back}
 use Rattle.block_replies.proofs.ToldToC.{Tellable, Any, again, again-refused, told-by}
 
 -- ---- lengths, and calls that answer nothing else
@@ -174,3 +179,47 @@ overlap-back none h = refl
 
 pub overlap-told : (r : Reply Overlap) → Tellable Any r → overlapAgain (overlapC r) ≡ r
 overlap-told = told-by Any overlapC overlapAgain overlap-back (again-refused _)
+
+-- ---- reports
+
+abbrev pointAgain : Mf4Point → Point
+pointAgain p = record { number = p .number; value = p .value }
+
+abbrev pub reportAgain : Mf4ReportReply → Reply Report
+reportAgain s =
+    again (s .reply) (s .told)
+    (answer (record {
+      records = s .records;
+      valid = s .valid;
+      invalid = s .invalid;
+      withoutValue = s .«without_value»;
+      nan = s .nan;
+      doubles = record {
+        any = eqb (s .«has_doubles») 1;
+        first = pointAgain (s .first);
+        last = pointAgain (s .last);
+        smallest = pointAgain (s .smallest);
+        largest = pointAgain (s .largest);
+      };
+      sum = ofWords (s .«sum_high») (s .«sum_low»);
+    }))
+
+report-back : (a : Report) → Any a → reportAgain (reportC (answer a)) ≡ answer a
+report-back a h = λ i. answer (record {
+  records = a .records;
+  valid = a .valid;
+  invalid = a .invalid;
+  withoutValue = a .withoutValue;
+  nan = a .nan;
+  doubles = record {
+    any = flag-back (a .doubles .any) i;
+    first = a .doubles .first;
+    last = a .doubles .last;
+    smallest = a .doubles .smallest;
+    largest = a .doubles .largest;
+  };
+  sum = sum-back (a .sum) i;
+})
+
+pub report-told : (r : Reply Report) → Tellable Any r → reportAgain (reportC r) ≡ r
+report-told = told-by Any reportC reportAgain report-back (again-refused _)

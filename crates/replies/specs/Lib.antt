@@ -2,3 +2,4 @@ pub mod Replies
 pub mod Values
 pub mod Stored
 pub mod Overlaps
+pub mod Reports

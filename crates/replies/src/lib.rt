@@ -1,9 +1,10 @@
-// What C is told of values, texts, records, tables and overlaps, and what it gives of them: as `block_replies` has it of blocks.
+// What C is told of values, texts, records, tables, overlaps and reports, and what it gives of them: as `block_replies` has it of blocks.
 mod done;
 mod fetches;
 mod group;
 mod overlap;
 mod payload;
+mod reports;
 mod stored;
 mod tables;
 mod texts;
@@ -21,6 +22,9 @@ pub use overlap::Mf4OverlapReply;
 pub use overlap::overlap_reply;
 pub use payload::Mf4PayloadReply;
 pub use payload::payload_reply;
+pub use reports::Mf4Point;
+pub use reports::Mf4ReportReply;
+pub use reports::report_reply;
 pub use stored::Mf4Number;
 pub use stored::number_of;
 pub use stored::stored_reply;

@@ -1,0 +1,5 @@
+pub mod Seen
+pub mod Visiting
+pub mod Walking
+pub mod Lines
+pub mod Reporting

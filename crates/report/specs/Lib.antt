@@ -1,0 +1,2 @@
+pub mod Visits
+pub mod Meaning

@@ -1,0 +1,7 @@
+-- The laws over plain variables. Places and Small are for the crates above.
+pub mod Signs
+pub mod Numbers
+pub mod Flags
+pub mod OneSize
+pub mod Places
+pub mod Small

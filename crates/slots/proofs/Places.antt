@@ -1,0 +1,33 @@
+-- The word of the eight bytes at a slot's place is that of the record.
+use mathlib.Core.Path.{_≡_, ap, _∙_}
+use mathlib.Core.List.{List}
+use Prim.Native.Nat.{ℕ, _/_, _%_}
+use native.Mathlib.Omega.{arith}
+use lib.ListN.{length}
+use Rattle.definitions.specs.Bytes.{Order, numberOf, le, u64At, bits, fieldAt}
+use Rattle.words.proofs.Numbers.{Bytes}
+use Rattle.fields.specs.Form.{orderMeant}
+use Rattle.decoder.specs.Known.{Held, InWord}
+use Rattle.decoder.proofs.WordFields.{held-by}
+use Rattle.slots.specs.Slots.{wordOf, slotWord, Within, PlaceTold}
+use Rattle.slots.specs.declared.slot.Slot.{Slot}
+use Rattle.slots.specs.declared.word.PlaceFound.the-variants.{Place}
+
+-- what is read in a word that holds a field is the field
+held-field : (o : Order) (s : List ℕ) (at offset count : ℕ) {word from : ℕ} → Held s at offset count word from
+    → fieldAt o (le 8 word) (from / 8) (from % 8) count ≡ fieldAt o s at offset count
+held-field o s at offset count {word} {from} h =
+    ap (λ (k : ℕ). fieldAt o (le 8 word) (from / 8) k count) (h .low) ∙ ap (λ (bs : List ℕ). bits (numberOf o bs) offset count) (h .bytes)
+
+module _ {size : ℕ} {w : Slot} (p from : ℕ) (h : Within size w) (told : PlaceTold size w (Place p from)) where
+  -- what `near_word` asks
+  pub place-word : InWord (w .number) from (w .count)
+  place-word = record { some = h .some; ends = told .2; width = h .width }
+
+  -- and what it gives
+  pub place-is-slot : (s : List ℕ) {word : ℕ} → Bytes s → length s ≡ size → word ≡ u64At s p
+      → wordOf (w .number) (w .count) (fieldAt (orderMeant (w .«big_endian»)) (le 8 word) (from / 8) (from % 8) (w .count)) ≡ slotWord w s
+  place-is-slot s bytes el ew =
+      ap (wordOf (w .number) (w .count))
+      (held-field (orderMeant (w .«big_endian»)) s (w .at) (w .offset) (w .count)
+      (held-by s (w .at) (w .offset) (w .count) p 8 from ew bytes (omega arith) (omega arith) (told .1) (h .low) (h .some) (omega arith)))

@@ -1,0 +1,10 @@
+-- Laws over plain numbers. For crates above: Tallying.
+pub mod Ordered
+pub mod Patterns
+pub mod Sums
+pub mod Kept
+pub mod Foremost
+pub mod Outermosts
+pub mod Counts
+pub mod Tallying
+pub mod Reports

@@ -1,0 +1,14 @@
+use borrow.Author.Needs.{needs}
+use Rattle.tally.proofs.Patterns.{not-below}
+use Rattle.tally.proofs.order.is_below.Statement.{statement}
+use Rattle.tally.proofs.order.is_below.Tie as tie
+
+returns : tie.Need-returns
+returns c =
+    let s = c .before .before in
+    not-below (s .args .number) (s .args .a) (s .args .b) (c .before .match .keys2) (c .if1 .taken)
+
+pub is-below-spec : {M : Type 1} → statement M
+is-below-spec =
+    tie.close
+    (tie.spec (λ c. search needs) (λ c κs. search needs) returns (λ c κs. search needs) (λ c. search needs) (λ c. search needs))

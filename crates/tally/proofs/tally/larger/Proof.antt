@@ -1,0 +1,13 @@
+use borrow.Author.Needs.{needs}
+use Rattle.tally.proofs.Kept.{later-kept, earlier-kept}
+use Rattle.tally.proofs.tally.larger.Statement.{statement}
+use Rattle.tally.proofs.tally.larger.Tie as tie
+
+returns : tie.Need-returns
+returns c = later-kept _ _ (c .before .is-below .ensures) (c .if1 .taken)
+
+returns-2 : tie.Need-returns-2
+returns-2 c = earlier-kept _ _ (c .before .is-below .ensures) (c .if1 .left)
+
+pub larger-spec : {M : Type 1} → statement M
+larger-spec = tie.close (tie.spec (λ c κs. search needs) returns returns-2)

@@ -1,0 +1,3 @@
+pub mod Words
+pub mod Tallies
+pub mod Meaning
