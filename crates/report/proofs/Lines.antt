@@ -111,7 +111,6 @@ module _ (size : ℕ) (g : Group) (c : Channel) where
 
 -- ---- the last of n records
 
-
 module _ (j : List ℕ) (size : ℕ) where
   -- where there is none
   pub no-last-record : (n : ℕ) (out : List ℕ) → n ≡ 0 → out ≡ lastRecordIn n size j out

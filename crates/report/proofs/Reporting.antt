@@ -5,12 +5,17 @@ use mathlib.Core.List.{List, _++_}
 use Prim.Native.Nat.{ℕ, _/_, _≤_}
 use lib.ListN.{length, take, drop}
 use lib.Dec.{ltb}
-use Rattle.definitions.specs.Reply.{answer, refusal, if_then_else_}
+use Rattle.definitions.specs.Reply.{Outcome, answer, refusal, if_then_else_}
 use Rattle.definitions.specs.Channel.{Channel, Group, isFixedNumber, areaOf}
 use Rattle.definitions.specs.Chain.{fileLimit, idDT, joined, chainOf, totalOf, dataLength, badSize}
 use Rattle.definitions.specs.Report.{Report, firstRecords, readings, reportOf, lastRecordIn, reportOn, reported}
 use Rattle.places.proofs.Answers.{unfollowed}
 use Rattle.records.proofs.Records.{data-whole, size-good}
+use Rattle.tally.specs.Meaning.{reportMeant}
+use Rattle.tally.specs.declared.report.Report.{Report as Line}
+use Rattle.report.specs.Meaning.{reportedBy, InWords}
+use Rattle.report.specs.declared.report.ReportRead.{ReportRead}
+use Rattle.report.specs.declared.report.ReportRead.the-variants.{Report as Lined}
 use Rattle.report.proofs.Lines.{last-in-front}
 
 module _ (f : List ℕ) (start size : ℕ) (g : Group) (c : Channel) (out : List ℕ) where
@@ -56,3 +61,8 @@ module _ (f : List ℕ) (start size : ℕ) (g : Group) (c : Channel) (out : List
             let buffer : front ++ drop size out ≡ lastRecordIn k size data-of out =
             ap (λ (l : List ℕ). l ++ drop size out) ef ∙ last-in-front data-of size k out (size-good size (length out) good .1) in
             sym (by-data ∙ rw (fixed, h, sym ek, sym er, sym buffer))
+
+-- the answer that holds the line
+pub lined-back : (read : ReportRead) (line : Line) {out : List ℕ} {o : Outcome Report} → (read ≡ Lined line) × InWords read
+    → record { reply = answer (reportMeant line); buffer = out } ≡ o → (reportedBy read out ≡ o) × InWords read
+lined-back read line {out} e eo = (ap (λ (x : ReportRead). reportedBy x out) (e .0) ∙ eo, e .1)

@@ -10,7 +10,7 @@ ghost use Rattle.definitions.specs.Report.{firstRecords, readings, reportOf, la
 ghost use Rattle.chain.specs.Walk.{Walked};
 ghost use Rattle.fields.specs.Meaning.{channelMeant, groupMeant};
 ghost use Rattle.tally.specs.Meaning.{reportMeant};
-ghost use Rattle.report.specs.Meaning.{reportedBy};
+ghost use Rattle.report.specs.Meaning.{reportedBy, InWords};
 use crate::walk::tally_records;
 use chain::DataBlock;
 use chain::DataPosition;
@@ -100,6 +100,13 @@ fn report_records(
     report
 }
 
+// The line as it is; the low word of its sum is one word
+fn lined(report: Report) -> ReportRead
+    ensures { λ r. ⌜ (r ≡ ReportRead.Report report) × InWords r ⌝ }
+{
+    ReportRead::Report(report)
+}
+
 // The chain is accepted first, and the description then, so that a refusal leaves the buffer alone.
 pub fn report_channel(
     file: &[u8],
@@ -109,7 +116,7 @@ pub fn report_channel(
     channel: Channel,
     buffer: &mut [u8],
 ) -> ReportRead
-    ensures { λ r. ⌜ reportedBy r (now (buffer .exit)) ≡ reported (now (file .entry)) (start .0) «record_size» (groupMeant group) (channelMeant channel) (now (buffer .entry)) ⌝ }
+    ensures { λ r. ⌜ (reportedBy r (now (buffer .exit)) ≡ reported (now (file .entry)) (start .0) «record_size» (groupMeant group) (channelMeant channel) (now (buffer .entry))) × InWords r ⌝ }
 {
     if bad_size(record_size, buffer.len() as u64) {
         return ReportRead::Refused(Refusal::BadRecordSize);
@@ -136,5 +143,5 @@ pub fn report_channel(
         channel,
         &mut buffer[..size],
     );
-    ReportRead::Report(report)
+    lined(report)
 }

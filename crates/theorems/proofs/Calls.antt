@@ -19,5 +19,6 @@ pub mod RefusalNumbersByCalls
 pub mod RefusalNumbersToC
 -- from what C is told the reply comes back
 pub mod ToldToC
--- the laws of causes: what tests in turn refuse
+-- the laws of causes: what tests in turn refuse, and with which numbers
 pub mod TestsInTurn
+pub mod CauseNumbers

@@ -9,6 +9,7 @@ pub mod AcceptedChains
 -- and why each other is refused, exactly
 pub mod ListCauses
 pub mod ChainCauses
+pub mod ChainNumbers
 -- where blocks and lists stand, by the length and the count that are declared
 pub mod FoundByLength
 -- how much data there is, by the limits alone

@@ -19,6 +19,8 @@ pub mod Records
 pub mod Tables
 -- the same of values that are kept outside their record
 pub mod Payloads
+-- one line of a channel over all records: its counts, its outermost doubles and its sum
+pub mod Reports
 -- numbers that are written, and decoded again
 pub mod Writing
 -- channels that share a bit

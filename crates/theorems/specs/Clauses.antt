@@ -26,6 +26,7 @@ use Rattle.chain.specs.declared.acceptance.ChainRead.{ChainRead}
 use Rattle.records.specs.declared.record.RecordRead.{RecordRead}
 use Rattle.table.specs.declared.layout.TableChanged.{TableChanged}
 use Rattle.payloads.specs.declared.value.PayloadRead.{PayloadRead}
+use Rattle.report.specs.declared.report.ReportRead.{ReportRead}
 use Rattle.blocks.proofs.header.BlockHeader.from_bytes.Kinds as header-read-kinds
 use Rattle.blocks.proofs.header.BlockHeader.from_bytes.Reads as header-read
 use Rattle.blocks.proofs.header.BlockHeader.to_bytes.Kinds as header-write-kinds
@@ -80,6 +81,8 @@ use Rattle.table.proofs.fetch_value.Kinds as table-value-kinds
 use Rattle.table.proofs.fetch_value.Reads as table-value
 use Rattle.payloads.proofs.read_payload.Kinds as record-payload-kinds
 use Rattle.payloads.proofs.read_payload.Reads as record-payload
+use Rattle.report.proofs.report_channel.Kinds as channel-report-kinds
+use Rattle.report.proofs.report_channel.Reads as channel-report
 
 -- ---- blocks
 
@@ -203,3 +206,11 @@ ReadsPayload κs file start number size group channel out room y after later =
     Allows 3 record-payload-kinds.ps record-payload-kinds.r record-payload.Learnt κs
     (file, (start, (number, (size, (group, (channel, (out, (room, tt)))))))) y
     (tt, (tt, (tt, (tt, (tt, (tt, (after, (later, tt))))))))
+
+-- ---- a report
+
+abbrev pub ReportsChannel : Lfts 2 → Slice → FileAddress → ℕ → Group → Channel → Slice → ReportRead → List ℕ → Type 0
+ReportsChannel κs file start size group channel out y after =
+    Allows 2 channel-report-kinds.ps channel-report-kinds.r channel-report.Learnt κs
+    (file, (start, (size, (group, (channel, (out, tt)))))) y
+    (tt, (tt, (tt, (tt, (tt, (after, tt))))))

@@ -21,6 +21,7 @@ use Rattle.replies.specs.declared.validity.Mf4ValidityReply.{Mf4ValidityReply}
 use Rattle.replies.specs.declared.fetches.Mf4LengthReply.{Mf4LengthReply}
 use Rattle.replies.specs.declared.done.Mf4DoneReply.{Mf4DoneReply}
 use Rattle.replies.specs.declared.payload.Mf4PayloadReply.{Mf4PayloadReply}
+use Rattle.replies.specs.declared.reports.Mf4ReportReply.{Mf4ReportReply}
 use Rattle.replies.specs.declared.stored.Mf4Number.{Mf4Number}
 use Rattle.mf4.proofs.mf4_read_header.Kinds as read-header-kinds
 use Rattle.mf4.proofs.mf4_read_header.Reads as read-header
@@ -78,6 +79,8 @@ use Rattle.mf4.proofs.mf4_table_value.Kinds as table-value-kinds
 use Rattle.mf4.proofs.mf4_table_value.Reads as table-value
 use Rattle.mf4.proofs.mf4_record_payload.Kinds as record-payload-kinds
 use Rattle.mf4.proofs.mf4_record_payload.Reads as record-payload
+use Rattle.mf4.proofs.mf4_report.Kinds as report-kinds
+use Rattle.mf4.proofs.mf4_report.Reads as report
 
 -- ---- blocks
 
@@ -192,3 +195,11 @@ ReadsPayloadC κs file start number size group channel out room y after later =
     Allows 3 record-payload-kinds.ps record-payload-kinds.r record-payload.Learnt κs
     (file, (start, (number, (size, (group, (channel, (out, (room, tt)))))))) y
     (tt, (tt, (tt, (tt, (tt, (tt, (after, (later, tt))))))))
+
+-- ---- a report
+
+abbrev pub ReportsChannelC : Lfts 2 → Slice → ℕ → ℕ → Mf4Group → Mf4Channel → Slice → Mf4ReportReply → List ℕ → Type 0
+ReportsChannelC κs file start size group channel out y after =
+    Allows 2 report-kinds.ps report-kinds.r report.Learnt κs
+    (file, (start, (size, (group, (channel, (out, tt)))))) y
+    (tt, (tt, (tt, (tt, (tt, (after, tt))))))

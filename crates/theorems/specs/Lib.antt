@@ -15,3 +15,5 @@ pub mod PayloadEnds
 pub mod OverlapEnds
 pub mod WrittenValue
 pub mod SoleByHand
+pub mod Reports
+pub mod ReportEnds

@@ -1,6 +1,6 @@
 -- What a call leaves of the buffer that it is lent. Where it refuses: every byte. Where it answers: every byte behind those that it
--- reports as written. Of a fetched record's field `FetchEnds` says it, of payloads `PayloadEnds`, of a number that is written
--- `WrittenEnds` and `WrittenValues`.
+-- reports as written. Of a fetched record's field `FetchEnds` says it, of payloads `PayloadEnds`, of a report
+-- `ReportsLeft`, of a number that is written `WrittenEnds` and `WrittenValues`.
 use mathlib.Core.Path.{_≡_, refl, sym, ap, _∙_, subst}
 use mathlib.Core.Bool.{Bool, true, false}
 use mathlib.Core.List.{List, _++_}

@@ -1,6 +1,6 @@
 -- What each call that is lent a buffer leaves there: where it refuses, every byte; where it answers, every byte behind those that
 -- it reports. Each theorem is about the call's own clause. Of a fetched record's field `FetchEnds` has it, of payloads
--- `PayloadsByCalls`, of a number that is written `WrittenValuesByCalls`.
+-- `PayloadsByCalls`, of a report `ReportsByCalls`, of a number that is written `WrittenValuesByCalls`.
 use mathlib.Core.Path.{_≡_, sym, ap, _∙_, subst}
 use mathlib.Core.List.{List}
 use Prim.Native.Nat.{ℕ}

@@ -1,6 +1,6 @@
 -- What each call for C leaves in the buffer that it is lent: where its reply is not 0, every byte; where it is 0, every byte
 -- behind those that it reports. Each theorem is about the call's own clause. Of a fetched record's field `FetchEnds` has it, of
--- payloads `PayloadsToC`, of a number that is written `WrittenValuesToC`.
+-- payloads `PayloadsToC`, of a report `ReportsToC`, of a number that is written `WrittenValuesToC`.
 use mathlib.Core.Path.{_≡_, refl, sym, subst}
 use mathlib.Core.List.{List}
 use Prim.Native.Nat.{ℕ}

@@ -8,8 +8,10 @@ use denote.Triple.Clauses.{Lasts}
 use borrow.Fn.Kind.{PK, RK}
 use borrow.Fn.Kinds.{Out, Dens, resT, endedOf}
 use Rattle.definitions.specs.Reply.{Reply, Outcome}
+use Rattle.definitions.specs.Report.{Report}
 use Rattle.mf4.specs.Clauses.{Allows}
 use Rattle.theorems.specs.Sole.{Settled}
+use Rattle.theorems.proofs.Reports.ReportsOne.{report-one}
 use Rattle.blocks.specs.Meaning.{writtenReply}
 use Rattle.text.specs.Meaning.{textReply}
 use Rattle.fields.specs.Meaning.{validValueReply}
@@ -144,6 +146,12 @@ use Rattle.table.proofs.fetch_value.Kinds as table-value-kinds
 use Rattle.table.proofs.fetch_value.Reads as table-value
 use Rattle.payloads.proofs.read_payload.Kinds as record-payload-kinds
 use Rattle.payloads.proofs.read_payload.Reads as record-payload
+use Rattle.tally.proofs.empty_tally.Kinds as tally-empty-kinds
+use Rattle.tally.proofs.empty_tally.Reads as tally-empty
+use Rattle.slots.proofs.is_fixed_number.Kinds as fixed-number-kinds
+use Rattle.slots.proofs.is_fixed_number.Reads as fixed-number
+use Rattle.report.proofs.report_channel.Kinds as channel-report-kinds
+use Rattle.report.proofs.report_channel.Reads as channel-report
 use Rattle.overlaps.proofs.begin_search.Kinds as search-begin-kinds
 use Rattle.overlaps.proofs.begin_search.Reads as search-begin
 
@@ -337,6 +345,20 @@ table-value-settled = settled (λ κs a y z b c p q. one-outcome validValueReply
 
 pub record-payload-settled : Settled 3 record-payload-kinds.ps record-payload-kinds.r record-payload.Asked record-payload.ensures record-payload.Learnt
 record-payload-settled = settled (λ κs a y z b c p q. in-places (λ out room. (tt, (tt, (tt, (tt, (tt, (tt, (out, (room, tt))))))))) (payload-fetched-one y z _ _ _ _ (p ∙ sym q)))
+
+pub tally-empty-settled : Settled 0 tally-empty-kinds.ps tally-empty-kinds.r tally-empty.Asked tally-empty.ensures tally-empty.Learnt
+tally-empty-settled = settled (λ κs a y z b c p q. (p ∙ sym q, refl))
+
+pub fixed-number-settled : Settled 0 fixed-number-kinds.ps fixed-number-kinds.r fixed-number.Asked fixed-number.ensures fixed-number.Learnt
+fixed-number-settled = settled (λ κs a y z b c p q. (p ∙ sym q, refl))
+
+-- of two words the low one is told to be one word
+pub channel-report-settled : Settled 2 channel-report-kinds.ps channel-report-kinds.r channel-report.Asked channel-report.ensures channel-report.Learnt
+channel-report-settled =
+    settled (λ κs a y z b c p q. let e = p .0 ∙ sym (q .0) in (
+      report-one y z (p .1) (q .1) (ap (λ (o : Outcome Report). o .reply) e),
+      ap (λ (o : Outcome Report). (tt, (tt, (tt, (tt, (tt, (o .buffer, tt))))))) e,
+    ))
 
 pub search-begin-settled : Settled 0 search-begin-kinds.ps search-begin-kinds.r search-begin.Asked search-begin.ensures search-begin.Learnt
 search-begin-settled = settled (λ κs a y z b c p q. (p ∙ sym q, refl))

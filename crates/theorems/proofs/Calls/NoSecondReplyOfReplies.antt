@@ -48,6 +48,8 @@ use Rattle.replies.proofs.stored_reply.Kinds as stored-reply-kinds
 use Rattle.replies.proofs.stored_reply.Reads as stored-reply
 use Rattle.replies.proofs.overlap_reply.Kinds as overlap-reply-kinds
 use Rattle.replies.proofs.overlap_reply.Reads as overlap-reply
+use Rattle.replies.proofs.report_reply.Kinds as report-reply-kinds
+use Rattle.replies.proofs.report_reply.Reads as report-reply
 use Rattle.block_replies.proofs.header_of.Kinds as header-of-kinds
 use Rattle.block_replies.proofs.header_of.Reads as header-of
 use Rattle.block_replies.proofs.block_of.Kinds as block-of-kinds
@@ -139,6 +141,9 @@ stored-reply-settled = settled (λ κs a y z b c p q. (p ∙ sym q, refl))
 
 pub overlap-reply-settled : Settled 0 overlap-reply-kinds.ps overlap-reply-kinds.r overlap-reply.Asked overlap-reply.ensures overlap-reply.Learnt
 overlap-reply-settled = settled (λ κs a y z b c p q. (p ∙ sym q, refl))
+
+pub report-reply-settled : Settled 0 report-reply-kinds.ps report-reply-kinds.r report-reply.Asked report-reply.ensures report-reply.Learnt
+report-reply-settled = settled (λ κs a y z b c p q. (p ∙ sym q, refl))
 
 -- ---- what C gives
 

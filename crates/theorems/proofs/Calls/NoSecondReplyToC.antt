@@ -66,6 +66,8 @@ use Rattle.mf4.proofs.mf4_table_value.Kinds as mf4-table-value-kinds
 use Rattle.mf4.proofs.mf4_table_value.Reads as mf4-table-value
 use Rattle.mf4.proofs.mf4_record_payload.Kinds as mf4-record-payload-kinds
 use Rattle.mf4.proofs.mf4_record_payload.Reads as mf4-record-payload
+use Rattle.mf4.proofs.mf4_report.Kinds as mf4-report-kinds
+use Rattle.mf4.proofs.mf4_report.Reads as mf4-report
 
 -- what is returned comes of one struct, and of one buffer, which stands among the lent ones at its place
 pub one-returned : {R B : Type 0} (place : List ℕ → B) {y z : R} {b c : List ℕ} → returned y b ≡ returned z c → (y ≡ z) × (place b ≡ place c)
@@ -162,6 +164,9 @@ mf4-table-value-settled = settled (λ κs a y z b c p q. one-returned (λ out. (
 
 pub mf4-record-payload-settled : Settled 3 mf4-record-payload-kinds.ps mf4-record-payload-kinds.r mf4-record-payload.Asked mf4-record-payload.ensures mf4-record-payload.Learnt
 mf4-record-payload-settled = settled (λ κs a y z b c p q. in-places (λ out room. (tt, (tt, (tt, (tt, (tt, (tt, (out, (room, tt))))))))) (one-returned-both (p ∙ sym q)))
+
+pub mf4-report-settled : Settled 2 mf4-report-kinds.ps mf4-report-kinds.r mf4-report.Asked mf4-report.ensures mf4-report.Learnt
+mf4-report-settled = settled (λ κs a y z b c p q. one-returned (λ out. (tt, (tt, (tt, (tt, (tt, (out, tt))))))) (p ∙ sym q))
 
 pub mf4-version-settled : Settled 0 mf4-version-kinds.ps mf4-version-kinds.r mf4-version.Asked mf4-version.ensures mf4-version.Learnt
 mf4-version-settled = settled (λ κs a y z b c p q. (p ∙ sym q, refl))

@@ -1,6 +1,6 @@
 -- Which numbers refusals have: a field's are 18 to 22, its validity's 28 and 29, those of blocks, chains and records 2 to 17 without
--- 14, and a payload's also 21, 23 and 35; of a number that is written `WrittenEnds` has them, and of a list of channels `Overlaps`.
--- So a reply of 0 is an answer.
+-- 14, and a payload's also 21, 23 and 35; of a number that is written `WrittenEnds` has them, of a list of channels `Overlaps`,
+-- and of a report `ReportNumbers`. So a reply of 0 is an answer.
 use mathlib.Core.Path.{_≡_, refl, sym}
 use mathlib.Core.Logic.{_⊎_, inl, inr}
 use mathlib.Core.Bool.{Bool, true, false, not, _&&_, _||_}

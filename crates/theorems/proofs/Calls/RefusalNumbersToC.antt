@@ -57,7 +57,7 @@ module _ {A R : Type 0} (toC : Reply A → R) (number told : R → ℕ) (zero : 
     numbered {P} r p h = subst (λ (x : R). NumberedC P (number x) (told x)) (sym p) (by-reply r h)
 
     -- beside a buffer
-    numbered-beside : {P : ℕ → ℕ → Type 0} {y : R} {after : List ℕ} (o : Outcome A) → returned y after ≡ returnedBy toC o → Numbered P (o .reply)
+    pub numbered-beside : {P : ℕ → ℕ → Type 0} {y : R} {after : List ℕ} (o : Outcome A) → returned y after ≡ returnedBy toC o → Numbered P (o .reply)
         → NumberedC P (number y) (told y)
     numbered-beside o p h = numbered (o .reply) (ap (λ (x : Returned R). x .result) p) h
 

@@ -70,7 +70,7 @@ of-writing = by-number OfWriting (λ t h. true≢false (sym h))
 -- ---- the values of fields can be told
 
 -- two's complement of up to 64 bits is a word's
-word-reversible : (w x : ℕ) → 1 ≤ w → w ≤ 64 → x < 2 ^ w → Reversible (signed (twosComplement w x))
+pub word-reversible : (w x : ℕ) → 1 ≤ w → w ≤ 64 → x < 2 ^ w → Reversible (signed (twosComplement w x))
 word-reversible w x lo hi h = by-sign (ltb x (2 ^ (w - 1))) refl
   where
     half : 2 ^ (w - 1) ≤ 2 ^ 63

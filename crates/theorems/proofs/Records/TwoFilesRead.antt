@@ -53,7 +53,7 @@ module _ {Start Result Meaning : Type 0} (address : Start → ℕ) (j : List ℕ
   abbrev One : Type 0
   One = (y z : Result) (after later : List ℕ) → meaning y after ≡ meaning z later → (y ≡ z) × (after ≡ later)
 
-  alike : One → OfJoined → Alike
+  pub alike : One → OfJoined → Alike
   alike one of-joined f g s t b c y z after later h i e p q =
       one y z after later (of-joined f s b y after h p ∙ ap given e ∙ sym (of-joined g t c z later i q))
 

@@ -17,7 +17,7 @@ returns c =
     handed-back reportC reportReply
     (call .report-channel .result)
     (c .report-reply .ensures)
-    (call .report-channel .ensures
+    (call .report-channel .ensures .0
     ∙ ap₂ (λ (g : Group) (ch : Channel). reported (now (a .file)) (a .start) (a .record-size) g ch (now (a .buffer)))
     (given .before .group-of .ensures)
     (given .channel-of .ensures))

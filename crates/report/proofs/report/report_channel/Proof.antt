@@ -15,14 +15,14 @@ use Rattle.chain.specs.Meaning.{locatedReply}
 use Rattle.chain.specs.Walk.{Walked}
 use Rattle.records.proofs.Records.{size-good, data-whole}
 use Rattle.report.proofs.Visiting.{not-true, not-false}
-use Rattle.report.proofs.Reporting.{report-bad, report-refused, report-other, report-outside, report-line}
+use Rattle.report.proofs.Reporting.{report-bad, report-refused, report-other, report-outside, report-line, lined-back}
 use Rattle.report.proofs.report.report_channel.Statement.{statement}
 use Rattle.report.proofs.report.report_channel.Tie as tie
 
 returns : tie.Need-returns
 returns c =
     let a = c .before .before .before .before .args in
-    report-bad (a .file .now) (a .start .0) (a .record-size) (groupMeant (a .group)) (channelMeant (a .channel)) (a .buffer .now) (sym (c .before .bad-size .ensures) ∙ c .if1 .taken)
+    (report-bad (a .file .now) (a .start .0) (a .record-size) (groupMeant (a .group)) (channelMeant (a .channel)) (a .buffer .now) (sym (c .before .bad-size .ensures) ∙ c .if1 .taken), tt)
 
 -- the size is right
 good : (c : tie.Else1) → badSize (c .before .before .before .before .args .record-size) (length (c .before .before .before .before .args .buffer .now)) ≡ false
@@ -39,9 +39,11 @@ unfolding dataLength
 returns-2 c =
     let call = c .before .before .before in
     let left = call .before .before in
-    let a = left .before .before .before .before .args in
-    report-refused (a .file .now) (a .start .0) (a .record-size) (groupMeant (a .group)) (channelMeant (a .channel)) (a .buffer .now) (good left) _ _
-    (sym (call .locate-data .ensures .replied) ∙ ap locatedReply (c .refusal .ensures))
+    let a = left .before .before .before .before .args in (
+      report-refused (a .file .now) (a .start .0) (a .record-size) (groupMeant (a .group)) (channelMeant (a .channel)) (a .buffer .now) (good left) _ _
+          (sym (call .locate-data .ensures .replied) ∙ ap locatedReply (c .refusal .ensures)),
+      tt,
+    )
 
 -- the length of the joined data
 total : (c : tie.After-known-told) →
@@ -54,9 +56,11 @@ returns-3 : tie.Need-returns-3
 returns-3 c =
     let told = c .before .before in
     let left = told .before .before .before .before .before in
-    let a = left .before .before .before .before .args in
-    report-other (a .file .now) (a .start .0) (a .record-size) (groupMeant (a .group)) (channelMeant (a .channel)) (a .buffer .now) (good left) _ (total told)
-    (sym (c .before .is-fixed-number .ensures) ∙ not-true _ (c .if2 .taken))
+    let a = left .before .before .before .before .args in (
+      report-other (a .file .now) (a .start .0) (a .record-size) (groupMeant (a .group)) (channelMeant (a .channel)) (a .buffer .now) (good left) _ (total told)
+          (sym (c .before .is-fixed-number .ensures) ∙ not-true _ (c .if2 .taken)),
+      tt,
+    )
 
 -- a fixed number
 fixed : (c : tie.Else2) → isFixedNumber (channelMeant (c .before .before .before .before .before .before .before .before .before .before .before .args .channel)) ≡ true
@@ -68,9 +72,11 @@ returns-4 c =
     let two = area .before in
     let told = two .before .before in
     let left = told .before .before .before .before .before in
-    let a = left .before .before .before .before .args in
-    report-outside (a .file .now) (a .start .0) (a .record-size) (groupMeant (a .group)) (channelMeant (a .channel)) (a .buffer .now) (good left) _ (total told) (fixed two) _ _
-    (sym (area .check-area .ensures) ∙ ap areaReply (c .refusal2 .ensures))
+    let a = left .before .before .before .before .args in (
+      report-outside (a .file .now) (a .start .0) (a .record-size) (groupMeant (a .group)) (channelMeant (a .channel)) (a .buffer .now) (good left) _ (total told) (fixed two) _ _
+          (sym (area .check-area .ensures) ∙ ap areaReply (c .refusal2 .ensures)),
+      tt,
+    )
 
 div-n : tie.Need-div-n
 div-n c = room (c .before .before .before .before .before .before .before .before .before .before .before) .0
@@ -127,7 +133,7 @@ report-records-requires c κs =
 returns-5 : tie.Need-returns-5
 unfolding walked
 returns-5 c =
-    let call = c .before .before in
+    let call = c .before .before .before in
     let known = call .before .before .before in
     let two = known .before .before .before .before in
     let told = two .before .before in
@@ -140,10 +146,11 @@ returns-5 c =
     let j = joined f (whole .1) in
     let k = told .before .found .given .0 .0 .0 / a .record-size in
     let line = call .report-records .ensures (walked told) (records told) in
-    report-line f (a .start .0) (a .record-size) g ch (a .buffer .now) (good left) _ (total told) (fixed two) (inside known) k
+    lined-back (c .lined .result) (call .report-records .result) (c .lined .ensures)
+    (report-line f (a .start .0) (a .record-size) g ch (a .buffer .now) (good left) _ (total told) (fixed two) (inside known) k
     (ap (λ (n : ℕ). n / a .record-size) (sym (whole .3))) _ _
     (line .0 ∙ ap (λ (size : ℕ). reportOf (readings g ch (firstRecords k size j))) (front left))
-    (line .1 ∙ ap (λ (size : ℕ). lastRecordIn k size j (take (a .record-size) (a .buffer .now))) (front left))
+    (line .1 ∙ ap (λ (size : ℕ). lastRecordIn k size j (take (a .record-size) (a .buffer .now))) (front left)))
 
 pub report-channel-spec : {M : Type 1} → statement M
 report-channel-spec =
@@ -167,5 +174,6 @@ report-channel-spec =
     slice-relend-prefix-report-records
     slice-aggregate-report-records
     report-records-requires
+    (λ c κs. search needs)
     (λ c. search needs)
     returns-5)
