@@ -22,6 +22,11 @@ module _ {S : Type 0} (v : S → List ℕ → S) (size : ℕ) where
   unfolding seen
   seen-turn s t u l r k et er eu = eu ∙ ap₂ v et er ∙ sym (ap (seen v size s l) (add-one k))
 
+  -- one record alone
+  pub seen-one : (s t : S) (l : List ℕ) → length l ≡ size → t ≡ seen v size s l 1 → t ≡ v s l
+  unfolding seen
+  seen-one s t l e et = et ∙ ap (v s) (ap (λ (i : ℕ). span l i size) (zero-mul size) ∙ take-all size l (omega arith))
+
   -- ---- more bytes
 
   -- what stands behind k records is not seen

@@ -10,6 +10,8 @@ use lib.Seq.{length-take-le}
 use lib.Ieee.{isNan}
 use Rattle.definitions.specs.Reply.{if_then_else_}
 use Rattle.definitions.specs.Bytes.{span}
+use Rattle.words.proofs.Numbers.{Bytes}
+use Rattle.words.proofs.Spans.{bytes-span}
 use Rattle.fields.specs.declared.form.Number.{Number}
 use Rattle.tally.specs.Words.{valueAt}
 use Rattle.tally.specs.Tallies.{Sane, emptyTally, skippedTally, nanTally, markedTally, countedTally}
@@ -17,7 +19,7 @@ use Rattle.tally.specs.declared.tally.Tally.{Tally}
 use Rattle.slots.specs.Slots.{slotWord, slotValid}
 use Rattle.slots.specs.declared.slot.Slot.{Slot}
 use Rattle.report.specs.Visits.{seen, visited, fewRecords}
-use Rattle.tally.proofs.Tallying.{sane-none, sane-skip, sane-count}
+use Rattle.tally.proofs.Tallying.{sane-none}
 
 -- what a test says that was turned
 pub not-true : (b : Bool) → not b ≡ true → b ≡ false
@@ -37,21 +39,6 @@ inside i n size room h fits =
 
 pub sane-empty : (t : Tally) → t ≡ emptyTally → Sane t
 sane-empty t e = subst Sane (sym e) sane-none
-
-module _ (w : Slot) (t : Tally) (s : List ℕ) (sane : Sane t) {valid : Bool} (ev : valid ≡ slotValid w s) (r : Tally) where
-  -- an invalid record
-  pub visit-invalid : valid ≡ false → r ≡ skippedTally t → (r ≡ visited w t s) × Sane r
-  visit-invalid h e = (
-    e ∙ sym (ap (λ (b : Bool). if b then countedTally (w .number) t (slotWord w s) else skippedTally t) (sym ev ∙ h)),
-    subst Sane (sym e) (sane-skip sane),
-  )
-
-  -- a valid one
-  pub visit-valid : valid ≡ true → (x : ℕ) → x < 2 ^ 64 → x ≡ slotWord w s → r ≡ countedTally (w .number) t x → (r ≡ visited w t s) × Sane r
-  visit-valid h x small ex e = (
-    e ∙ ap (countedTally (w .number) t) ex ∙ sym (ap (λ (b : Bool). if b then countedTally (w .number) t (slotWord w s) else skippedTally t) (sym ev ∙ h)),
-    subst Sane (sym e) (sane-count (w .number) x sane small),
-  )
 
 -- each is counted
 counted-one : (n : Number) (t : Tally) (word : ℕ) (b : Bool) → (if b then nanTally t else markedTally n t word) .records ≡ t .records + 1
@@ -86,6 +73,9 @@ module _ (l : List ℕ) (size n k begin : ℕ) (eb : begin ≡ k * size) (room :
   pub part-is : part ≡ span l (k * size) size
   part-is = ap₂ (λ (m b : ℕ). take m (drop b l)) same-size eb
 
+  pub part-bytes : Bytes l → Bytes part
+  part-bytes h = subst Bytes (sym part-is) (bytes-span l (k * size) size h)
+
   pub part-long : length part ≡ size
   part-long = length-take-le (begin + size - begin) (drop begin l) (omega (arith, length-drop begin l)) ∙ same-size
 
@@ -94,6 +84,11 @@ module _ (l : List ℕ) (size n k begin : ℕ) (eb : begin ≡ k * size) (room :
 module _ (w : Slot) (size : ℕ) (t u : Tally) (l : List ℕ) (i n : ℕ) where
   pub few-so-far : i < n → u ≡ seen (visited w) size t l i → t .records + n < fewRecords → u .records < fewRecords
   few-so-far h e few =
+      let r : u .records ≡ t .records + i = ap (λ (x : Tally). x .records) e ∙ seen-records w size t l i in
+      omega arith
+
+  pub few-left : i ≤ n → u ≡ seen (visited w) size t l i → t .records + n < fewRecords → u .records + (n - i) < fewRecords
+  few-left h e few =
       let r : u .records ≡ t .records + i = ap (λ (x : Tally). x .records) e ∙ seen-records w size t l i in
       omega arith
 

@@ -1,2 +1,3 @@
 pub mod Visits
+pub mod Quiet
 pub mod Meaning

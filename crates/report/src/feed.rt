@@ -7,7 +7,6 @@ ghost use Rattle.tally.specs.Tallies.{Sane};
 ghost use Rattle.slots.specs.Slots.{Within};
 ghost use Rattle.report.specs.Visits.{Held, visited, fewRecords};
 use crate::run::run;
-use crate::visit::far_visit;
 use records::copy_over;
 use slots::Slot;
 use tally::Tally;
@@ -56,6 +55,6 @@ pub(crate) fn feed(
             fill: fill + part.len(),
         };
     }
-    let tally = far_visit(buffer, slot, before);
+    let tally = run(buffer, size, 1, slot, before);
     feed_whole(&part[missing..], size, slot, tally, buffer)
 }

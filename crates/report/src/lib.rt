@@ -2,7 +2,6 @@
 mod feed;
 mod report;
 mod run;
-mod visit;
 mod walk;
 
 pub use report::ReportRead;

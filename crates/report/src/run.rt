@@ -1,17 +1,36 @@
 // Records that stand end to end, each in its place.
 ghost use mathlib.Core.Path.{_≡_};
-ghost use Prim.Native.Nat.{_+_, _*_, _≤_, _<_};
+ghost use Prim.Native.Nat.{_+_, _-_, _*_, _≤_, _<_};
 ghost use lib.ListN.{length};
 ghost use Rattle.tally.specs.Tallies.{Sane};
-ghost use Rattle.slots.specs.Slots.{Within, PlaceTold};
-ghost use Rattle.slots.specs.declared.word.PlaceFound.{PlaceFound};
+ghost use Rattle.slots.specs.Slots.{slotWord, Within, PlaceTold};
 ghost use Rattle.report.specs.Visits.{seen, visited, fewRecords};
-use crate::visit::far_visit;
-use crate::visit::near_visit;
+ghost use Rattle.report.specs.Quiet.{QuietTo, quietThen};
 use slots::PlaceFound;
 use slots::Slot;
+use slots::far_word;
 use slots::find_place;
+use slots::is_valid_in;
+use slots::near_word;
+use tally::Mark;
 use tally::Tally;
+use tally::Total;
+use tally::added;
+use tally::counted;
+use tally::is_inner;
+use tally::skipped;
+use tally::with_inner;
+use words::read_u64_le;
+
+// Records in a row that take the place of no extreme: how far they go, the words of all added up, and the last one's mark. Of the
+// record that ends the row, where one does, whether it is valid, and its word then.
+pub(crate) struct Quiet {
+    pub next: usize,
+    pub total: Total,
+    pub last: Mark,
+    pub is_valid: bool,
+    pub word: u64,
+}
 
 // Where record i of n begins
 fn record_begin(i: usize, size: usize, n: usize, length: usize) -> usize
@@ -21,42 +40,83 @@ fn record_begin(i: usize, size: usize, n: usize, length: usize) -> usize
     i * size
 }
 
-fn near_run(
-    records: &[u8],
-    size: usize,
-    n: usize,
-    at: usize,
-    from: u32,
-    slot: Slot,
-    before: Tally,
-) -> Tally
-    requires { ⌜ Within size slot × PlaceTold size slot (PlaceFound.Place at from) × Sane before × (before .records + n < fewRecords) × (n * size ≤ length (now records)) ⌝ }
-    ensures { λ r. ⌜ (r ≡ seen (visited slot) size before (now (records .entry)) n) × Sane r ⌝ }
+// The word of the number in a record: by a load of the eight bytes that hold it, or by the general way where none do
+fn word_at(record: &[u8], place: PlaceFound, slot: Slot) -> u64
+    requires { ⌜ Within (length (now «record»)) slot × PlaceTold (length (now «record»)) slot place ⌝ }
+    ensures { λ r. ⌜ r ≡ slotWord slot (now («record» .entry)) ⌝ }
 {
-    let mut tally = before;
-    let mut i = 0;
-    while i < n {
-        let begin = record_begin(i, size, n, records.len());
-        let end = begin + size;
-        tally = near_visit(&records[begin..end], at, from, slot, tally);
-        i += 1;
+    match place {
+        PlaceFound::Place(at, from) => near_word(read_u64_le(record, at), from, slot),
+        PlaceFound::NoPlace => far_word(record, slot),
     }
-    tally
 }
 
-fn far_run(records: &[u8], size: usize, n: usize, slot: Slot, before: Tally) -> Tally
-    requires { ⌜ Within size slot × Sane before × (before .records + n < fewRecords) × (n * size ≤ length (now records)) ⌝ }
-    ensures { λ r. ⌜ (r ≡ seen (visited slot) size before (now (records .entry)) n) × Sane r ⌝ }
+// Such a row from a record on. Most records are so: only their sum and the last one are kept, and all else of the tally waits.
+fn quiet_run(
+    records: &[u8],
+    size: usize,
+    first: usize,
+    n: usize,
+    place: PlaceFound,
+    slot: Slot,
+    tally: Tally,
+) -> Quiet
+    requires { ⌜ Within size slot × PlaceTold size slot place × Sane tally × (first ≤ n) × (tally .records + (n - first) < fewRecords) × (n * size ≤ length (now records)) ⌝ }
+    ensures { λ r. ⌜ QuietTo size slot tally (now (records .entry)) first n r ⌝ }
 {
-    let mut tally = before;
-    let mut i = 0;
+    let number = slot.number;
+    let mut total = tally.total;
+    let mut last = tally.last;
+    let mut i = first;
     while i < n {
         let begin = record_begin(i, size, n, records.len());
         let end = begin + size;
-        tally = far_visit(&records[begin..end], slot, tally);
+        let record = &records[begin..end];
+        if !is_valid_in(record, slot) {
+            return Quiet {
+                next: i,
+                total,
+                last,
+                is_valid: false,
+                word: 0,
+            };
+        }
+        let word = word_at(record, place, slot);
+        if !is_inner(number, tally, word) {
+            return Quiet {
+                next: i,
+                total,
+                last,
+                is_valid: true,
+                word,
+            };
+        }
+        total = added(number, total, word);
+        last = Mark {
+            number: tally.records + (i - first) as u64,
+            word,
+        };
         i += 1;
     }
-    tally
+    Quiet {
+        next: i,
+        total,
+        last,
+        is_valid: false,
+        word: 0,
+    }
+}
+
+// The record that ended a row
+fn ending(quiet: Quiet, slot: Slot, tally: Tally) -> Tally
+    requires { ⌜ Sane tally × (tally .records < fewRecords) ⌝ }
+    ensures { λ r. ⌜ r ≡ quietThen slot quiet tally ⌝ }
+{
+    if quiet.is_valid {
+        let number = slot.number;
+        return counted(number, tally, quiet.word);
+    }
+    skipped(tally)
 }
 
 // The first n
@@ -65,8 +125,18 @@ pub(crate) fn run(records: &[u8], size: usize, n: usize, slot: Slot, before: Tal
     ensures { λ r. ⌜ (r ≡ seen (visited slot) size before (now (records .entry)) n) × Sane r ⌝ }
 {
     let place = find_place(size, slot);
-    let PlaceFound::Place(at, from) = place else {
-        return far_run(records, size, n, slot, before);
-    };
-    near_run(records, size, n, at, from, slot, before)
+    let mut tally = before;
+    let mut i = 0;
+    while i < n {
+        let quiet = quiet_run(records, size, i, n, place, slot, tally);
+        let total = quiet.total;
+        let last = quiet.last;
+        tally = with_inner(tally, (quiet.next - i) as u64, total, last);
+        i = quiet.next;
+        if i < n {
+            tally = ending(quiet, slot, tally);
+            i += 1;
+        }
+    }
+    tally
 }

@@ -1,6 +1,6 @@
 -- The doubles of words, and their order.
 use mathlib.Core.Path.{_≡_, refl, sym, ap, _∙_, subst}
-use mathlib.Core.Bool.{Bool, true, false, cond}
+use mathlib.Core.Bool.{Bool, true, false, cond, not, true≢false}
 use Prim.Native.Nat.{ℕ, suc, _-_, _≤_, _<_}
 use native.Mathlib.Omega.{arith}
 use mathlib.Core.List.{[], _∷_}
@@ -99,7 +99,33 @@ differs (fin s m d) false e = refl
 pub float-nan : (n : Number) (word : ℕ) (v : Float) → n ≡ float → v ≡ ofBits binary64 word → ne v v ≡ isNan (valueAt n word)
 float-nan n word v e f = differs v (ne v v) refl ∙ ap isNan f ∙ ap (λ (m : Number). isNan (valueAt m word)) (sym e)
 
+-- of two floats by their patterns
+pub float-below : (n : Number) (a b : ℕ) (v w : Float) → n ≡ float → v ≡ ofBits binary64 a → w ≡ ofBits binary64 b → lt v w ≡ lt (valueAt n a) (valueAt n b)
+float-below n a b v w e f g = same-order f g ∙ ap (λ (m : Number). lt (valueAt m a) (valueAt m b)) (sym e)
+
 -- ---- the double of a word, by what kind of number it is
 
 pub value-as : (n m : Number) (word p : ℕ) (v : Float) → n ≡ m → p ≡ patternOf m word → v ≡ ofBits binary64 p → v ≡ valueAt n word
 value-as n m word p v e f g = g ∙ ap (ofBits binary64) f ∙ ap (λ (k : Number). valueAt k word) (sym e)
+
+-- ---- a number between two others
+
+pub never : {A : Type 0} → false ≡ true → A
+never e = absurd (true≢false (sym e))
+
+not-true : (b : Bool) → not b ≡ true → b ≡ false
+not-true true e = sym e
+not-true false e = refl
+
+pub double-between : (s v l : Float) → ne v v ≡ false → lt v s ≡ false → not (lt l v) ≡ true → (isNan v ≡ false) × (lt v s ≡ false) × (lt l v ≡ false)
+double-between s v l e f g = (sym (differs v false e), f, not-true (lt l v) g)
+
+-- a float is its pattern
+pub float-between : (n : Number) (smallest word largest : ℕ) {s v l : Float} → n ≡ float → s ≡ ofBits binary64 smallest → v ≡ ofBits binary64 word → l ≡ ofBits binary64 largest
+    → (isNan v ≡ false) × (lt v s ≡ false) × (lt l v ≡ false)
+    → (isNan (valueAt n word) ≡ false) × (lt (valueAt n word) (valueAt n smallest) ≡ false) × (lt (valueAt n largest) (valueAt n word) ≡ false)
+float-between n smallest word largest e f g h b = rw e (rw (f, g, h) at b)
+
+pub integer-between : (n : Number) (smallest word largest : ℕ) → OneOf (0 ∷ 1 ∷ []) (tagOf the-type n) → smallest ≤ word → word ≤ largest
+    → (isNan (valueAt n word) ≡ false) × (lt (valueAt n word) (valueAt n smallest) ≡ false) × (lt (valueAt n largest) (valueAt n word) ≡ false)
+integer-between n smallest word largest i f g = (sym (integer-no-nan n word i), sym (not-below n word smallest i f), sym (not-below n largest word i g))

@@ -102,7 +102,27 @@ markedTally n t word = record {
 abbrev pub countedTally : Number → Tally → ℕ → Tally
 countedTally n t word = if isNan (valueAt n word) then nanTally t else markedTally n t word
 
+-- so many records more that change no extreme, with the total and the last mark that they leave
+abbrev pub innerTally : Tally → ℕ → Total → Mark → Tally
+innerTally t count total last = record {
+  records = t .records + count;
+  valid = t .valid + count;
+  nan = t .nan;
+  total = total;
+  first = t .first;
+  last = last;
+  smallest = t .smallest;
+  largest = t .largest;
+}
+
 -- ---- what is known of a tally
+
+-- there are marks, and a word that is no NaN takes the place of none of the extremes
+pub record Inner (n : Number) (t : Tally) (word : ℕ) : Type 0 where
+  pub some : t .valid ≡ t .nan → ⊥
+  pub number : isNan (valueAt n word) ≡ false
+  pub notBelow : lt (valueAt n word) (valueAt n (t .smallest .word)) ≡ false
+  pub notAbove : lt (valueAt n (t .largest .word)) (valueAt n word) ≡ false
 
 -- so none of its sums wraps while there are few records
 pub record Sane (t : Tally) : Type 0 where

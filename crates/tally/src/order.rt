@@ -1,6 +1,7 @@
 // Numbers as words, which are put in order without a rounding. An integer is the word that counts it from the least one of 64
 // bits; a float is the pattern of its double.
 ghost use mathlib.Core.Path.{_≡_};
+ghost use mathlib.Core.Bool.{true, false};
 ghost use lib.Ieee.{lt, isNan};
 ghost use Rattle.tally.specs.Words.{patternOf, valueAt};
 use doubles::double_of;
@@ -50,12 +51,39 @@ fn is_double_below(number: Number, a: u64, b: u64) -> bool
     value_at(number, a) < value_at(number, b)
 }
 
+fn is_double_between(smallest: f64, value: f64, largest: f64) -> bool
+    ensures { λ r. ⌜ (r ≡ true → (isNan value ≡ false) × (lt value smallest ≡ false) × (lt largest value ≡ false)) ⌝ }
+{
+    if value != value {
+        return false;
+    }
+    if value < smallest {
+        return false;
+    }
+    !(largest < value)
+}
+
+// Whether a number is no NaN and takes the place of neither of two others. Of an integer no double is made for that.
+pub(crate) fn is_between(number: Number, smallest: u64, word: u64, largest: u64) -> bool
+    ensures { λ r. ⌜ (r ≡ true → (isNan (valueAt number word) ≡ false) × (lt (valueAt number word) (valueAt number smallest) ≡ false) × (lt (valueAt number largest) (valueAt number word) ≡ false)) ⌝ }
+{
+    match number {
+        Number::Float => is_double_between(value_of(smallest), value_of(word), value_of(largest)),
+        _ => {
+            if word < smallest {
+                return false;
+            }
+            word <= largest
+        }
+    }
+}
+
 // Whether the double of a is the smaller one. A smaller integer's is never larger, so most integers need no rounding.
 pub(crate) fn is_below(number: Number, a: u64, b: u64) -> bool
     ensures { λ r. ⌜ r ≡ lt (valueAt number a) (valueAt number b) ⌝ }
 {
     match number {
-        Number::Float => is_double_below(number, a, b),
+        Number::Float => value_of(a) < value_of(b),
         _ => {
             if b <= a {
                 return false;

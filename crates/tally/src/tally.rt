@@ -1,8 +1,10 @@
 // A tally, and one record more.
 ghost use mathlib.Core.Path.{_≡_};
-ghost use Prim.Native.Nat.{_^_, _<_};
-ghost use Rattle.tally.specs.Tallies.{Sane, smallerMark, largerMark, emptyTally, skippedTally, nanTally, markedTally, countedTally};
+ghost use mathlib.Core.Bool.{true};
+ghost use Prim.Native.Nat.{_+_, _^_, _<_};
+ghost use Rattle.tally.specs.Tallies.{Sane, Inner, smallerMark, largerMark, emptyTally, skippedTally, nanTally, markedTally, countedTally, innerTally};
 use crate::order::is_below;
+use crate::order::is_between;
 use crate::order::is_nan;
 use crate::sum::Total;
 use crate::sum::added;
@@ -137,4 +139,34 @@ pub fn counted(number: Number, tally: Tally, word: u64) -> Tally
         return with_nan(tally);
     }
     with_mark(number, tally, word)
+}
+
+// Whether there are extremes, and a number takes the place of none
+pub fn is_inner(number: Number, tally: Tally, word: u64) -> bool
+    ensures { λ r. ⌜ (r ≡ true → Inner number tally word) ⌝ }
+{
+    if tally.valid == tally.nan {
+        return false;
+    }
+    is_between(number, tally.smallest.word, word, tally.largest.word)
+}
+
+// So many more that are all such, with the words of all added up and the last of them
+pub fn with_inner(tally: Tally, count: u64, total: Total, last: Mark) -> Tally
+    requires { ⌜ (tally .records + count < 2 ^ 63) × (Sane tally) ⌝ }
+    ensures { λ r. ⌜ r ≡ innerTally tally count total last ⌝ }
+{
+    let first = tally.first;
+    let smallest = tally.smallest;
+    let largest = tally.largest;
+    Tally {
+        records: tally.records + count,
+        valid: tally.valid + count,
+        nan: tally.nan,
+        total,
+        first,
+        last,
+        smallest,
+        largest,
+    }
 }

@@ -4,10 +4,9 @@ use Prim.Native.Nat.{ℕ, _+_, _<_}
 use native.Mathlib.Omega.{arith}
 use borrow.Author.Needs.{needs}
 use lib.ListN.{length, length-drop}
-use Rattle.slots.specs.Slots.{Within}
 use Rattle.tally.specs.declared.tally.Tally.{Tally}
 use Rattle.report.specs.Visits.{visited}
-use Rattle.report.proofs.Seen.{none-waits, more-fed, cut-fed, rest-is}
+use Rattle.report.proofs.Seen.{seen-one, none-waits, more-fed, cut-fed, rest-is}
 use Rattle.report.proofs.Visiting.{fewer-left}
 use Rattle.report.proofs.feed.feed.Statement.{statement}
 use Rattle.report.proofs.feed.feed.Tie as tie
@@ -30,12 +29,22 @@ returns-2 c =
 long : (c : tie.After-copy-over) → length (c .copy-over .last .1 .0) ≡ c .before .before .before .before .before .args .size
 long c = omega (arith, c .copy-over .kept, c .before .before .before .before .before .pre .3)
 
-far-visit-requires : tie.Need-far-visit-requires
-far-visit-requires c κs =
+run-requires : tie.Need-run-requires
+run-requires c κs =
     let copy = c .before .before .before .before in
     let start = copy .before .before .before .before .before in
     let a = start .args in
-    (subst (λ (m : ℕ). Within m (a .slot)) (sym (long copy)) (start .pre .0), start .pre .1, omega (arith, start .pre .2))
+    (start .pre .0, start .pre .1, omega (arith, start .pre .2), omega (arith, long copy))
+
+-- the record that was cut
+one : (c : tie.After-run) →
+    let copy = c .before .before .before .before .before in
+    let a = copy .before .before .before .before .before .args in
+    c .run .result ≡ visited (a .slot) (a .before) (copy .copy-over .last .1 .0)
+one c =
+    let copy = c .before .before .before .before .before in
+    let a = copy .before .before .before .before .before .args in
+    seen-one (visited (a .slot)) (a .size) (a .before) _ (copy .copy-over .last .1 .0) (long copy) (c .run .ensures .0)
 
 feed-whole-requires-2 : tie.Need-feed-whole-requires-2
 feed-whole-requires-2 c κs =
@@ -43,7 +52,7 @@ feed-whole-requires-2 c κs =
     let copy = visit .before .before .before .before .before in
     let start = copy .before .before .before .before .before in
     let a = start .args in
-    (start .pre .0, visit .far-visit .ensures .1, fewer-left (a .slot) (a .before) _ (copy .copy-over .last .1 .0) (a .part .now) _ (visit .far-visit .ensures .0) (start .pre .2), long copy)
+    (start .pre .0, visit .run .ensures .1, fewer-left (a .slot) (a .before) _ (copy .copy-over .last .1 .0) (a .part .now) _ (one visit) (start .pre .2), long copy)
 
 returns-3 : tie.Need-returns-3
 returns-3 c =
@@ -54,7 +63,7 @@ returns-3 c =
     let start = copy .before .before .before .before .before in
     let a = start .args in (
       cut-fed (visited (a .slot)) (a .size) (a .before) _ _ (a .buffer .now) _ _ (a .part .now) _ (a .fill) _ (omega (arith, start .pre .0 .flag)) (start .pre .3) (start .pre .4)
-          (left .if2 .left) (copy .copy-over .ensures) (long copy) (visit .far-visit .ensures .0) (rest-is (a .part .now) _) (whole .feed-whole2 .ensures .0),
+          (left .if2 .left) (copy .copy-over .ensures) (long copy) (one visit) (rest-is (a .part .now) _) (whole .feed-whole2 .ensures .0),
       whole .feed-whole2 .ensures .1,
     )
 
@@ -70,7 +79,7 @@ feed-spec =
     (λ c. search needs)
     (λ c. search needs)
     returns-2
-    far-visit-requires
+    run-requires
     (λ c. search needs)
     (λ c. search needs)
     (λ c. search needs)

@@ -1,26 +1,129 @@
--- The place was found for these records.
-use mathlib.Core.Path.{subst}
+-- After i records the tally is what these make of the first one: those in a row at once, and the one that ends the row by itself.
+use mathlib.Core.Path.{_≡_, refl, sym, subst, _∙_}
+use Prim.Native.Nat.{ℕ, _+_, _-_, _≤_, _<_}
+use native.Mathlib.Omega.{arith}
 use borrow.Author.Needs.{needs}
-use Rattle.slots.specs.Slots.{PlaceTold}
+use Rattle.tally.specs.Tallies.{Sane}
+use Rattle.report.specs.Visits.{seen, visited}
+use Rattle.report.proofs.Seen.{seen-none, seen-turn}
+use Rattle.report.proofs.Visiting.{few-so-far, few-left, all-seen}
+use Rattle.report.proofs.Quiets.{then-sane}
 use Rattle.report.proofs.run.run.Statement.{statement}
 use Rattle.report.proofs.run.run.Tie as tie
 
-near-run-requires : tie.Need-near-run-requires
-near-run-requires c κs =
-    let place = c .before in
-    let found = place .before .before in
-    let start = found .before .before in
+abbrev Inv-loop : tie.InvT-loop
+Inv-loop records size n slot place tally₀ i₀ tally i = (i ≤ n) × (tally ≡ seen (visited slot) size tally₀ records i) × Sane tally
+
+abbrev μ-loop : tie.MeasureT-loop
+μ-loop records size n slot place tally₀ i₀ tally i = n - i
+
+loop-holds : tie.Need-loop-holds Inv-loop μ-loop
+loop-holds c =
+    let start = c .before .before in
     let a = start .args in
-    (start .pre .0, subst (PlaceTold (a .size) (a .slot)) (place .place .given .1) (found .find-place .ensures), start .pre .1, start .pre .2, start .pre .3)
+    (omega arith, seen-none (visited (a .slot)) (a .size) (a .before) (a .records .now), start .pre .1)
+
+-- there are few records from here on
+few : (c : tie.In-loop Inv-loop μ-loop) →
+    let l = c .before .loop in
+    l .tally .records + (c .before .before .before .before .args .n - l .i) < 9223372036854775808
+few c =
+    let l = c .before .loop in
+    let start = c .before .before .before .before in
+    let a = start .args in
+    few-left (a .slot) (a .size) (a .before) (l .tally) (a .records .now) (l .i) (a .n) (l .inv .0) (l .inv .1) (start .pre .2)
+
+quiet-run-requires : tie.Need-quiet-run-requires Inv-loop μ-loop
+quiet-run-requires c κs =
+    let l = c .before .loop in
+    let found = c .before .before in
+    let start = found .before .before in
+    (start .pre .0, found .find-place .ensures, l .inv .2, l .inv .0, few c, start .pre .3)
+
+sub-with-inner : tie.Need-sub-with-inner Inv-loop μ-loop
+sub-with-inner c = omega (arith, c .before .before .before .quiet-run .ensures .so .behind)
+
+with-inner-requires : tie.Need-with-inner-requires Inv-loop μ-loop
+with-inner-requires c κs =
+    let quiet = c .before .before .before in
+    let told = quiet .quiet-run .ensures in
+    (omega (arith, told .inside, told .so .behind, few (quiet .before)), quiet .before .before .loop .inv .2)
+
+-- the tally behind those in a row
+row : (c : tie.After-with-inner Inv-loop μ-loop) →
+    let quiet = c .before .before .before .before in
+    let a = quiet .before .before .before .before .before .args in
+    (c .with-inner .result ≡ seen (visited (a .slot)) (a .size) (a .before) (a .records .now) (quiet .quiet-run .result .next)) × Sane (c .with-inner .result)
+row c =
+    let quiet = c .before .before .before .before in
+    let l = quiet .before .before .loop in
+    let a = quiet .before .before .before .before .before .args in
+    let so = quiet .quiet-run .ensures .so in
+    (c .with-inner .ensures ∙ so .seenTo (a .before) (l .inv .1), subst Sane (sym (c .with-inner .ensures)) (so .sane))
+
+ending-requires : tie.Need-ending-requires Inv-loop μ-loop
+ending-requires c κs =
+    let inner = c .before in
+    let quiet = inner .before .before .before .before in
+    let start = quiet .before .before .before .before .before in
+    let a = start .args in
+    (row inner .1, few-so-far (a .slot) (a .size) (a .before) _ (a .records .now) (quiet .quiet-run .result .next) (a .n) (c .if1 .taken) (row inner .0) (start .pre .2))
+
+add-i : tie.Need-add-i Inv-loop μ-loop
+add-i c =
+    let more = c .before in
+    let start = more .before .before .before .before .before .before .before .before .before .before in
+    record { fits = omega (arith, more .if1 .taken, start .fits .n) }
+
+loop-less : tie.Need-loop-less Inv-loop μ-loop
+loop-less c =
+    let more = c .before in
+    let quiet = more .before .before .before .before .before in
+    omega (arith, more .if1 .taken, quiet .quiet-run .ensures .so .behind)
+
+loop-again : tie.Need-loop-again Inv-loop μ-loop
+loop-again c =
+    let more = c .before in
+    let inner = more .before in
+    let quiet = inner .before .before .before .before in
+    let told = quiet .quiet-run .ensures in
+    let a = quiet .before .before .before .before .before .args in (
+      omega (arith, more .if1 .taken),
+      seen-turn (visited (a .slot)) (a .size) (a .before) _ _ (a .records .now) _ (quiet .quiet-run .result .next) (row inner .0) refl (c .ending .ensures ∙ told .stops (more .if1 .taken) _),
+      subst Sane (sym (c .ending .ensures)) (then-sane (a .slot) (inner .with-inner .result) (quiet .quiet-run .result .«is_valid») (quiet .quiet-run .result .word) (row inner .1) (told .small)),
+    )
+
+loop-less-2 : tie.Need-loop-less-2 Inv-loop μ-loop
+loop-less-2 c =
+    let quiet = c .before .before .before .before .before in
+    omega (arith, c .if1 .left, quiet .before .loop-test .taken)
+
+loop-again-2 : tie.Need-loop-again-2 Inv-loop μ-loop
+loop-again-2 c =
+    let inner = c .before in
+    (inner .before .before .before .before .quiet-run .ensures .inside, row inner .0, row inner .1)
+
+returns : tie.Need-returns Inv-loop μ-loop
+returns c =
+    let l = c .before .loop in
+    let a = c .before .before .before .before .args in
+    (all-seen (a .slot) (a .size) (a .before) (l .tally) (a .records .now) (l .i) (a .n) (l .inv .0) (c .loop-test .left) (l .inv .1), l .inv .2)
 
 pub run-spec : {M : Type 1} → statement M
 run-spec =
     tie.close
     (tie.spec
+    Inv-loop
+    μ-loop
     (λ c κs. search needs)
-    (λ c. search needs)
-    (λ c. search needs)
-    (λ c κs. search needs)
-    (λ c. search needs)
-    near-run-requires
-    (λ c. search needs))
+    loop-holds
+    quiet-run-requires
+    sub-with-inner
+    with-inner-requires
+    ending-requires
+    add-i
+    loop-less
+    loop-again
+    loop-less-2
+    loop-again-2
+    returns)
