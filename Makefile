@@ -70,7 +70,7 @@ READER := $(wildcard examples/mdf_*.c) examples/cells.c examples/listing.c
 PROGRAMS := build/make_log build/loader build/refusals
 
 build/make_log: examples/make_log.c examples/pump_records.c examples/new_file.c
-build/loader: examples/loader.c examples/service.c examples/table.c $(READER)
+build/loader: examples/loader.c examples/service.c examples/summary.c examples/table.c $(READER)
 build/refusals: examples/refusals.c $(READER)
 $(PROGRAMS): $(wildcard examples/*.h) include/mf4.h build/libmf4.a | tools
 	@$(CC) $(C_FLAGS) -o $@ $(filter %.c,$^) build/libmf4.a

@@ -1,7 +1,7 @@
 /*
- * Reads a pump log with the library: which channels it has, what each record says, texts of any length too, and which pumps
- * are due for service. All of it is found in the file, by its links from the header block on; of pumps the loader knows the
- * names of two channels and the hours of a service.
+ * Reads a pump log with the library: which channels it has, what each record says, texts of any length too, what all records
+ * say of each number, and which pumps are due for service. All of it is found in the file, by its links from the header block
+ * on; of pumps the loader knows the names of two channels and the hours of a service.
  *
  *     loader FILE
  *
@@ -14,6 +14,7 @@
 
 #include "listing.h"
 #include "service.h"
+#include "summary.h"
 #include "table.h"
 
 static mdf_lists lists;
@@ -58,6 +59,7 @@ static int show_records(mdf_file *file, const mdf_group *group, size_t count, ui
         if (no_service == NULL)
             note_service(&service, &record, &of_service);
     }
+    print_summary(file, group, channels, count);
     if (no_service == NULL)
         print_service(&service);
     else
@@ -81,8 +83,10 @@ static int show_group(mdf_file *file, mdf_group *group)
     is_read = mdf_open_data(file, group, &length) || mdf_complain(file);
     print_channels(file, group, channels, count, length / group->record_size);
     print_size(group, length, is_read);
-    if (count > 0 && length >= group->record_size)
+    if (count > 0 && length >= group->record_size) {
+        mdf_make_chain(file, &lists, group);
         is_read = show_records(file, group, count, length / group->record_size) || mdf_complain(file);
+    }
     return is_whole && is_read;
 }
 

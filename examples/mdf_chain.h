@@ -1,7 +1,7 @@
 /*
- * A single data block made a chain, since the library reads payloads through chains alone, that of the payloads and that of
- * the records: a list of that one block is written into the copy of the file, over the block that links it, which was read
- * already. Nothing is put behind the file's end, so a data block that is cut off there is still refused.
+ * A single data block made a chain, since the library reads payloads and makes reports through chains alone, that of the
+ * payloads and that of the records: a list of that one block is written into the copy of the file, over the block that links
+ * it, which was read already. Nothing is put behind the file's end, so a data block that is cut off there is still refused.
  */
 #ifndef MDF_CHAIN_H
 #define MDF_CHAIN_H

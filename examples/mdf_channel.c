@@ -45,8 +45,7 @@ static int read_texts(mdf_file *file, mdf_channel *channel)
 static void make_chains(mdf_file *file, mdf_lists *lists, mdf_group *group, mdf_channel *channel)
 {
     mf4_channel *described = &channel->described;
-    if (group->start == group->data)
-        group->start = mdf_chain_start(file, lists, group->data, group->address);
+    mdf_make_chain(file, lists, group);
     described->data_addr = mdf_chain_start(file, lists, described->data_addr, channel->address);
 }
 

@@ -105,6 +105,12 @@ int mdf_read_group(mdf_file *file, uint64_t address, mdf_group *group)
     return read_channel_group(file, mdf_link(&block, DG_FIRST_CG), group);
 }
 
+void mdf_make_chain(mdf_file *file, mdf_lists *lists, mdf_group *group)
+{
+    if (group->start == group->data)
+        group->start = mdf_chain_start(file, lists, group->data, group->address);
+}
+
 /* The table of a chain; or of the one data block that is linked in its place, added to an empty table. */
 static uint32_t open_table(const mdf_file *file, mdf_group *group)
 {

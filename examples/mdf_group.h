@@ -25,7 +25,7 @@ typedef struct mdf_group {
     uint64_t address;       /* of its data group block                                                  */
     uint64_t first_channel; /* the first channel's address, or 0                                        */
     uint64_t data;          /* the address of the first data list or of the one data block; 0: no data  */
-    uint64_t start;         /* the same, until a list of the one data block is written for payloads     */
+    uint64_t start;         /* the same, until a list of the one data block is written                  */
     mf4_table table;        /* where the data blocks stand: a fetch need not walk along the chain       */
     int is_walked;          /* but it does, where there are too many blocks for a table                 */
     mf4_group layout;
@@ -46,5 +46,9 @@ int mdf_read_group(mdf_file *file, uint64_t address, mdf_group *group);
 /* Makes the group's table, and gives how many bytes of records there are; of a group without data, 0. Where the chain is
  * refused, `trouble` names the first bad block. */
 int mdf_open_data(mdf_file *file, mdf_group *group, uint64_t *length);
+
+/* Makes a chain of a single data block, if it is none yet: a list of it is written in the place of the group's own block, and is
+ * to be removed when the group has been read. Payloads and reports are read through chains alone. */
+void mdf_make_chain(mdf_file *file, mdf_lists *lists, mdf_group *group);
 
 #endif

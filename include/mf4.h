@@ -1,7 +1,7 @@
 /*
  * mf4.h: the C interface of a formally verified reader of MDF4 files. It reads block headers, data lists, channel
- * descriptions, records and the variable-length values that they refer to (payloads); it decodes and writes values, and
- * detects overlapping channels.
+ * descriptions, records and the variable-length values that they refer to (payloads); it decodes and writes values, reports
+ * on a channel over all records, and detects overlapping channels.
  *
  * Three words: `reply` is the status of a call, MF4_ANSWER (0) or the number of a refusal. `told` is the detail of a refusal,
  * such as the size that would be enough, or 0. A buffer is `lent`: it is the caller's, and the library uses it during the
@@ -35,8 +35,8 @@
 
 #define MF4_VERSION_MAJOR 0
 #define MF4_VERSION_MINOR 6
-#define MF4_VERSION_PATCH 0
-#define MF4_VERSION "0.6.0"
+#define MF4_VERSION_PATCH 1
+#define MF4_VERSION "0.6.1"
 #define MF4_VERSION_NUMBER (MF4_VERSION_MAJOR * 10000 + MF4_VERSION_MINOR * 100 + MF4_VERSION_PATCH)
 
 #ifdef __cplusplus
@@ -98,6 +98,7 @@ enum mf4_reply {
     MF4_TABLE_FULL = 30,         /* a table of more than 512 data blocks                                           */
     MF4_TABLE_EMPTY = 31,        /* a table without a data block to give up                                        */
     MF4_BAD_TABLE = 32,          /* a table that cannot be right, or not of this file                              */
+    MF4_NO_NUMBER_CHANNEL = 33,  /* a channel to report on that is not a number in the record                      */
     MF4_NO_POSITION = 35,        /* a channel whose field in the record is not the position of a payload           */
 
     /* From 256 on: the replies of this header's inline functions, never the library's. */
@@ -139,6 +140,7 @@ static inline const char *mf4_reply_text(uint32_t reply)
     case MF4_TABLE_FULL: return "the table would have over 512 data blocks";
     case MF4_TABLE_EMPTY: return "the table has no data block to give up";
     case MF4_BAD_TABLE: return "the table is damaged, or a data block of it ends behind the file";
+    case MF4_NO_NUMBER_CHANNEL: return "the channel is no fixed number";
     case MF4_NO_POSITION: return "the channel holds no position of a payload";
     case MF4_NO_TEXT_TYPE: return "the data type is no text";
     default: return "no reply of this library";
@@ -603,6 +605,56 @@ mf4_done_reply mf4_read_record(const uint8_t *file, size_t file_len, uint64_t st
 mf4_valid_value_reply mf4_record_value(const uint8_t *file, size_t file_len, uint64_t start, uint64_t number,
                                        uint64_t record_size, mf4_group group, mf4_channel channel, uint8_t *buffer,
                                        size_t buffer_room);
+
+/* ---- one line per channel --------------------------------------------------------------------------------------- */
+
+/* A double, and the number of its record: records are counted from 0, and all of them are. */
+typedef struct mf4_point {
+    uint64_t number;
+    double value;
+} mf4_point;
+
+/* One channel over all records of a chain.
+ *
+ * records: the whole records of the joined data; trailing bytes are none. valid, invalid: those whose value
+ * mf4_decode_valid_value calls valid or not. without_value: those whose field it refuses (18 to 22), which are all records or
+ * none. So records is the sum of these three. nan: the valid ones whose value as a double is NaN.
+ *
+ * has_doubles: 1 if a valid value is a double other than NaN. Then first, last, smallest and largest are the outermost of
+ * these; else 0, and all four are zeros. Integers are compared as the doubles that mf4_decode_double gives, so 2^53 and
+ * 2^53 + 1 are equal. Of equal ones, as 0 and -0 are, the smallest and the largest are the earliest.
+ *
+ * sum_high, sum_low: the exact sum of the valid values of an integer channel, sum_high * 2^64 + sum_low; of floats 0. If it fits
+ * into an int64_t, sum_high is 0 or -1, and the sum is mf4_bits_as_signed(sum_low). */
+typedef struct mf4_report_reply {
+    uint32_t reply;
+    uint64_t told;
+    uint64_t records;
+    uint64_t valid;
+    uint64_t invalid;
+    uint64_t without_value;
+    uint64_t nan;
+    uint8_t has_doubles;
+    mf4_point first;
+    mf4_point last;
+    mf4_point smallest;
+    mf4_point largest;
+    int64_t sum_high;
+    uint64_t sum_low;
+} mf4_report_reply;
+
+/* Reports on a number in the record, with one walk over the records. The last record, if there is one, is afterwards in the first
+ * record_size bytes of the buffer; the bytes behind are unchanged.
+ *
+ *     line = mf4_report(file, file_len, start, record_size, group, channel, buffer, sizeof buffer);
+ *     if (line.reply == MF4_ANSWER && line.has_doubles)
+ *         range = line.largest.value - line.smallest.value;
+ *
+ * Refuses with MF4_BAD_RECORD_SIZE (15); as mf4_data_length does; with MF4_NO_NUMBER_CHANNEL (33) if the data type is not a
+ * number, or the channel has payloads; as mf4_check_validity does of a record of record_size bytes, with MF4_OTHER_LENGTH (28),
+ * MF4_BIT_OUTSIDE (29): also if there is no record. */
+mf4_report_reply mf4_report(const uint8_t *file, size_t file_len, uint64_t start, uint64_t record_size, mf4_group group,
+                            mf4_channel channel, uint8_t *buffer, size_t buffer_room);
 
 /* ---- records through a table ------------------------------------------------------------------------------------ */
 

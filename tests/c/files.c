@@ -124,6 +124,21 @@ static int length_agrees(mf4_length_reply length, mf4_done_reply fetched)
     return length_is(length, fetched.reply, fetched.told, 0);
 }
 
+/* A byte of each record, which always has a value. */
+static void check_report(lent file, uint64_t start, uint64_t record_size, lent buffer, mf4_done_reply fetched)
+{
+    const mf4_length_reply length = mf4_data_length(file.bytes, file.length, start);
+    const mf4_group group = { 0, (uint32_t)record_size, 0 };
+    const mf4_channel byte = { MF4_TYPE_UNSIGNED_LE, 0, 0, 0, 8, 0, 0, 0 };
+    lent twin = lend_copy(TWIN_OUTPUT, buffer.bytes, buffer.length);
+    mf4_report_reply line = mf4_report(file.bytes, file.length, start, record_size, group, byte, twin.bytes, twin.length);
+    if (fetched.reply == MF4_ANSWER || fetched.reply == MF4_NO_SUCH_RECORD)
+        CHECK(line.reply == MF4_ANSWER && line.told == 0 && line.valid == length.length / record_size);
+    else
+        CHECK(line.reply == fetched.reply && line.told == fetched.told && line.records == 0 && is_unchanged(twin));
+    CHECK(is_unchanged_from(twin, line.records > 0 ? (size_t)record_size : 0));
+}
+
 mf4_done_reply fetch(uint64_t start, uint64_t number, uint64_t record_size, lent buffer)
 {
     lent file = lend_file(), table = lend_opened(file, start), twin = lend_copy(TWIN_OUTPUT, buffer.bytes, buffer.length);
@@ -135,6 +150,7 @@ mf4_done_reply fetch(uint64_t start, uint64_t number, uint64_t record_size, lent
         CHECK(done_is(fetch_by(file, table, number, record_size, twin), answer.reply, answer.told));
         CHECK(same_bytes(twin.bytes, buffer.bytes, buffer.length));
     }
+    check_report(file, start, record_size, buffer, answer);
     return answer;
 }
 

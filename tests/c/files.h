@@ -49,8 +49,8 @@ size_t add_narrow_list(size_t block);
 /* The file lent as it stands. */
 lent lend_file(void);
 
-/* Each fetch is also a check that mf4_data_length answers, or refuses alike, and that a table of the chain, if there is one,
- * gives the same. */
+/* Each fetch is also a check that mf4_data_length and mf4_report answer, or refuse alike, and that a table of the chain, if there
+ * is one, gives the same. */
 mf4_done_reply fetch(uint64_t start, uint64_t number, uint64_t record_size, lent buffer);
 
 int fetches(uint64_t number, uint64_t record_size, const char *record);

@@ -75,7 +75,7 @@ static void check_reply_texts(void)
     uint32_t reply;
     name_case("replies in words");
     for (reply = 0; reply <= 40; reply++)
-        CHECK((strcmp(mf4_reply_text(reply), no_reply) != 0) == ((reply <= 32 && reply != 1 && reply != 14) || reply == 35));
+        CHECK((strcmp(mf4_reply_text(reply), no_reply) != 0) == ((reply <= 33 && reply != 1 && reply != 14) || reply == 35));
 }
 
 void check_headers(void)

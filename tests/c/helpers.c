@@ -131,6 +131,12 @@ static void check_names_of_refused_tables(void)
     CHECK(MF4_MAX_TABLE_FRAGMENTS == 512 && sizeof(mf4_table) == 8208);
 }
 
+static void check_names_of_a_report(void)
+{
+    name_case("names of a report's refusal");
+    CHECK(MF4_NO_NUMBER_CHANNEL == 33 && strcmp(mf4_reply_text(33), "the channel is no fixed number") == 0);
+}
+
 static void check_reply_of_helpers(void)
 {
     name_case("the helpers' own reply");
@@ -150,5 +156,6 @@ void check_helpers(void)
     check_names_of_refused_numbers();
     check_names_of_refused_areas();
     check_names_of_refused_tables();
+    check_names_of_a_report();
     check_reply_of_helpers();
 }

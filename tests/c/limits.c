@@ -117,6 +117,7 @@ static void check_everything(void)
     check_table_histories();
     check_table_records();
     check_bad_tables();
+    check_reports();
     check_payloads();
     check_refused_payloads();
 }

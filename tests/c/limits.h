@@ -60,6 +60,7 @@ void check_tables(void);
 void check_table_histories(void);
 void check_table_records(void);
 void check_bad_tables(void);
+void check_reports(void);
 void check_payloads(void);
 void check_refused_payloads(void);
 

@@ -45,6 +45,9 @@ static void check_long_file(const uint8_t *file, long_case a)
     CHECK(done_is(mf4_read_record(file, a.length, a.start, 0, 9, buffer.bytes, 8), 15, 0));
     CHECK(valid_value_refused(mf4_record_value(file, a.length, a.start, 0, 8, group, byte, buffer.bytes, 8), a.reply, 0));
     CHECK(valid_value_refused(mf4_record_value(file, a.length, a.start, 0, 9, group, byte, buffer.bytes, 8), 15, 0));
+    CHECK(mf4_report(file, a.length, a.start, 8, group, byte, buffer.bytes, 8).reply == a.reply);
+    CHECK(mf4_report(file, a.length, a.start, 8, group, position, buffer.bytes, 8).reply == a.reply);
+    CHECK(mf4_report(file, a.length, a.start, 9, group, byte, buffer.bytes, 8).reply == 15);
     CHECK(payload_refused(ask_payload(file, a, 8, position, buffer), a.reply, 0));
     CHECK(payload_refused(ask_payload(file, a, 9, position, buffer), 15, 0));
     CHECK(payload_refused(ask_payload(file, a, 9, byte, buffer), 35, 0));

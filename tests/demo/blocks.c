@@ -44,6 +44,10 @@ static void add_group(void)
     must_say(&bad, "two groups", 0, "48 bytes, 1 record of 48; the file counts 6 records\n");
     must_hold(times_said("       0          0.25  PX1  ") == 2, "a single data block", 0);
     must_hold(times_said("dock 3      -\n") == 2, "payloads of a single data block", 0);
+    must_hold(times_said("  180 (0)  180\n") == 1, "numbers of a single data block", 0);
+    put(link_at("##CN", STATUS, 0), 0, 8);
+    must_say(&bad, "numbers of a single data block, without payloads", 0, "  180 (0)  180\n");
+    put(link_at("##CN", STATUS, 0), block("##CN", SITE), 8);
     put(data + 8, 24 + 49, 8);
     must_say(&bad, "a single block past the end", 1, " has a length of 73, and the file ends at ");
     must_hold(strncmp(tried_out, good_out, strlen(good_out)) == 0, "the group in front", 0);

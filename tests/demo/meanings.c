@@ -1,4 +1,4 @@
-/* What values mean: channel types, conversions, and the service that is due by them. */
+/* What values mean: channel types, conversions, what all records say, and the service that is due by them. */
 #include <string.h>
 
 #include "damage.h"
@@ -61,9 +61,27 @@ static void change_service(void)
     must_hold(times_said("damaged or no text: 1\n") == 1, "a damaged serial", 0);
 }
 
+/* The coolant's factor below 0 makes its smallest the largest. Of record 0 the hours, 64 bits in nine bytes, are made -2^63. */
+static void change_summary(void)
+{
+    const uint64_t factor = block("##CC", 0) + 24 + 32 + 32, hours = block("##DT", 0) + 24 + 14;
+    must_hold(strstr(good_out, "  1152921504606849178\n") != NULL, "the sum of hours", 0);
+    changed(factor, UINT64_C(0xBFB0000000000000), 8, 0, "  -87.125 (2)                   7.25 (3)  -\n");
+    changed(fields_of(HOURS) + 8, 0, 4, 0, "  hours    h     no value in any record\n");
+    changed(fields_of(OIL) + 16, 8, 4, 0, "  oil      \xC2\xB0" "C    refused, as told above\n");
+    changed(fields_of(OIL) + 12, 1, 4, 0, "  oil      \xC2\xB0" "C            0          6          0                          -  ");
+    changed(fields_of(TIME) + 2, 7, 1, 0, "  name     unit      valid  not valid        NaN  ");
+    must_hold(times_said("  time     ") == 1, "a text has no line", 0);
+    bad = good;
+    put(fields_of(HOURS) + 2, MF4_TYPE_SIGNED_LE, 1);
+    put(hours, 0, 8), put(hours + 8, 8, 1);
+    must_say(&bad, "a sum below 0", 0, "  -8070450532247926810\n");
+}
+
 void damage_meanings(void)
 {
     change_types();
     change_conversions();
+    change_summary();
     change_service();
 }

@@ -98,6 +98,7 @@ int LLVMFuzzerTestOneInput(const uint8_t *data, size_t size)
     exercise_chain(&log, how);
     exercise_payload(&log, how);
     exercise_tables(&log, how);
+    exercise_report(&log, how);
     exercise_record();
     exercise_overlap(how);
     exercise_part(&log, how);

@@ -49,6 +49,7 @@ int is_bad_size(uint64_t record_size, size_t room);
 #define RECORD_REPLIES (CHAIN_REPLIES | REPLY(15) | REPLY(16))
 
 void exercise_chain(const log_file *log, reading how);
+void exercise_report(const log_file *log, reading how);
 
 /* Damages a block of the file now and then. */
 void exercise_tables(log_file *log, reading how);

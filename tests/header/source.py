@@ -5,8 +5,9 @@ from pathlib import Path
 
 from scheme import IN_PLACE, LENT_WHOLE
 
-NUMBERS = {"u8": "uint8_t", "u16": "uint16_t", "u32": "uint32_t", "u64": "uint64_t", "i64": "int64_t"}
-SIZES = {"uint8_t": 1, "uint16_t": 2, "uint32_t": 4, "uint64_t": 8, "int64_t": 8}
+NUMBERS = {"u8": "uint8_t", "u16": "uint16_t", "u32": "uint32_t", "u64": "uint64_t", "i64": "int64_t",
+           "f64": "double"}
+SIZES = {"uint8_t": 1, "uint16_t": 2, "uint32_t": 4, "uint64_t": 8, "int64_t": 8, "double": 8}
 
 STRUCT = re.compile(r"#\[repr\(C\)\]\s*pub struct (\w+) \{(.*?)\}", re.S)
 CALL = re.compile(r'#\[no_mangle\]\s*pub extern "C" fn (\w+)\((.*?)\) -> (\w+)', re.S)

@@ -1659,6 +1659,196 @@ def record_area_boundaries(rng):
             yield "record_value", (file, chain.start, 0, 5, group, as_payload(rng, Channel(10)), out_buffer(rng, 5))
 
 
+# ---- one channel over all records --------------------------------------------------------------------------------------
+
+
+def records_with(rng, fields, group, channel):
+    """A record for each of the fields, with any bits around it."""
+    place, records = group.record_id_size + channel.byte_offset, b""
+    for field in fields:
+        content = bits_in_record(rng, field, channel.bit_count, channel.bit_offset, channel.data_type in (1, 3, 5))
+        record = some_bytes(rng, sum(group))
+        records += record[:place] + content + record[place + len(content):]
+    return records
+
+
+def reported(rng, data, group, channel, most=None, room=None):
+    """A report of joined data that is cut anywhere, behind which there may be a part of a record."""
+    size = sum(group)
+    data += rng.randbytes(rng.choice([0, 0, 1, size - 1]))
+    chain = cut_chain(rng, data, DATA_ID, most=most or rng.choice([1, 2, 5, size, size + 1, 3 * size, 100]))
+    buffer = out_buffer(rng, size + rng.choice([0, 0, 1, 9]) if room is None else room)
+    return "report", (chain.file(), chain.start, size, group, channel, buffer)
+
+
+def report_case(rng, fields, data_type, bit_count, bit_offset=None, flags=None, around=None):
+    """A report of these fields in turn. around: the bytes of the id, before the field, behind it and of invalidation bits."""
+    bit_offset = rng.randint(0, 7) if bit_offset is None else bit_offset
+    id_size, before, behind, invalidation_bytes = around or rng.choice(
+        [(0, 0, 0, 0), (0, 0, 0, 1), (1, 0, 0, 0), (0, 2, 0, 1), (0, 0, 1, 0), (2, 1, 3, 2), (8, 0, 9, 1), (0, 9, 0, 0)])
+    flags = rng.choice([0, 0, 0, 4] + [2, 2, 2, 6, 1, 3] * (invalidation_bytes > 0)) if flags is None else flags
+    channel = Channel(data_type, rng.choice([0, 0, 1, 2, 255]), bit_offset, before, bit_count, flags,
+                      rng.randrange(8 * invalidation_bytes) if invalidation_bytes else 0)
+    group = Group(id_size, before + (bit_offset + bit_count + 7) // 8 + behind, invalidation_bytes)
+    return reported(rng, records_with(rng, fields, group, channel), group, channel)
+
+
+def hard_fields(rng, bit_count):
+    """Those of an integer at the ends of its range as unsigned and as signed, some of them more than once."""
+    ends = [0, 1, 2**bit_count - 1, 2**(bit_count - 1), 2**(bit_count - 1) - 1, hard_integer(rng, bit_count)]
+    return [rng.choice(ends) % 2**bit_count for _ in range(rng.choice([0, 1, 2, 3, 5, 9]))]
+
+
+def report_width_boundaries(rng):
+    """Each width at each bit offset, so over nine bytes too, in both orders, with and without a sign."""
+    for data_type, bit_count, bit_offset in itertools.product(range(4), range(1, 65), range(8)):
+        yield report_case(rng, hard_fields(rng, bit_count), data_type, bit_count, bit_offset)
+    for data_type, bit_count, bit_offset in itertools.product((4, 5), (32, 64), range(8)):
+        yield report_case(rng, [hard_float(rng, bit_count) for _ in range(6)], data_type, bit_count, bit_offset)
+
+
+def report_short_boundaries(rng):
+    """Records of one to nine bytes, with a field at each of their places, up to the end or of one bit; as many records as one
+    fragment can have, and as many fragments as a record."""
+    for size, data_type, most in itertools.product(range(1, 10), range(4), (1, 2, 3, 7, 8, 9, 64)):
+        for place in range(size):
+            channel = Channel(data_type, 0, 0, place, min(64, rng.choice([1, 8 * (size - place)])))
+            group = Group(0, size)
+            data = records_with(rng, hard_fields(rng, channel.bit_count), group, channel)
+            yield reported(rng, data, group, channel, most)
+
+
+# Of 32 bits and of 64: the zeros, a number and its negative, the infinities, the smallest, and a NaN of either sign.
+REPORTED_FLOATS = {32: (0, 2**31, 0x3F800000, 0xBF800000, 0x7F800000, 0xFF800000, 1, 0x7FC00000, 0xFFC00001),
+                   64: (0, 2**63, 0x3FF << 52, 0xBFF << 52, 0x7FF << 52, 0xFFF << 52, 1, 0x7FF8 << 48, 0xFFF0000000000001)}
+
+
+def report_float_boundaries(rng):
+    """Three floats in every order, with each more than once."""
+    for bit_count, floats in REPORTED_FLOATS.items():
+        for fields in itertools.product(floats, repeat=3):
+            yield report_case(rng, fields, rng.choice([4, 5]), bit_count, rng.choice([0, 0, rng.randint(1, 7)]), flags=0)
+    for count, pattern in itertools.product((0, 1, 2), (0x7FF0000000000001, 0xFFF8 << 48)):  # NaN alone
+        yield report_case(rng, [pattern] * count, 4, 64)
+
+
+def report_rounding_boundaries(rng):
+    """Integers over 2^53, of which several are one double, in every order: equal as doubles, and not in the sum."""
+    for data_type, bit_count in itertools.product(range(4), (55, 63, 64)):
+        near = [2**53 + step for step in (-1, 0, 1, 2)]
+        high = [2**(bit_count - 1) - step for step in (0, 1, 2, 1024)]
+        for numbers in (near, high, [-number for number in near], [-number for number in high], near[:2] + high[:2]):
+            for fields in itertools.permutations([number % 2**bit_count for number in numbers], 3):
+                yield report_case(rng, fields, data_type, bit_count, flags=0)
+
+
+def report_sum_boundaries(rng):
+    """Sums that carry into the high word and borrow from it, in one step and back."""
+    for data_type, fields in itertools.product(range(4), (
+            [U64] * 2, [U64, 1], [U64, 0], [2**63] * 2, [2**63] * 3, [2**63 - 1] * 3, [U64] * 40, [2**63] * 40,
+            [1, 2**63, 2**63], [2**63 - 1, 1, U64], [0, U64, 1], [U64, U64, 1, 1], [2**63, 2**63 - 1, 2**63, 2**63 - 1])):
+        yield report_case(rng, fields, data_type, 64, rng.choice([0, 5]), flags=0)
+        yield report_case(rng, fields, data_type, 64, rng.choice([0, 5]), flags=2, around=(0, 0, 0, 1))
+    for data_type, bit_count in itertools.product(range(4), (1, 8, 63)):
+        yield report_case(rng, [2**bit_count - 1] * 20, data_type, bit_count, flags=0)
+
+
+def report_validity_boundaries(rng):
+    """Each pattern of valid records among four, by a bit that is any of the invalidation bytes."""
+    for valid, position, data_type in itertools.product(range(16), (0, 3, 7, 8, 15), (0, 3, 4)):
+        group, channel = Group(1, 8, 2), Channel(data_type, 0, 0, 0, 64, 2, position)
+        records = records_with(rng, [hard_float(rng, 64) for _ in range(4)], group, channel)
+        data = bytearray(records)
+        for number in range(4):
+            bit = 1 << position % 8
+            place = 11 * number + 9 + position // 8
+            data[place] = data[place] & ~bit if valid >> number & 1 else data[place] | bit
+        yield reported(rng, bytes(data), group, channel)
+    for flags, count in itertools.product(ALL_FLAGS, (0, 1, 3)):
+        yield report_case(rng, [7] * count, 0, 8, 0, flags, (0, 0, 0, 1))
+
+
+def no_values():
+    """Numbers that have no value in a record of four bytes: one of each cause, and two."""
+    return (Channel(0), Channel(4), Channel(1, bit_offset=8, bit_count=8), Channel(2, bit_offset=255, bit_count=65),
+            Channel(3, bit_count=65), Channel(0, bit_count=U32), Channel(0, byte_offset=4, bit_count=8),
+            Channel(0, byte_offset=U32, bit_count=64), Channel(5, byte_offset=1, bit_count=32), Channel(4, bit_count=16),
+            Channel(5, bit_count=31), Channel(4, bit_offset=1, bit_count=32))
+
+
+def report_refusal_boundaries(rng):
+    """Channels without a value, with any flags; channels that are no fixed numbers; and both beside another length and a bit that
+    is outside."""
+    others = [Channel(code, kind, 0, 0, 8, data_addr=data) for code, kind, data in itertools.product(
+        TYPE_CODES, (0, 1, 2), (0, 9))]
+    for channel, count in itertools.product((*no_values(), *others), (0, 1, 3)):
+        data = rng.randbytes(4 * count)
+        for flags, position in ((0, 8), (1, 8), (2, 7), (2, 8), (3, 8)):
+            asked = channel._replace(flags=flags, pos_invalidation_bit=position)
+            yield reported(rng, data, Group(0, 3, 1), asked)
+            call, arguments = reported(rng, data, Group(0, 3, 1), asked)
+            yield call, (*arguments[:3], rng.choice([Group(0, 4, 1), Group(0, 2, 1), Group(U64, 5, 0)]), *arguments[4:])
+
+
+def report_area_boundaries(rng):
+    """Sizes around the group's, flags, and positions around the end of the invalidation bytes; with records and without."""
+    for size, flags, step in itertools.product((1, 4, 5, 5, 6), ALL_FLAGS, (-9, -1, 0, 1, U32)):
+        invalidation_bytes = rng.randint(0, min(3, size))
+        channel = Channel(rng.choice([0, 2]), 0, 0, 0, 8, flags, min(U32, max(0, 8 * invalidation_bytes + step)))
+        call, arguments = reported(rng, rng.randbytes(rng.choice([0, 4, 5, 16])), Group(0, 5), channel)
+        yield call, (*arguments[:3], whole_group(size, 0, invalidation_bytes), *arguments[4:])
+    for group in far_groups():
+        if sum(group) % 2**64 == 5 or sum(group) % 2**32 == 5:
+            call, arguments = reported(rng, bytes(10), Group(0, 5), Channel(bit_count=8))
+            yield call, (*arguments[:3], group, *arguments[4:])
+
+
+def report_order_boundaries(rng):
+    """A bad record size, a file that is too long, a chain that is refused, no fixed number, another length, a bit outside, no
+    value: each beside each other one."""
+    channels = (Channel(bit_count=8), Channel(6, bit_count=8), as_payload(rng, Channel(bit_count=8)), Channel(bit_count=0))
+    groups = (Group(0, 4), Group(0, 5), Group(0, 3, 1))
+    sizes = ((4, 4), (4, 9), (0, 4), (4, 3), (4, 0), (16385, 16385), (U64, 4))
+    for channel, group, flags, (size, room) in itertools.product(channels, groups, (0, 2), sizes):
+        for fault in (None, "chain", "file", "both"):
+            chain = cut_chain(rng, rng.randbytes(11), DATA_ID)
+            if fault in ("chain", "both"):
+                broken_chain(rng, chain)
+            file = LongFile(2**40 + 1) if fault in ("file", "both") else chain.file()
+            asked = channel._replace(flags=flags, pos_invalidation_bit=8)
+            yield "report", (file, chain.start, size, group, asked, out_buffer(rng, room))
+
+
+def report_size_boundaries(rng):
+    """The longest record, alone and twice, with a field and a bit at its end; data that is a byte shorter; more than 4,000
+    fragments; and records that fragments without data cut."""
+    for length in (16384, 16383, 2 * 16384):
+        channel = Channel(rng.choice([0, 3]), 0, 4, 16384 - 10, 64, 2, 7)
+        chain = cut_chain(rng, rng.randbytes(length), DATA_ID, most=10000)
+        for size, room in ((16384, 16384), (16384, 16383), (16384, 16390), (16385, 16390)):
+            yield "report", (chain.file(), chain.start, size, Group(0, 16383, 1), channel, bytes(room))
+    for count, size in itertools.product((1, 4095, 4096, 4097), (1, 2, 5)):
+        chain = Chain(rng, [b"\1\2\xff"], [[0] * count], is_equal=True, gap=0)
+        yield "report", (chain.file(), chain.start, size, Group(0, size), Channel(2, bit_count=8), out_buffer(rng, size))
+    for counts, lengths in (((4,), (0, 1, 0, 2)), ((2, 2), (3, 0, 0, 1)), ((3, 0, 2), (0, 0, 5, 0, 1)), ((0,), ()), ((2,), (0, 0))):
+        chain = counted_chain(rng, counts, False, dict(enumerate(lengths)))
+        for size in (1, 2, 3, 7):
+            yield "report", (chain.file(), chain.start, size, Group(0, size), Channel(bit_count=8), out_buffer(rng, size))
+
+
+def random_report_case(rng):
+    """Any chain, at times damaged, and a channel in its records that mostly is a number."""
+    chain = random_chain(rng, 20)
+    for _ in range(rng.choice([0, 0, 0, 0, 0, 1])):
+        rng.choice([damage_list, damage_data])(rng, chain)
+    size = rng.choice([1, 2, 3, 4, 5, 8, 9, 16, rng.randint(1, 20)])
+    group = some_group(rng, size, rng.choice([0, 0, 0, 1]))
+    channel = random_channel(rng, size, group)._replace(data_type=rng.choice([0, 1, 2, 3, 4, 5, rng.choice(TYPE_CODES)]))
+    if rng.random() < 0.6:  # one that is not refused
+        channel = channel._replace(byte_offset=0, bit_offset=0, bit_count=min(64, 8 * (size - group.record_id_size) or 8))
+    return "report", (chain.file(), chain.start, size, group, channel, record_buffer(rng, size))
+
+
 # ---- files with payloads -----------------------------------------------------------------------------------------------
 
 
@@ -1990,8 +2180,8 @@ def as_either_chain(file, start, number, record_size, buffer):
 
 
 def asked_by_every_call(chain_cases):
-    """The same cases; and each chain that is asked for records is also asked once for its length, its table, a value and
-    payloads."""
+    """The same cases; and each chain that is asked for records is also asked once for its length, its table, a value, a report
+    and payloads."""
     asked = None
     for call, arguments in chain_cases:
         yield call, arguments
@@ -1999,7 +2189,9 @@ def asked_by_every_call(chain_cases):
             asked = arguments[:2]
             yield "data_length", asked
             yield "open_table", (*asked, SMALL_TABLE)
-            yield "record_value", (*arguments[:4], Group(0, min(arguments[3], U32)), Channel(bit_count=8), arguments[4])
+            group, channel = Group(0, min(arguments[3], U32)), Channel(bit_count=8)
+            yield "record_value", (*arguments[:4], group, channel, arguments[4])
+            yield "report", (*asked, arguments[3], group, channel, arguments[4])
             yield from as_either_chain(*arguments)
 
 
@@ -2368,13 +2560,18 @@ PAYLOAD_BOUNDARIES = (payload_cut_boundaries, payload_place_boundaries, payload_
                       payload_validity_boundaries, position_field_boundaries, payload_link_boundaries,
                       payload_buffer_boundaries, large_payload_boundaries, payload_order_boundaries)
 
+REPORT_BOUNDARIES = (report_width_boundaries, report_short_boundaries, report_float_boundaries, report_rounding_boundaries,
+                     report_sum_boundaries, report_validity_boundaries, report_refusal_boundaries, report_area_boundaries,
+                     report_order_boundaries, report_size_boundaries)
+
 TABLE_BOUNDARIES = (open_limit_boundaries, table_fetch_boundaries, many_fragment_boundaries, table_damage_boundaries,
                     full_table_boundaries, long_table_boundaries, extend_boundaries, extend_order_boundaries,
                     fetch_order_boundaries, short_history_boundaries, full_history_boundaries, random_history_boundaries)
 
 RANDOM_CASES = ([random_header_case] + [random_list_case] * 2 + [random_channel_block_case] * 2 + [random_value_case] * 6
                 + [random_area_case] * 2 + [random_write_case] * 4 + [random_overlap_case] * 2 + [random_text_case] * 4
-                + [random_chain_case] * 5 + [random_payload_case] * 4 + [random_table_case] * 2 + [random_history])
+                + [random_chain_case] * 5 + [random_payload_case] * 4 + [random_table_case] * 2 + [random_history]
+                + [random_report_case] * 4)
 
 # The replies of each call that has any, which the boundary cases reach.
 FIELD_REPLIES = {0, 18, 19, 20, 21, 22}
@@ -2400,6 +2597,7 @@ REPLIES = {
     "data_length": CHAIN_REPLIES,
     "read_record": CHAIN_REPLIES | {15, 16},
     "record_value": CHAIN_REPLIES | FIELD_REPLIES | AREA_REPLIES | {15, 16},
+    "report": CHAIN_REPLIES | AREA_REPLIES | {15, 33},
     "open_table": CHAIN_REPLIES | {30},
     "extend_table": {0, 7, 11, 12, 30, 32},
     "shorten_table": {0, 31, 32},
@@ -2410,7 +2608,7 @@ REPLIES = {
 
 
 def boundary_cases(seed):
-    for boundaries in BOUNDARIES + PAYLOAD_BOUNDARIES + TABLE_BOUNDARIES:
+    for boundaries in BOUNDARIES + PAYLOAD_BOUNDARIES + TABLE_BOUNDARIES + REPORT_BOUNDARIES:
         yield from boundaries(random.Random(f"{seed} {boundaries.__name__}"))
     for boundaries in CHAIN_BOUNDARIES:
         yield from asked_by_every_call(boundaries(random.Random(f"{seed} {boundaries.__name__}")))

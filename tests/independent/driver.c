@@ -506,6 +506,31 @@ static void print_valid_value(mf4_valid_value_reply answer)
     print_content(answer.number, answer.at, answer.length);
 }
 
+static void print_point(mf4_point point)
+{
+    uint64_t bits;
+    memcpy(&bits, &point.value, sizeof bits);
+    print_number("number", point.number);
+    print_number("value", bits);
+}
+
+static void print_report(mf4_report_reply answer)
+{
+    print_reply(answer.reply, answer.told);
+    print_number("records", answer.records);
+    print_number("valid", answer.valid);
+    print_number("invalid", answer.invalid);
+    print_number("without_value", answer.without_value);
+    print_number("nan", answer.nan);
+    print_number("has_doubles", answer.has_doubles);
+    print_point(answer.first);
+    print_point(answer.last);
+    print_point(answer.smallest);
+    print_point(answer.largest);
+    printf(" sum_high=%" PRId64, answer.sum_high);
+    print_number("sum_low", answer.sum_low);
+}
+
 static void print_payload(mf4_payload_reply answer)
 {
     print_reply(answer.reply, answer.told);
@@ -806,6 +831,20 @@ static void record_value(void)
     print_out(buffer);
 }
 
+static void report(void)
+{
+    slice *file = next_input();
+    uint64_t start = next_u64();
+    uint64_t record_size = next_u64();
+    mf4_group group = next_group();
+    mf4_channel channel = next_channel();
+    slice *buffer = next_output();
+    if (is_malformed)
+        return;
+    print_report(mf4_report(file->bytes, file->length, start, record_size, group, channel, buffer->bytes, buffer->length));
+    print_out(buffer);
+}
+
 static void change_table(mf4_done_reply (*call)(const uint8_t *, size_t, uint64_t, mf4_table *))
 {
     slice *file = next_input();
@@ -1013,6 +1052,7 @@ static const struct {
     {"data_length", data_length},
     {"read_record", read_record},
     {"record_value", record_value},
+    {"report", report},
     {"open_table", open_table},
     {"extend_table", extend_table},
     {"shorten_table", shorten_table},

@@ -2,7 +2,7 @@
 
 A case is a call's name and its arguments in the order of reference.py; or "history", and those of histories.py. As words:
 
-    number      decimal
+    number      decimal, in a result with its sign if it is below 0
     bytes       x and hex digits; "HEX*COUNT" repeats, "+" joins:  x0102  xa5*100  x01+00*30+02
                 an empty slice is "x", or "-" for a NULL pointer with the count 0
     long file   z and a length: a file or a record of that length, of which no byte may be looked at
@@ -80,6 +80,7 @@ CALLS = {
     "data_length": (reference.data_length, (BYTES, NUMBER)),
     "read_record": (reference.read_record, (BYTES, NUMBER, NUMBER, NUMBER, BYTES)),
     "record_value": (reference.record_value, (BYTES, NUMBER, NUMBER, NUMBER, GROUP, CHANNEL, BYTES)),
+    "report": (reference.report, (BYTES, NUMBER, NUMBER, GROUP, CHANNEL, BYTES)),
     "open_table": (reference.open_table, (BYTES, NUMBER, TABLE)),
     "extend_table": (reference.extend_table, (BYTES, NUMBER, TABLE)),
     "shorten_table": (reference.shorten_table, (TABLE,)),

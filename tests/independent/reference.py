@@ -60,6 +60,7 @@ BIT_OUTSIDE = 29
 TABLE_FULL = 30
 TABLE_EMPTY = 31
 BAD_TABLE = 32
+NO_NUMBER_CHANNEL = 33
 NO_POSITION = 35
 NO_TEXT_TYPE = 256  # of a helper of mf4.h, not of the library
 
@@ -234,6 +235,30 @@ class Length(NamedTuple):
     length: int = 0
 
 
+class Point(NamedTuple):
+    """A record's number, and a double's bits."""
+    number: int = 0
+    value: int = 0
+
+
+class Report(NamedTuple):
+    """sum_high: signed."""
+    reply: int = ANSWER
+    told: int = 0
+    records: int = 0
+    valid: int = 0
+    invalid: int = 0
+    without_value: int = 0
+    nan: int = 0
+    has_doubles: int = 0
+    first: Point = Point()
+    last: Point = Point()
+    smallest: Point = Point()
+    largest: Point = Point()
+    sum_high: int = 0
+    sum_low: int = 0
+
+
 class Fragment(NamedTuple):
     block_addr: int = 0
     data_position: int = 0
@@ -248,7 +273,7 @@ class Table(NamedTuple):
 
 # ---- the version -------------------------------------------------------------------------------------------------------
 
-MAJOR, MINOR, PATCH = 0, 6, 0
+MAJOR, MINOR, PATCH = 0, 6, 1
 
 
 def version():
@@ -636,7 +661,11 @@ def decode_valid_value_unbounded(record, group, channel):
 def decode_double_bits(record, id_size, channel):
     if is_variable_length(channel):
         return NAN  # even where the payload holds a number
-    value = decode_value(record, id_size, channel)
+    return double_in(decode_value(record, id_size, channel))
+
+
+def double_in(value):
+    """The bits of a value as a double."""
     if value.kind == UNSIGNED_KIND:
         return nearest_double(value.number)
     if value.kind == SIGNED_KIND:
@@ -1007,6 +1036,66 @@ def value_fetched(fetched, buffer, record_size, group, channel):
 
 def record_value(file, start, number, record_size, group, channel, buffer):
     return value_fetched(*read_record(file, start, number, record_size, buffer), record_size, group, channel)
+
+
+# ---- one channel over all records --------------------------------------------------------------------------------------
+
+
+def float_of(bits):
+    """Python compares these as the rules say: the two zeros are equal, and a NaN is not even equal to itself."""
+    return struct.unpack("<d", struct.pack("<Q", bits))[0]
+
+
+def is_nan(bits):
+    return float_of(bits) != float_of(bits)
+
+
+def integer_in(value):
+    """What a value adds to the sum."""
+    if value.kind == DOUBLE_KIND:
+        return 0
+    return signed_of(value.number) if value.kind == SIGNED_KIND else value.number
+
+
+def outermost(points):
+    """The four fields of a report. min() and max() keep the first of equal ones."""
+    def as_float(point):
+        return float_of(point.value)
+    if not points:
+        return {}
+    return {"has_doubles": 1, "first": points[0], "last": points[-1], "smallest": min(points, key=as_float),
+            "largest": max(points, key=as_float)}
+
+
+def report_of(values):
+    """Of the values of all records in turn, each with its validity, or refused."""
+    refused = [value for value in values if value.reply != ANSWER]
+    valid = [(number, value) for number, value in enumerate(values) if value.is_valid]
+    doubles = [Point(number, double_in(value)) for number, value in valid]
+    total = sum(integer_in(value) for _, value in valid)
+    return Report(
+        records=len(values),
+        valid=len(valid),
+        invalid=len(values) - len(valid) - len(refused),
+        without_value=len(refused),
+        nan=sum(is_nan(point.value) for point in doubles),
+        **outermost([point for point in doubles if not is_nan(point.value)]),
+        sum_high=total // 2**64,
+        sum_low=total % 2**64)
+
+
+def report(file, start, record_size, group, channel, buffer):
+    """A record of that size is asked once for 28 and 29, even if there is none: its bytes play no part in them."""
+    try:
+        check_record_size(record_size, len(buffer))
+        joined = joined_data(file, start)
+        refuse_if(channel.data_type not in NUMBERS or is_variable_length(channel), NO_NUMBER_CHANNEL)
+        validity_of(bytes(record_size), group, channel)
+        records = [joined[end - record_size:end] for end in range(record_size, len(joined) + 1, record_size)]
+        after = placed(records[-1], buffer) if records else buffer
+        return report_of([decode_valid_value(record, group, channel) for record in records]), after
+    except Refusal as refusal:
+        return Report(refusal.number, refusal.told), buffer
 
 
 # ---- from table to record ----------------------------------------------------------------------------------------------

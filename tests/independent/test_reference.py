@@ -237,6 +237,49 @@ def example_chain():
                   (wanted, hexed("03 04")))
 
 
+def reported(data, size, group, channel, room=b"." * 9):
+    """Of joined data in fragments of five bytes."""
+    chain = cases.cut_chain(random.Random(2), data, cases.DATA_ID, is_equal=True, most=5)
+    return r.report(chain.file(), chain.start, size, group, channel, room)
+
+
+def points(**numbered):
+    return {name: r.Point(number, bits_of(double)) for name, (number, double) in numbered.items()}
+
+
+def example_reports():
+    pumped = hexed("0500 00  0300 00  0900 01  0300 00  0700 00") + b"\xff\xff"
+    level = field(r.UNSIGNED_LE, 16, flags=2)
+    found = points(first=(0, 5.0), last=(4, 7.0), smallest=(1, 3.0), largest=(4, 7.0))
+    check("five records, the third invalid", reported(pumped, 3, Group(0, 2, 1), level),
+          (r.Report(records=5, valid=4, invalid=1, has_doubles=1, **found, sum_low=18), hexed("0700 00") + b"." * 6))
+    check("all invalid", reported(pumped, 3, Group(0, 2, 1), level._replace(flags=1)),
+          (r.Report(records=5, invalid=5), hexed("0700 00") + b"." * 6))
+    check("no value", reported(pumped, 3, Group(0, 2, 1), level._replace(byte_offset=2)),
+          (r.Report(records=5, without_value=5), hexed("0700 00") + b"." * 6))
+    check("no record", reported(pumped[:2], 3, Group(0, 2, 1), level), (r.Report(), b"." * 9))
+    for wanted, channel, group in ((33, field(r.UTF8, 16), Group()), (28, level, Group(0, 2)), (29, level, Group(0, 3)),
+                                   (33, level._replace(channel_type=1, data_addr=8), Group())):
+        for data in (pumped, b""):
+            check(f"refused with {wanted}", reported(data, 3, group, channel), (r.Report(wanted), b"." * 9))
+
+
+def example_reported_doubles():
+    def of_doubles(*doubles):
+        return reported(struct.pack(f"<{len(doubles)}d", *doubles), 8, Group(0, 8), field(r.FLOAT_LE, 64))[0]
+    nan = float("nan")
+    zeros = points(first=(1, -0.0), last=(3, 0.0), smallest=(1, -0.0), largest=(1, -0.0))
+    check("both zeros, and NaN", of_doubles(nan, -0.0, -nan, 0.0), r.Report(records=4, valid=4, nan=2, has_doubles=1, **zeros))
+    check("NaN alone", of_doubles(nan), r.Report(records=1, valid=1, nan=1))
+    large = 2**53 + 1
+    equal = points(first=(0, 2.0**53), last=(1, 2.0**53), smallest=(0, 2.0**53), largest=(0, 2.0**53))
+    check("integers that are one double", reported(struct.pack("<2Q", large, 2**53), 8, Group(0, 8), field(0, 64))[0],
+          r.Report(records=2, valid=2, has_doubles=1, **equal, sum_low=2**54 + 1))
+    for data_type, high, low in ((r.UNSIGNED_LE, 1, 2**64 - 2), (r.SIGNED_LE, -1, 2**64 - 2)):
+        line = reported(b"\xff" * 16, 8, Group(0, 8), field(data_type, 64))[0]
+        check(f"the sum of two of type {data_type}", (line.sum_high, line.sum_low), (high, low))
+
+
 # At 8 a list of two blocks, the one at 80 with three bytes and the one at 107 with none; at 131 a block of two bytes that is
 # in no list.
 TABLE_FILE = hexed(
@@ -1290,6 +1333,58 @@ def histories_afresh():
                   (r.Done(), record + b"...."[size:]) if len(record) == size else (r.Done(16), b"...."))
 
 
+def values_of(arguments):
+    """Of each record: its number, whether it is valid, and its value as a fraction or an infinity, or None; and the summand."""
+    file, start, size, group, channel, buffer = arguments
+    for number in itertools.count():
+        value, buffer = r.record_value(file, start, number, size, group, channel, buffer)
+        if value.reply == 16:
+            return
+        bits = r.decode_double_bits(buffer[:size], group.record_id_size, channel)
+        double = double_of(bits)
+        exact = None if double != double else double if abs(double) == float("inf") else Fraction(double)
+        summand = 0 if value.kind == r.DOUBLE_KIND else r.signed_of(value.number) if value.kind == r.SIGNED_KIND else value.number
+        yield value, number, exact, summand
+
+
+def check_outermost(name, line, numbers):
+    """Each is one of the numbers, none is further out, and none that is equal stands before it."""
+    fractions = dict(numbers)
+    check(f"{name}: first and last", (line.first.number, line.last.number), (numbers[0][0], numbers[-1][0]))
+    for point, is_further in ((line.smallest, lambda a, b: a < b), (line.largest, lambda a, b: a > b)):
+        found = fractions.get(point.number)
+        check(f"{name}: its value", double_of(point.value), None if found is None else float(found))
+        check(f"{name}: none is further", any(is_further(other, found) for other in fractions.values()), False)
+        check(f"{name}: none before is equal", any(fractions[n] == found for n in fractions if n < point.number), False)
+
+
+def reports_of_records():
+    """Each report that is answered against fetches of its records, one by one."""
+    rng, seen = random.Random(41), collections.Counter()
+    random_ones = (cases.random_report_case(rng) for _ in range(3000))
+    boundaries = itertools.chain.from_iterable(boundary(rng) for boundary in cases.REPORT_BOUNDARIES[:6])
+    for _call, arguments in itertools.chain(itertools.islice(boundaries, 0, None, 3), random_ones):
+        line, after = r.report(*arguments)
+        if line.reply != 0:
+            check("a refused report", after, arguments[-1])
+            continue
+        values = list(values_of(arguments))
+        valid = [(number, exact, summand) for value, number, exact, summand in values if value.is_valid]
+        numbers = [(number, exact) for number, exact, _ in valid if exact is not None]
+        name = protocol.case_line("report", arguments)
+        check(name, (line.records, line.valid, line.nan), (len(values), len(valid), len(valid) - len(numbers)))
+        check(f"{name}: all", line.valid + line.invalid + line.without_value, line.records)
+        check(f"{name}: without", line.without_value, sum(value.reply != 0 for value, *_ in values))
+        check(f"{name}: the sum", line.sum_high * 2**64 + line.sum_low, sum(summand for *_, summand in valid))
+        if numbers:
+            check_outermost(name, line, numbers)
+        else:
+            check(f"{name}: none", line[7:12], (0, *[r.Point()] * 4))
+        seen.update({"invalid": line.invalid > 0, "none": not numbers, "nan": line.nan > 0, "without": line.without_value > 0,
+                     "high": line.sum_high > 0, "below 0": line.sum_high < 0, "no record": line.records == 0})
+    check("each kind of line is seen often", min(seen.values()) >= 50, True)
+
+
 def joined_equal_payloads():
     """Files that cut the same records and the same payloads differently give the same answers, in the bytes that the struct
     module finds."""
@@ -1331,6 +1426,8 @@ def main():
     section("example: lists", example_lists)
     section("example: channels", example_channels)
     section("example: chain", example_chain)
+    section("example: reports", example_reports)
+    section("example: doubles of a report", example_reported_doubles)
     section("example: tables", example_tables)
     section("example: values through a table", example_table_values)
     section("example: payloads", example_payloads)
@@ -1379,6 +1476,7 @@ def main():
     section("against Python's codecs", python_codecs)
     section("chains with the same joined bytes", joined_equal_chains)
     section("payloads with the same joined bytes", joined_equal_payloads)
+    section("reports of records, one by one", reports_of_records)
     section("tables as their chains", opened_as_chains)
     section("histories of tables, afresh", histories_afresh)
     section("lines read back", lines_read_back)

@@ -1,0 +1,221 @@
+/*
+ * The time of a report over two million records: the library's, one in plain C over the same bytes in one piece, the loop that a
+ * program would have with mf4_decode_valid_value over them, and a copy of them. The sides take turns, and the least time of each
+ * counts. Before a row is timed, all but the copy must have given the same line.
+ *
+ *     report [RECORDS [ROUNDS]]    a multiple of 128 records
+ */
+#define _POSIX_C_SOURCE 199309L
+#include "report.h"
+
+#include <stdio.h>
+#include <stdlib.h>
+#include <time.h>
+
+#include "same_line.h"
+
+enum { FRAGMENTS = 3, SIDES = 4 };
+
+static const size_t fragments[FRAGMENTS] = { 1, 64, 4096 };
+static const mf4_group group = { 0, BITS_AT, 1 };
+
+static const struct { const char *name; mf4_channel channel; plain_report *plain, *by_bit; } fields[] = {
+    { "u16", { MF4_TYPE_UNSIGNED_LE, 0, 0, U16_AT, 16, 0, BIT, 0 }, plain_u16, plain_u16_by_bit },
+    { "12 bits from bit 4", { MF4_TYPE_UNSIGNED_LE, 0, 4, TWELVE_AT, 12, 0, BIT, 0 }, plain_twelve, plain_twelve_by_bit },
+    { "i64", { MF4_TYPE_SIGNED_LE, 0, 0, I64_AT, 64, 0, BIT, 0 }, plain_i64, plain_i64_by_bit },
+    { "f32", { MF4_TYPE_FLOAT_LE, 0, 0, F32_AT, 32, 0, BIT, 0 }, plain_f32, plain_f32_by_bit },
+    { "f64", { MF4_TYPE_FLOAT_LE, 0, 0, F64_AT, 64, 0, BIT, 0 }, plain_f64, plain_f64_by_bit },
+};
+
+/* The records in one piece, room for their copy, and a file with a chain that joins to them. */
+static struct {
+    uint64_t records;
+    size_t length;
+    uint8_t *joined, *copy, *file;
+    size_t file_length;
+    uint64_t start;
+} log_file;
+
+static void fail(const char *why)
+{
+    fprintf(stderr, "report: %s\n", why);
+    exit(2);
+}
+
+static uint8_t *bytes_for(size_t length)
+{
+    uint8_t *bytes = malloc(length);
+    if (bytes == NULL)
+        fail("out of memory");
+    return bytes;
+}
+
+/* ---- the records ------------------------------------------------------------------------------------------------ */
+
+static uint64_t dice = 1;
+
+static uint64_t roll(void)
+{
+    dice ^= dice << 13, dice ^= dice >> 7, dice ^= dice << 17;
+    return dice;
+}
+
+/* Random integers, ordinary floats, and one invalid value among sixteen, at random. */
+static void make_record(uint8_t *record)
+{
+    const double wide_one = (double)(roll() % 2000000) / 1000.0 - 1000.0;
+    const float narrow = (float)wide_one;
+    size_t i;
+    for (i = 0; i < RECORD; i += sizeof dice) {
+        const uint64_t random = roll();
+        memcpy(record + i, &random, sizeof random);
+    }
+    memcpy(record + F32_AT, &narrow, sizeof narrow);
+    memcpy(record + F64_AT, &wide_one, sizeof wide_one);
+    record[BITS_AT] = (uint8_t)((record[BITS_AT] & ~(1u << BIT)) | (uint8_t)(roll() % 16 == 0 ? 1u << BIT : 0));
+}
+
+static void make_records(uint64_t count)
+{
+    uint64_t number;
+    log_file.records = count;
+    log_file.length = (size_t)count * RECORD;
+    log_file.joined = bytes_for(log_file.length);
+    log_file.copy = bytes_for(log_file.length);
+    log_file.file = bytes_for(log_file.length + 4096 * (MF4_HEADER_SIZE + 8) + 256);
+    for (number = 0; number < count; number++)
+        make_record(log_file.joined + number * RECORD);
+    memcpy(log_file.copy, log_file.joined, log_file.length);
+}
+
+/* Blocks of one length behind each other, which cut the records where there are 4,096 of them, and the list behind. */
+static void make_chain(size_t count)
+{
+    static uint64_t links[4096];
+    const size_t length = log_file.length / count;
+    const mf4_header header = { MF4_ID_DT, 0, MF4_HEADER_SIZE + length, 0 };
+    size_t at = 64, i;
+    for (i = 0; i < count; i++) {
+        mf4_write_header(header, log_file.file + at, MF4_HEADER_SIZE);
+        memcpy(log_file.file + at + MF4_HEADER_SIZE, log_file.joined + i * length, length);
+        links[i] = at;
+        at += MF4_HEADER_SIZE + length;
+    }
+    log_file.start = at;
+    at += mf4_write_list_equal(0, links, count, length, log_file.file + at, 48 + 8 * count).count;
+    log_file.file_length = at;
+}
+
+/* ---- the sides -------------------------------------------------------------------------------------------------- */
+
+typedef struct question {
+    mf4_channel channel;
+    plain_report *plain;
+} question;
+
+typedef mf4_report_reply side(const question *asked);
+
+static mf4_report_reply by_report(const question *asked)
+{
+    uint8_t buffer[RECORD];
+    return mf4_report(log_file.file, log_file.file_length, log_file.start, RECORD, group, asked->channel, buffer, sizeof buffer);
+}
+
+static mf4_report_reply by_plain(const question *asked) { return asked->plain(log_file.joined, log_file.records); }
+
+static mf4_report_reply by_values(const question *asked)
+{
+    mf4_report_reply line = { 0 };
+    wide sum = 0;
+    uint64_t number;
+    for (number = 0; number < log_file.records; number++) {
+        const uint8_t *record = log_file.joined + number * RECORD;
+        const mf4_valid_value_reply value = mf4_decode_valid_value(record, RECORD, group, asked->channel);
+        line.without_value += value.reply != MF4_ANSWER;
+        line.invalid += value.reply == MF4_ANSWER && !value.is_valid;
+        if (!value.is_valid)
+            continue;
+        if (value.kind == MF4_KIND_UNSIGNED)
+            sum += value.number, take_double(&line, number, (double)value.number);
+        else if (value.kind == MF4_KIND_SIGNED)
+            sum += mf4_bits_as_signed(value.number), take_double(&line, number, (double)mf4_bits_as_signed(value.number));
+        else
+            take_double(&line, number, mf4_bits_as_double(value.number));
+    }
+    line.records = log_file.records;
+    put_sum(&line, sum);
+    return line;
+}
+
+static mf4_report_reply by_copy(const question *asked)
+{
+    const mf4_report_reply nothing = { 0 };
+    (void)asked;
+    memcpy(log_file.copy, log_file.joined, log_file.length);
+    __asm__ volatile("" : : "r"(log_file.copy) : "memory"); /* the copy counts as used */
+    return nothing;
+}
+
+static side *const sides[SIDES] = { by_report, by_plain, by_values, by_copy };
+
+/* ---- times ------------------------------------------------------------------------------------------------------ */
+
+static double nanoseconds(side *one, const question *asked)
+{
+    struct timespec begin, end;
+    clock_gettime(CLOCK_MONOTONIC, &begin);
+    one(asked);
+    clock_gettime(CLOCK_MONOTONIC, &end);
+    return (double)(end.tv_sec - begin.tv_sec) * 1e9 + (double)(end.tv_nsec - begin.tv_nsec);
+}
+
+static void time_sides(const question *asked, int rounds, double least[SIDES])
+{
+    int round, i;
+    for (i = 0; i < SIDES; i++)
+        least[i] = 1e30;
+    for (round = 0; round < rounds; round++)
+        for (i = 0; i < SIDES; i++) {
+            const double time = nanoseconds(sides[i], asked) / (double)log_file.records;
+            if (time < least[i])
+                least[i] = time;
+        }
+}
+
+static void print_row(const char *name, int has_bit, size_t count, const question *asked, int rounds)
+{
+    const mf4_report_reply line = by_report(asked);
+    double ns[SIDES];
+    if (line.reply != MF4_ANSWER || !same_line(line, by_plain(asked)) || !same_line(line, by_values(asked)))
+        fail("the sides differ");
+    time_sides(asked, rounds, ns);
+    printf("| report of %s%s, %zu fragment%s | %.2f | %.2f | %.2f | %.2f | %.2f | %.2f | %.2f |\n", name,
+           has_bit ? ", valid by bit" : "", count, count == 1 ? "" : "s", ns[0], ns[1], ns[2], ns[3], ns[0] / ns[1], ns[0] / ns[2],
+           ns[0] / ns[3]);
+    fflush(stdout);
+}
+
+static void print_rows(size_t count, int rounds)
+{
+    size_t i;
+    int has_bit;
+    make_chain(count);
+    for (i = 0; i < sizeof fields / sizeof *fields; i++)
+        for (has_bit = 0; has_bit <= 1; has_bit++) {
+            question asked = { fields[i].channel, has_bit ? fields[i].by_bit : fields[i].plain };
+            asked.channel.flags = has_bit ? MF4_CHANNEL_INVALIDATION_BIT : 0;
+            print_row(fields[i].name, has_bit, count, &asked, rounds);
+        }
+}
+
+int main(int argc, char **argv)
+{
+    const int rounds = argc > 2 ? atoi(argv[2]) : 15;
+    size_t i;
+    make_records(argc > 1 ? strtoull(argv[1], NULL, 10) : 2000000);
+    puts("| What | report ns | plain C ns | loop ns | copy ns | report / plain C | report / loop | report / copy |\n"
+         "|---|--:|--:|--:|--:|--:|--:|--:|");
+    for (i = 0; i < FRAGMENTS; i++)
+        print_rows(fragments[i], rounds);
+    return 0;
+}
