@@ -1,21 +1,28 @@
 -- Records in a row that take the place of no extreme, one more at a time.
-use mathlib.Core.Path.{_≡_, refl, sym, ap, subst, _∙_}
+use mathlib.Core.Path.{_≡_, refl, sym, ap, ap₂, subst, _∙_}
 use mathlib.Core.Bool.{Bool, true, false}
-use mathlib.Core.List.{List}
+use mathlib.Core.List.{List, [], _∷_}
+use types.Run.{OneOf, miss}
+use denote.Enum.Declared.{tagOf}
 use Prim.Native.Nat.{ℕ, _+_, _-_, _*_, _^_, _≤_, _<_}
 use native.Mathlib.Omega.{arith}
 use Rattle.definitions.specs.Reply.{if_then_else_}
-use Rattle.definitions.specs.Bytes.{span}
+use Rattle.definitions.specs.Bytes.{span, fieldAt}
+use Rattle.fields.specs.Form.{orderMeant}
+use Rattle.fields.specs.declared.form.Number.{Number}
+use Rattle.fields.specs.declared.form.Number.the-variants.{Float as float}
+use Rattle.fields.proofs.form.Number.{the-type}
+use Rattle.decoder.specs.Known.{InWord}
 use Rattle.tally.specs.Tallies.{Sane, Inner, totalWith, innerTally, skippedTally, countedTally}
 use Rattle.tally.specs.declared.tally.Mark.{Mark}
 use Rattle.tally.specs.declared.sum.Total.{Total}
 use Rattle.tally.specs.declared.tally.Tally.{Tally}
 use Rattle.tally.proofs.Kept.{none-inner, inner-more}
 use Rattle.tally.proofs.Tallying.{sane-skip, sane-count}
-use Rattle.slots.specs.Slots.{slotWord, slotValid}
+use Rattle.slots.specs.Slots.{wordOf, slotWord, slotValid}
 use Rattle.slots.specs.declared.slot.Slot.{Slot}
 use Rattle.report.specs.Visits.{seen, visited, fewRecords}
-use Rattle.report.specs.Quiet.{QuietSo}
+use Rattle.report.specs.Quiet.{KindOf, QuietSo}
 use Rattle.report.proofs.Seen.{seen-turn}
 
 module _ (size : ℕ) (w : Slot) (t : Tally) (l : List ℕ) (first : ℕ) where
@@ -34,10 +41,12 @@ module _ (size : ℕ) (w : Slot) (t : Tally) (l : List ℕ) (first : ℕ) where
     pub quiet-few : (n : ℕ) → i < n → t .records + (n - first) < fewRecords → total .high < 2 ^ 63
     quiet-few n h few = omega (arith, so .behind, so .sane .high, so .sane .valid)
 
-    pub quiet-turn : Sane t → (r : List ℕ) (word : ℕ) (more : Total) → r ≡ span l (i * size) size → slotValid w r ≡ true → word ≡ slotWord w r → word < 2 ^ 64
-        → Inner (w .number) t word → more ≡ totalWith (w .number) total word
+    pub quiet-turn : {number : Number} {big : Bool} {count : ℕ} → KindOf w number big count → Sane t → (r : List ℕ) (word : ℕ) (more : Total) → r ≡ span l (i * size) size → slotValid w r ≡ true → word ≡ slotWord w r → word < 2 ^ 64
+        → Inner number t word → more ≡ totalWith number total word
         → QuietSo size w t l first (i + 1) more (record { number = t .records + (i - first); word = word })
-    quiet-turn sane r word more er valid ew small inner et =
+    quiet-turn kind sane r word more er valid ew small inner₀ et₀ =
+        let inner : Inner (w .number) t word = subst (λ (k : Number). Inner k t word) (kind .kind) inner₀ in
+        let et : more ≡ totalWith (w .number) total word = et₀ ∙ ap (λ (k : Number). totalWith k total word) (kind .kind) in
         let k : i + 1 - first ≡ i - first + 1 = omega (arith, so .behind) in
         let mark : Mark = record { number = t .records + (i - first); word = word } in
         let one : innerTally t (i + 1 - first) more mark ≡ countedTally (w .number) so-far word =
@@ -49,6 +58,22 @@ module _ (size : ℕ) (w : Slot) (t : Tally) (l : List ℕ) (first : ℕ) where
           sane = subst Sane (sym one) (sane-count (w .number) word (so .sane) small);
           seenTo = λ s e. seen-turn (visited w) size s so-far _ l r i (so .seenTo s e) er met;
         }
+
+-- ---- a word by a kind that is given beside the slot
+
+-- an integer is no float
+pub no-float : {A : Type 0} (n : Number) → OneOf (0 ∷ 1 ∷ []) (tagOf the-type n) → n ≡ float → A
+no-float n i e = absurd (miss (0 ∷ 1 ∷ []) 2 tt (subst (λ (k : Number). OneOf (0 ∷ 1 ∷ []) (tagOf the-type k)) e i))
+
+module _ (w : Slot) {number : Number} {big : Bool} {count : ℕ} (given : KindOf w number big count) where
+  pub kind-in : {from : ℕ} → InWord (w .number) from (w .count) → InWord number from count
+  kind-in {from} h = subst (λ (k : Number). InWord k from count) (sym (given .kind)) (subst (InWord (w .number) from) (sym (given .width)) h)
+
+  pub kind-word : (s : List ℕ) (p offset : ℕ) {x : ℕ} → x ≡ wordOf number count (fieldAt (orderMeant big) s p offset count)
+      → x ≡ wordOf (w .number) (w .count) (fieldAt (orderMeant (w .«big_endian»)) s p offset (w .count))
+  kind-word s p offset e =
+      e ∙ ap₂ (λ (k : Number) (b : Bool). wordOf k count (fieldAt (orderMeant b) s p offset count)) (given .kind) (given .order)
+      ∙ ap (λ (m : ℕ). wordOf (w .number) m (fieldAt (orderMeant (w .«big_endian»)) s p offset m)) (given .width)
 
 -- ---- the record that ends the row
 
@@ -71,8 +96,11 @@ module _ (w : Slot) (l r : List ℕ) (i size : ℕ) (er : r ≡ span l (i * size
   met : (b : Bool) → slotValid w r ≡ b → visited w t (span l (i * size) size) ≡ (if b then countedTally (w .number) t (slotWord w r) else skippedTally t)
   met b h = ap (visited w t) (sym er) ∙ ap (λ (c : Bool). if c then countedTally (w .number) t (slotWord w r) else skippedTally t) h
 
+  pub stops-by : (b : Bool) (word : ℕ) → b ≡ slotValid w r → word ≡ slotWord w r → (if b then countedTally (w .number) t word else skippedTally t) ≡ visited w t (span l (i * size) size)
+  stops-by b word eb ew = ap (λ (x : ℕ). if b then countedTally (w .number) t x else skippedTally t) ew ∙ sym (met b (sym eb))
+
   pub stops-invalid : slotValid w r ≡ false → skippedTally t ≡ visited w t (span l (i * size) size)
   stops-invalid h = sym (met false h)
 
   pub stops-valid : (word : ℕ) → word ≡ slotWord w r → slotValid w r ≡ true → countedTally (w .number) t word ≡ visited w t (span l (i * size) size)
-  stops-valid word e h = ap (countedTally (w .number) t) e ∙ sym (met true h)
+  stops-valid word e h = stops-by true word (sym h) e

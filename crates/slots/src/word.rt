@@ -72,18 +72,17 @@ fn word_of(number: Number, count: u32, x: u64) -> u64
     }
 }
 
-// Of the eight bytes at that place
-pub fn near_word(word: u64, from: u32, slot: Slot) -> u64
-    requires { ⌜ InWord (slot .number) from (slot .count) ⌝ }
-    ensures { λ r. ⌜ r ≡ wordOf (slot .number) (slot .count) (fieldAt (orderMeant (slot .«big_endian»)) (le 8 word) (from / 8) (from % 8) (slot .count)) ⌝ }
+// Of the eight bytes at that place. By numbers: where kind and order are known, the compiler leaves out what they are not.
+pub fn near_word(word: u64, from: u32, number: Number, big_endian: bool, count: u32) -> u64
+    requires { ⌜ InWord number from count ⌝ }
+    ensures { λ r. ⌜ r ≡ wordOf number count (fieldAt (orderMeant «big_endian») (le 8 word) (from / 8) (from % 8) count) ⌝ }
 {
-    let number = slot.number;
-    let x = if slot.big_endian {
-        near_be(word, from, slot.count)
+    let x = if big_endian {
+        near_be(word, from, count)
     } else {
-        near_le(word, from, slot.count)
+        near_le(word, from, count)
     };
-    word_of(number, slot.count, x)
+    word_of(number, count, x)
 }
 
 // Of the record, which need not have eight bytes; nor need they hold the field

@@ -6,6 +6,7 @@ use native.Mathlib.Omega.{arith}
 use borrow.Author.Needs.{needs}
 use lib.ListN.{length, take, drop}
 use Rattle.slots.specs.Slots.{slotValid, Within, PlaceTold}
+use Rattle.slots.specs.declared.word.PlaceFound.the-variants.{Place}
 use Rattle.report.specs.Quiet.{QuietSo}
 use Rattle.report.proofs.Visiting.{part-is, part-long, not-true, not-false}
 use Rattle.report.proofs.Quiets.{quiet-start, quiet-few, quiet-turn, stops-invalid, stops-valid}
@@ -13,10 +14,10 @@ use Rattle.report.proofs.run.quiet_run.Statement.{statement}
 use Rattle.report.proofs.run.quiet_run.Tie as tie
 
 abbrev Inv-loop : tie.InvT-loop
-Inv-loop records size first n place slot tally number total₀ last₀ i₀ total last i = (i ≤ n) × QuietSo size slot tally records first i total last
+Inv-loop records size first n at from number bigEndian count slot tally total₀ last₀ i₀ total last i = (i ≤ n) × QuietSo size slot tally records first i total last
 
 abbrev μ-loop : tie.MeasureT-loop
-μ-loop records size first n place slot tally number total₀ last₀ i₀ total last i = n - i
+μ-loop records size first n at from number bigEndian count slot tally total₀ last₀ i₀ total last i = n - i
 
 loop-holds : tie.Need-loop-holds Inv-loop μ-loop
 loop-holds c =
@@ -61,7 +62,7 @@ word-at-requires c κs =
     let begin = c .before .before .before in
     let start = begin .before .before .before .before .before .before in
     let a = start .args in
-    (subst (λ (m : ℕ). Within m (a .slot)) (sym (long begin)) (start .pre .0), subst (λ (m : ℕ). PlaceTold m (a .slot) (a .place)) (sym (long begin)) (start .pre .1))
+    (subst (λ (m : ℕ). Within m (a .slot)) (sym (long begin)) (start .pre .0), subst (λ (m : ℕ). PlaceTold m (a .slot) (Place (a .at) (a .from))) (sym (long begin)) (start .pre .1), start .pre .6)
 
 -- or where it may take the place of an extreme
 returns-2 : tie.Need-returns-2 Inv-loop μ-loop
@@ -88,11 +89,11 @@ added-requires c κs =
     let a = start .args in
     quiet-few (a .size) (a .slot) (a .tally) (a .records .now) (a .first) (l .i) (l .total) (l .last) (l .inv .1) (a .n) (turn .loop-test .taken) (start .pre .4)
 
-sub-t17 : tie.Need-sub-t17 Inv-loop μ-loop
-sub-t17 c = omega (arith, c .before .before .before .before .before .before .before .before .before .loop .inv .1 .behind)
+sub-t20 : tie.Need-sub-t20 Inv-loop μ-loop
+sub-t20 c = omega (arith, c .before .before .before .before .before .before .before .before .before .loop .inv .1 .behind)
 
-add-t22 : tie.Need-add-t22 Inv-loop μ-loop
-add-t22 c =
+add-t25 : tie.Need-add-t25 Inv-loop μ-loop
+add-t25 c =
     let turn = c .before .before .before .before .before .before .before .before .before in
     record { fits = omega (arith, turn .loop-test .taken, turn .before .loop .inv .1 .behind, turn .before .before .before .before .before .pre .4) }
 
@@ -111,7 +112,7 @@ loop-again c =
     let start = turn .before .before .before .before .before in
     let a = start .args in (
       omega (arith, turn .loop-test .taken),
-      quiet-turn (a .size) (a .slot) (a .tally) (a .records .now) (a .first) (l .i) (l .total) (l .last) (l .inv .1) (start .pre .2) _ _ _
+      quiet-turn (a .size) (a .slot) (a .tally) (a .records .now) (a .first) (l .i) (l .total) (l .last) (l .inv .1) (start .pre .6) (start .pre .2) _ _ _
           (part-is (a .records .now) (a .size) (a .n) (l .i) _ (begin .record-begin .ensures .0) (begin .record-begin .ensures .1))
           (sym (asked .is-valid-in .ensures) ∙ not-false _ (valid .if1 .left)) (word .word-at .ensures) (omega arith)
           (inner .before .is-inner .ensures (not-false _ (inner .if2 .left))) (c .before .added .ensures),
@@ -141,8 +142,8 @@ quiet-run-spec =
     (λ c κs. search needs)
     returns-2
     added-requires
-    sub-t17
-    add-t22
+    sub-t20
+    add-t25
     add-i
     (λ c. search needs)
     loop-again

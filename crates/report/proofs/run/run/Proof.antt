@@ -33,32 +33,32 @@ few c =
     let a = start .args in
     few-left (a .slot) (a .size) (a .before) (l .tally) (a .records .now) (l .i) (a .n) (l .inv .0) (l .inv .1) (start .pre .2)
 
-quiet-run-requires : tie.Need-quiet-run-requires Inv-loop μ-loop
-quiet-run-requires c κs =
+row-requires : tie.Need-row-requires Inv-loop μ-loop
+row-requires c κs =
     let l = c .before .loop in
     let found = c .before .before in
     let start = found .before .before in
-    (start .pre .0, found .find-place .ensures, l .inv .2, l .inv .0, few c, start .pre .3)
+    (start .pre .0, found .find-place .ensures, l .inv .2, c .loop-test .taken, few c, start .pre .3)
 
 sub-with-inner : tie.Need-sub-with-inner Inv-loop μ-loop
-sub-with-inner c = omega (arith, c .before .before .before .quiet-run .ensures .so .behind)
+sub-with-inner c = omega (arith, c .before .before .before .row .ensures .so .behind)
 
 with-inner-requires : tie.Need-with-inner-requires Inv-loop μ-loop
 with-inner-requires c κs =
     let quiet = c .before .before .before in
-    let told = quiet .quiet-run .ensures in
+    let told = quiet .row .ensures in
     (omega (arith, told .inside, told .so .behind, few (quiet .before)), quiet .before .before .loop .inv .2)
 
 -- the tally behind those in a row
-row : (c : tie.After-with-inner Inv-loop μ-loop) →
+behind-row : (c : tie.After-with-inner Inv-loop μ-loop) →
     let quiet = c .before .before .before .before in
     let a = quiet .before .before .before .before .before .args in
-    (c .with-inner .result ≡ seen (visited (a .slot)) (a .size) (a .before) (a .records .now) (quiet .quiet-run .result .next)) × Sane (c .with-inner .result)
-row c =
+    (c .with-inner .result ≡ seen (visited (a .slot)) (a .size) (a .before) (a .records .now) (quiet .row .result .next)) × Sane (c .with-inner .result)
+behind-row c =
     let quiet = c .before .before .before .before in
     let l = quiet .before .before .loop in
     let a = quiet .before .before .before .before .before .args in
-    let so = quiet .quiet-run .ensures .so in
+    let so = quiet .row .ensures .so in
     (c .with-inner .ensures ∙ so .seenTo (a .before) (l .inv .1), subst Sane (sym (c .with-inner .ensures)) (so .sane))
 
 ending-requires : tie.Need-ending-requires Inv-loop μ-loop
@@ -67,7 +67,7 @@ ending-requires c κs =
     let quiet = inner .before .before .before .before in
     let start = quiet .before .before .before .before .before in
     let a = start .args in
-    (row inner .1, few-so-far (a .slot) (a .size) (a .before) _ (a .records .now) (quiet .quiet-run .result .next) (a .n) (c .if1 .taken) (row inner .0) (start .pre .2))
+    (behind-row inner .1, few-so-far (a .slot) (a .size) (a .before) _ (a .records .now) (quiet .row .result .next) (a .n) (c .if1 .taken) (behind-row inner .0) (start .pre .2))
 
 add-i : tie.Need-add-i Inv-loop μ-loop
 add-i c =
@@ -79,18 +79,18 @@ loop-less : tie.Need-loop-less Inv-loop μ-loop
 loop-less c =
     let more = c .before in
     let quiet = more .before .before .before .before .before in
-    omega (arith, more .if1 .taken, quiet .quiet-run .ensures .so .behind)
+    omega (arith, more .if1 .taken, quiet .row .ensures .so .behind)
 
 loop-again : tie.Need-loop-again Inv-loop μ-loop
 loop-again c =
     let more = c .before in
     let inner = more .before in
     let quiet = inner .before .before .before .before in
-    let told = quiet .quiet-run .ensures in
+    let told = quiet .row .ensures in
     let a = quiet .before .before .before .before .before .args in (
       omega (arith, more .if1 .taken),
-      seen-turn (visited (a .slot)) (a .size) (a .before) _ _ (a .records .now) _ (quiet .quiet-run .result .next) (row inner .0) refl (c .ending .ensures ∙ told .stops (more .if1 .taken) _),
-      subst Sane (sym (c .ending .ensures)) (then-sane (a .slot) (inner .with-inner .result) (quiet .quiet-run .result .«is_valid») (quiet .quiet-run .result .word) (row inner .1) (told .small)),
+      seen-turn (visited (a .slot)) (a .size) (a .before) _ _ (a .records .now) _ (quiet .row .result .next) (behind-row inner .0) refl (c .ending .ensures ∙ told .stops (more .if1 .taken) _),
+      subst Sane (sym (c .ending .ensures)) (then-sane (a .slot) (inner .with-inner .result) (quiet .row .result .«is_valid») (quiet .row .result .word) (behind-row inner .1) (told .small)),
     )
 
 loop-less-2 : tie.Need-loop-less-2 Inv-loop μ-loop
@@ -101,7 +101,7 @@ loop-less-2 c =
 loop-again-2 : tie.Need-loop-again-2 Inv-loop μ-loop
 loop-again-2 c =
     let inner = c .before in
-    (inner .before .before .before .before .quiet-run .ensures .inside, row inner .0, row inner .1)
+    (inner .before .before .before .before .row .ensures .inside, behind-row inner .0, behind-row inner .1)
 
 returns : tie.Need-returns Inv-loop μ-loop
 returns c =
@@ -117,7 +117,7 @@ run-spec =
     μ-loop
     (λ c κs. search needs)
     loop-holds
-    quiet-run-requires
+    row-requires
     sub-with-inner
     with-inner-requires
     ending-requires

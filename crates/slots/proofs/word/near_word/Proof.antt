@@ -12,19 +12,19 @@ use Rattle.slots.proofs.word.near_word.Tie as tie
 
 field : (c : tie.Joined1) →
     let a = c .before .args in
-    c .if1 .x ≡ fieldAt (orderMeant (a .slot .«big_endian»)) (le 8 (a .word)) (a .from / 8) (a .from % 8) (a .slot .count)
+    c .if1 .x ≡ fieldAt (orderMeant (a .big-endian)) (le 8 (a .word)) (a .from / 8) (a .from % 8) (a .count)
 field c = ⊎-elim (λ w. w .2 ∙ rw (w .0 .taken) (w .1 .ensures)) (λ w. w .2 ∙ rw (w .0 .left) (w .1 .ensures)) (c .if1 .came)
 
 word-of-requires : tie.Need-word-of-requires
 word-of-requires c κs =
     let start = c .before in
     let a = start .args in
-    fitting-word (a .slot .number) (orderMeant (a .slot .«big_endian»)) (le 8 (a .word)) (a .from / 8) (a .from % 8) (start .pre) (field c)
+    fitting-word (a .number) (orderMeant (a .big-endian)) (le 8 (a .word)) (a .from / 8) (a .from % 8) (start .pre) (field c)
 
 returns : tie.Need-returns
 returns c =
     let a = c .before .before .args in
-    c .word-of .ensures ∙ ap (wordOf (a .slot .number) (a .slot .count)) (field (c .before))
+    c .word-of .ensures ∙ ap (wordOf (a .number) (a .count)) (field (c .before))
 
 pub near-word-spec : {M : Type 1} → statement M
 near-word-spec = tie.close (tie.spec (λ c κs. search needs) (λ c κs. search needs) word-of-requires returns)
