@@ -1,7 +1,8 @@
 /*
  * The time of a report over two million records: the library's, one in plain C over the same bytes in one piece, the loop that a
  * program would have with mf4_decode_valid_value over them, and a copy of them. The sides take turns, and the least time of each
- * counts. Before a row is timed, all but the copy must have given the same line.
+ * counts. Before a row is timed, all but the copy must have given the same line. The rows of random values come first; then values
+ * that grow from record to record are put in their places.
  *
  *     report [RECORDS [ROUNDS]]    a multiple of 128 records
  */
@@ -14,17 +15,30 @@
 
 #include "same_line.h"
 
-enum { FRAGMENTS = 3, SIDES = 4 };
+enum { FRAGMENTS = 3, SIDES = 4, RANDOM = 5, GROWING = 3 };
 
 static const size_t fragments[FRAGMENTS] = { 1, 64, 4096 };
 static const mf4_group group = { 0, BITS_AT, 1 };
 
-static const struct { const char *name; mf4_channel channel; plain_report *plain, *by_bit; } fields[] = {
+/* Without by_bit, its values are only timed as always valid. */
+typedef struct field {
+    const char *name;
+    mf4_channel channel;
+    plain_report *plain, *by_bit;
+} field;
+
+static const field random_fields[RANDOM] = {
     { "u16", { MF4_TYPE_UNSIGNED_LE, 0, 0, U16_AT, 16, 0, BIT, 0 }, plain_u16, plain_u16_by_bit },
     { "12 bits from bit 4", { MF4_TYPE_UNSIGNED_LE, 0, 4, TWELVE_AT, 12, 0, BIT, 0 }, plain_twelve, plain_twelve_by_bit },
     { "i64", { MF4_TYPE_SIGNED_LE, 0, 0, I64_AT, 64, 0, BIT, 0 }, plain_i64, plain_i64_by_bit },
     { "f32", { MF4_TYPE_FLOAT_LE, 0, 0, F32_AT, 32, 0, BIT, 0 }, plain_f32, plain_f32_by_bit },
     { "f64", { MF4_TYPE_FLOAT_LE, 0, 0, F64_AT, 64, 0, BIT, 0 }, plain_f64, plain_f64_by_bit },
+};
+
+static const field growing_fields[GROWING] = {
+    { "growing u32", { MF4_TYPE_UNSIGNED_LE, 0, 0, U32_AT, 32, 0, BIT, 0 }, plain_u32, NULL },
+    { "growing u64", { MF4_TYPE_UNSIGNED_LE, 0, 0, U64_AT, 64, 0, BIT, 0 }, plain_u64, NULL },
+    { "growing f64", { MF4_TYPE_FLOAT_LE, 0, 0, F64_AT, 64, 0, BIT, 0 }, plain_f64, NULL },
 };
 
 /* The records in one piece, room for their copy, and a file with a chain that joins to them. */
@@ -86,6 +100,24 @@ static void make_records(uint64_t count)
     for (number = 0; number < count; number++)
         make_record(log_file.joined + number * RECORD);
     memcpy(log_file.copy, log_file.joined, log_file.length);
+}
+
+/* A counter, its low half and a time, as operating hours grow: each record has a new largest value. */
+static void grow_record(uint8_t *record, uint64_t number)
+{
+    const uint64_t counter = 1000000 + number;
+    const uint32_t low = (uint32_t)counter;
+    const double time = (double)number * 0.25;
+    memcpy(record + U32_AT, &low, sizeof low);
+    memcpy(record + U64_AT, &counter, sizeof counter);
+    memcpy(record + F64_AT, &time, sizeof time);
+}
+
+static void grow_records(void)
+{
+    uint64_t number;
+    for (number = 0; number < log_file.records; number++)
+        grow_record(log_file.joined + number * RECORD, number);
 }
 
 /* Blocks of one length behind each other, which cut the records where there are 4,096 of them, and the list behind. */
@@ -195,27 +227,34 @@ static void print_row(const char *name, int has_bit, size_t count, const questio
     fflush(stdout);
 }
 
-static void print_rows(size_t count, int rounds)
+static void print_field(const field *one, size_t count, int rounds)
 {
-    size_t i;
     int has_bit;
-    make_chain(count);
-    for (i = 0; i < sizeof fields / sizeof *fields; i++)
-        for (has_bit = 0; has_bit <= 1; has_bit++) {
-            question asked = { fields[i].channel, has_bit ? fields[i].by_bit : fields[i].plain };
-            asked.channel.flags = has_bit ? MF4_CHANNEL_INVALIDATION_BIT : 0;
-            print_row(fields[i].name, has_bit, count, &asked, rounds);
-        }
+    for (has_bit = 0; has_bit <= (one->by_bit != NULL); has_bit++) {
+        question asked = { one->channel, has_bit ? one->by_bit : one->plain };
+        asked.channel.flags = has_bit ? MF4_CHANNEL_INVALIDATION_BIT : 0;
+        print_row(one->name, has_bit, count, &asked, rounds);
+    }
+}
+
+static void print_rows(const field *fields, size_t count, int rounds)
+{
+    size_t i, j;
+    for (i = 0; i < FRAGMENTS; i++) {
+        make_chain(fragments[i]);
+        for (j = 0; j < count; j++)
+            print_field(&fields[j], fragments[i], rounds);
+    }
 }
 
 int main(int argc, char **argv)
 {
     const int rounds = argc > 2 ? atoi(argv[2]) : 15;
-    size_t i;
     make_records(argc > 1 ? strtoull(argv[1], NULL, 10) : 2000000);
     puts("| What | report ns | plain C ns | loop ns | copy ns | report / plain C | report / loop | report / copy |\n"
          "|---|--:|--:|--:|--:|--:|--:|--:|");
-    for (i = 0; i < FRAGMENTS; i++)
-        print_rows(fragments[i], rounds);
+    print_rows(random_fields, RANDOM, rounds);
+    grow_records();
+    print_rows(growing_fields, GROWING, rounds);
     return 0;
 }

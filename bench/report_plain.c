@@ -41,21 +41,27 @@ static inline void take_small(small *found, int is_first, uint64_t number, uint6
         found->largest = value, found->largest_at = number;
 }
 
-static inline uint64_t two_bytes(const uint8_t *at)
+/* Four bytes at the place of u32, and two elsewhere. */
+static inline uint64_t one_small(const uint8_t *record, int at)
 {
-    uint16_t value;
-    memcpy(&value, at, sizeof value);
-    return value;
+    uint32_t four;
+    uint16_t two;
+    if (at == U32_AT) {
+        memcpy(&four, record + at, sizeof four);
+        return four;
+    }
+    memcpy(&two, record + at, sizeof two);
+    return two;
 }
 
-/* Two bytes behind that many bits. Two million of them do not pass 64 bits as a sum. */
+/* Those bytes behind that many bits. Two million of them do not pass 64 bits as a sum. */
 static inline mf4_report_reply of_small(const uint8_t *records, uint64_t count, int at, int shift, int has_bit)
 {
     mf4_report_reply line = { 0 };
     small found = { 0 };
     uint64_t sum = 0, number;
     for (number = 0; number < count; number++, records += RECORD) {
-        const uint64_t value = two_bytes(records + at) >> shift;
+        const uint64_t value = one_small(records, at) >> shift;
         if (has_bit && is_invalid(records)) {
             line.invalid++;
             continue;
@@ -70,7 +76,7 @@ static inline mf4_report_reply of_small(const uint8_t *records, uint64_t count, 
     return line;
 }
 
-static inline mf4_report_reply of_i64(const uint8_t *records, uint64_t count, int has_bit)
+static inline mf4_report_reply of_large(const uint8_t *records, uint64_t count, int is_signed, int has_bit)
 {
     mf4_report_reply line = { 0 };
     uint64_t number;
@@ -82,8 +88,8 @@ static inline mf4_report_reply of_i64(const uint8_t *records, uint64_t count, in
             continue;
         }
         memcpy(&value, records + I64_AT, sizeof value);
-        sum += value;
-        take_double(&line, number, (double)value);
+        sum += is_signed ? value : (wide)(uint64_t)value;
+        take_double(&line, number, is_signed ? (double)value : (double)(uint64_t)value);
     }
     line.records = count;
     put_sum(&line, sum);
@@ -121,9 +127,11 @@ mf4_report_reply plain_u16(const uint8_t *records, uint64_t count) { return of_s
 mf4_report_reply plain_u16_by_bit(const uint8_t *records, uint64_t count) { return of_small(records, count, U16_AT, 0, 1); }
 mf4_report_reply plain_twelve(const uint8_t *records, uint64_t count) { return of_small(records, count, TWELVE_AT, 4, 0); }
 mf4_report_reply plain_twelve_by_bit(const uint8_t *records, uint64_t count) { return of_small(records, count, TWELVE_AT, 4, 1); }
-mf4_report_reply plain_i64(const uint8_t *records, uint64_t count) { return of_i64(records, count, 0); }
-mf4_report_reply plain_i64_by_bit(const uint8_t *records, uint64_t count) { return of_i64(records, count, 1); }
+mf4_report_reply plain_i64(const uint8_t *records, uint64_t count) { return of_large(records, count, 1, 0); }
+mf4_report_reply plain_i64_by_bit(const uint8_t *records, uint64_t count) { return of_large(records, count, 1, 1); }
 mf4_report_reply plain_f32(const uint8_t *records, uint64_t count) { return of_floats(records, count, 0, 0); }
 mf4_report_reply plain_f32_by_bit(const uint8_t *records, uint64_t count) { return of_floats(records, count, 0, 1); }
 mf4_report_reply plain_f64(const uint8_t *records, uint64_t count) { return of_floats(records, count, 1, 0); }
 mf4_report_reply plain_f64_by_bit(const uint8_t *records, uint64_t count) { return of_floats(records, count, 1, 1); }
+mf4_report_reply plain_u32(const uint8_t *records, uint64_t count) { return of_small(records, count, U32_AT, 0, 0); }
+mf4_report_reply plain_u64(const uint8_t *records, uint64_t count) { return of_large(records, count, 0, 0); }

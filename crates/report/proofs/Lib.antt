@@ -1,6 +1,6 @@
 pub mod Seen
 pub mod Visiting
-pub mod Quiets
+pub mod Rows
 pub mod Walking
 pub mod Lines
 pub mod Reporting

@@ -20,7 +20,7 @@ use Rattle.slots.specs.declared.slot.Slot.{Slot}
 use Rattle.slots.specs.declared.slot.SlotFound.the-variants.{AllInvalid, NoValue}
 use Rattle.slots.proofs.Small.{slot-word-small}
 use Rattle.report.specs.Visits.{seen, visited}
-use Rattle.report.proofs.Visiting.{inside}
+use Rattle.slots.proofs.Rows.{inside}
 use Rattle.tally.proofs.Tallying.{tallied-none, tallied-skip, tallied-count}
 
 -- ---- the records, and their readings

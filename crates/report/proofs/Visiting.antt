@@ -21,22 +21,6 @@ use Rattle.slots.specs.declared.slot.Slot.{Slot}
 use Rattle.report.specs.Visits.{seen, visited, fewRecords}
 use Rattle.tally.proofs.Tallying.{sane-none}
 
--- what a test says that was turned
-pub not-true : (b : Bool) → not b ≡ true → b ≡ false
-not-true true e = sym e
-not-true false e = refl
-
-pub not-false : (b : Bool) → not b ≡ false → b ≡ true
-not-false true e = refl
-not-false false e = sym e
-
--- record i of n ends inside what holds all n
-pub inside : (i n size room : ℕ) → i < n → n * size ≤ room → i * size + size ≤ room
-inside i n size room h fits =
-    let m : suc i * size ≤ n * size = mul-le-mul-right size h in
-    let e : suc i * size ≡ i * size + size = suc-mul i size in
-    omega arith
-
 pub sane-empty : (t : Tally) → t ≡ emptyTally → Sane t
 sane-empty t e = subst Sane (sym e) sane-none
 
@@ -59,25 +43,6 @@ seen-records w size t l (suc k) =
     let u : Tally = seen (visited w) size t l k in
     let one : visited w u (span l (k * size) size) .records ≡ u .records + 1 = visited-step w u (span l (k * size) size) (slotValid w (span l (k * size) size)) in
     omega (arith, one, seen-records w size t l k)
-
--- ---- a record among others
-
-module _ (l : List ℕ) (size n k begin : ℕ) (eb : begin ≡ k * size) (room : begin + size ≤ length l) where
-  abbrev part : List ℕ
-  part = take (begin + size - begin) (drop begin l)
-
-  same-size : begin + size - begin ≡ size
-  same-size = omega arith
-
-  -- it is the record that stands there
-  pub part-is : part ≡ span l (k * size) size
-  part-is = ap₂ (λ (m b : ℕ). take m (drop b l)) same-size eb
-
-  pub part-bytes : Bytes l → Bytes part
-  part-bytes h = subst Bytes (sym part-is) (bytes-span l (k * size) size h)
-
-  pub part-long : length part ≡ size
-  part-long = length-take-le (begin + size - begin) (drop begin l) (omega (arith, length-drop begin l)) ∙ same-size
 
 -- ---- the loop
 

@@ -1,3 +1,3 @@
 pub mod Visits
-pub mod Quiet
+pub mod Rows
 pub mod Meaning

@@ -1,147 +1,120 @@
 // Records that stand end to end, each in its place.
 ghost use mathlib.Core.Path.{_≡_};
-ghost use mathlib.Core.Bool.{true, false};
 ghost use Prim.Native.Nat.{_+_, _-_, _*_, _≤_, _<_};
 ghost use lib.ListN.{length};
-ghost use Rattle.tally.specs.Tallies.{Sane};
-ghost use Rattle.slots.specs.Slots.{slotWord, Within, PlaceTold};
-ghost use Rattle.slots.specs.declared.word.PlaceFound.{PlaceFound};
+ghost use Rattle.fields.specs.declared.form.Number.the-variants.{Unsigned, Signed, Float};
+ghost use Rattle.tally.specs.Words.{integerKind};
+ghost use Rattle.tally.specs.Tallies.{Sane, HasMarks};
+ghost use Rattle.slots.specs.Slots.{Within, PlaceTold};
 ghost use Rattle.report.specs.Visits.{seen, visited, fewRecords};
-ghost use Rattle.report.specs.Quiet.{KindOf, QuietTo, quietThen};
+ghost use Rattle.report.specs.Rows.{RowAsked, FlagTold, RowTo};
 use fields::Number;
 use slots::PlaceFound;
 use slots::Slot;
 use slots::far_word;
 use slots::find_place;
+use slots::has_flag;
+use slots::is_valid_by;
 use slots::is_valid_in;
-use slots::near_word;
-use tally::Mark;
+use slots::record_begin;
+use slots::word_at;
 use tally::Tally;
-use tally::Total;
-use tally::added;
 use tally::counted;
+use tally::counted_float;
+use tally::has_marks;
+use tally::integer_kind;
+use tally::is_clear;
 use tally::is_inner;
 use tally::skipped;
-use tally::with_inner;
-use words::read_u64_le;
+use tally::with_clear;
+use tally::with_last;
 
-// Records in a row that take the place of no extreme: how far they go, the words of all added up, and the last one's mark. Of the
-// record that ends the row, where one does, whether it is valid, and its word then.
-pub(crate) struct Quiet {
+// The record that comes next, and the tally of those before it
+pub(crate) struct Row {
     pub next: usize,
-    pub total: Total,
-    pub last: Mark,
-    pub is_valid: bool,
-    pub word: u64,
+    pub tally: Tally,
 }
 
-// Where record i of n begins
-fn record_begin(i: usize, size: usize, n: usize, length: usize) -> usize
-    requires { ⌜ (i < n) × (n * size ≤ length) ⌝ }
-    ensures { λ r. ⌜ (r ≡ i * size) × (r + size ≤ length) ⌝ }
-{
-    i * size
-}
-
-// The word of the number in a record, by a load of the eight bytes that hold it
-fn word_at(
-    record: &[u8],
-    at: usize,
-    from: u32,
-    number: Number,
-    big_endian: bool,
-    count: u32,
-    slot: Slot,
-) -> u64
-    requires { ⌜ Within (length (now «record»)) slot × PlaceTold (length (now «record»)) slot (PlaceFound.Place at from) × KindOf slot number «big_endian» count ⌝ }
-    ensures { λ r. ⌜ r ≡ slotWord slot (now («record» .entry)) ⌝ }
-{
-    let word = read_u64_le(record, at);
-    near_word(word, from, number, big_endian, count)
-}
-
-// Such a row from a record on. Most records are so: only their sum and the last one are kept, and all else of the tally waits.
-fn quiet_run(
+// Integers, up to one whose place among the extremes its word does not tell
+fn integer_row(
     records: &[u8],
     size: usize,
     first: usize,
     n: usize,
     at: usize,
     from: u32,
-    number: Number,
-    big_endian: bool,
-    count: u32,
+    signed: bool,
+    flagged: bool,
     slot: Slot,
-    tally: Tally,
-) -> Quiet
-    requires { ⌜ Within size slot × PlaceTold size slot (PlaceFound.Place at from) × Sane tally × (first ≤ n) × (tally .records + (n - first) < fewRecords) × (n * size ≤ length (now records)) × KindOf slot number «big_endian» count ⌝ }
-    ensures { λ r. ⌜ QuietTo size slot tally (now (records .entry)) first n r ⌝ }
+    before: Tally,
+) -> Row
+    requires { ⌜ RowAsked size slot at from before (now records) first n × FlagTold slot flagged × (integerKind signed ≡ slot .number) ⌝ }
+    ensures { λ r. ⌜ RowTo size slot before (now (records .entry)) first n r ⌝ }
 {
-    let mut total = tally.total;
-    let mut last = tally.last;
+    let number = integer_kind(signed);
+    let mut tally = before;
     let mut i = first;
     while i < n {
         let begin = record_begin(i, size, n, records.len());
         let end = begin + size;
         let record = &records[begin..end];
-        if !is_valid_in(record, slot) {
-            return Quiet {
-                next: i,
-                total,
-                last,
-                is_valid: false,
-                word: 0,
-            };
+        if !is_valid_by(flagged, record, slot) {
+            tally = skipped(tally);
+            i += 1;
+            continue;
         }
-        let word = word_at(record, at, from, number, big_endian, count, slot);
-        if !is_inner(number, tally, word) {
-            return Quiet {
-                next: i,
-                total,
-                last,
-                is_valid: true,
-                word,
-            };
+        let word = word_at(record, at, from, number, slot.big_endian, slot.count, slot);
+        if is_inner(signed, tally, word) {
+            tally = with_last(number, tally, word);
+            i += 1;
+            continue;
         }
-        total = added(number, total, word);
-        last = Mark {
-            number: tally.records + (i - first) as u64,
-            word,
-        };
+        if !is_clear(signed, tally, word) {
+            return Row { next: i, tally };
+        }
+        tally = with_clear(number, tally, word);
         i += 1;
     }
-    Quiet {
-        next: i,
-        total,
-        last,
-        is_valid: false,
-        word: 0,
-    }
+    Row { next: i, tally }
 }
 
-// No row, but the record that ends one: where no eight bytes hold the number, every record goes the whole way.
-fn no_row(records: &[u8], size: usize, first: usize, n: usize, slot: Slot, tally: Tally) -> Quiet
-    requires { ⌜ Within size slot × Sane tally × (first < n) × (n * size ≤ length (now records)) ⌝ }
-    ensures { λ r. ⌜ QuietTo size slot tally (now (records .entry)) first n r ⌝ }
+// Floats
+fn float_row(
+    records: &[u8],
+    size: usize,
+    first: usize,
+    n: usize,
+    at: usize,
+    from: u32,
+    count: u32,
+    flagged: bool,
+    slot: Slot,
+    before: Tally,
+) -> Row
+    requires { ⌜ RowAsked size slot at from before (now records) first n × FlagTold slot flagged × (Float ≡ slot .number) × (count ≡ slot .count) ⌝ }
+    ensures { λ r. ⌜ RowTo size slot before (now (records .entry)) first n r ⌝ }
 {
-    let begin = record_begin(first, size, n, records.len());
-    let end = begin + size;
-    let record = &records[begin..end];
-    let is_valid = is_valid_in(record, slot);
-    let word = far_word(record, slot);
-    let total = tally.total;
-    let last = tally.last;
-    Quiet {
-        next: first,
-        total,
-        last,
-        is_valid,
-        word,
+    let number = Number::Float;
+    let mut tally = before;
+    let mut i = first;
+    while i < n {
+        let begin = record_begin(i, size, n, records.len());
+        let end = begin + size;
+        let record = &records[begin..end];
+        if !is_valid_by(flagged, record, slot) {
+            tally = skipped(tally);
+            i += 1;
+            continue;
+        }
+        let word = word_at(record, at, from, number, slot.big_endian, count, slot);
+        tally = counted_float(tally, word);
+        i += 1;
     }
+    Row { next: i, tally }
 }
 
-// A loop for each kind of number whose first byte is the lowest: with kind and order known the compiler leaves every choice out of it.
-// Three callees, since of one it makes a single call again, and a choice in the loop.
+// A loop for each kind of number, in which the compiler leaves out what the others are. Four callees, since of one it makes a single
+// call again, and a choice in the loop.
 fn unsigned_row(
     records: &[u8],
     size: usize,
@@ -149,26 +122,24 @@ fn unsigned_row(
     n: usize,
     at: usize,
     from: u32,
+    flagged: bool,
     slot: Slot,
-    tally: Tally,
-) -> Quiet
-    requires { ⌜ Within size slot × PlaceTold size slot (PlaceFound.Place at from) × Sane tally × (first ≤ n) × (tally .records + (n - first) < fewRecords) × (n * size ≤ length (now records)) × KindOf slot Number.Unsigned false (slot .count) ⌝ }
-    ensures { λ r. ⌜ QuietTo size slot tally (now (records .entry)) first n r ⌝ }
+    before: Tally,
+) -> Row
+    requires { ⌜ RowAsked size slot at from before (now records) first n × FlagTold slot flagged × (Unsigned ≡ slot .number) ⌝ }
+    ensures { λ r. ⌜ RowTo size slot before (now (records .entry)) first n r ⌝ }
 {
-    let kind = Number::Unsigned;
-    let count = slot.count;
-    quiet_run(
+    integer_row(
         records,
         size,
         first,
         n,
         at,
         from,
-        kind,
         false,
-        count,
+        flagged,
         slot,
-        tally,
+        before,
     )
 }
 
@@ -179,27 +150,42 @@ fn signed_row(
     n: usize,
     at: usize,
     from: u32,
+    flagged: bool,
     slot: Slot,
-    tally: Tally,
-) -> Quiet
-    requires { ⌜ Within size slot × PlaceTold size slot (PlaceFound.Place at from) × Sane tally × (first ≤ n) × (tally .records + (n - first) < fewRecords) × (n * size ≤ length (now records)) × KindOf slot Number.Signed false (slot .count) ⌝ }
-    ensures { λ r. ⌜ QuietTo size slot tally (now (records .entry)) first n r ⌝ }
+    before: Tally,
+) -> Row
+    requires { ⌜ RowAsked size slot at from before (now records) first n × FlagTold slot flagged × (Signed ≡ slot .number) ⌝ }
+    ensures { λ r. ⌜ RowTo size slot before (now (records .entry)) first n r ⌝ }
 {
-    let kind = Number::Signed;
-    let count = slot.count;
-    quiet_run(
+    integer_row(
         records,
         size,
         first,
         n,
         at,
         from,
-        kind,
-        false,
-        count,
+        true,
+        flagged,
         slot,
-        tally,
+        before,
     )
+}
+
+fn single_row(
+    records: &[u8],
+    size: usize,
+    first: usize,
+    n: usize,
+    at: usize,
+    from: u32,
+    flagged: bool,
+    slot: Slot,
+    before: Tally,
+) -> Row
+    requires { ⌜ RowAsked size slot at from before (now records) first n × FlagTold slot flagged × (Float ≡ slot .number) × (32 ≡ slot .count) ⌝ }
+    ensures { λ r. ⌜ RowTo size slot before (now (records .entry)) first n r ⌝ }
+{
+    float_row(records, size, first, n, at, from, 32, flagged, slot, before)
 }
 
 fn double_row(
@@ -209,92 +195,83 @@ fn double_row(
     n: usize,
     at: usize,
     from: u32,
+    flagged: bool,
     slot: Slot,
-    tally: Tally,
-) -> Quiet
-    requires { ⌜ Within size slot × PlaceTold size slot (PlaceFound.Place at from) × Sane tally × (first ≤ n) × (tally .records + (n - first) < fewRecords) × (n * size ≤ length (now records)) × KindOf slot Number.Float false 64 ⌝ }
-    ensures { λ r. ⌜ QuietTo size slot tally (now (records .entry)) first n r ⌝ }
+    before: Tally,
+) -> Row
+    requires { ⌜ RowAsked size slot at from before (now records) first n × FlagTold slot flagged × (Float ≡ slot .number) × (64 ≡ slot .count) ⌝ }
+    ensures { λ r. ⌜ RowTo size slot before (now (records .entry)) first n r ⌝ }
 {
-    let kind = Number::Float;
-    quiet_run(
-        records,
-        size,
-        first,
-        n,
-        at,
-        from,
-        kind,
-        false,
-        64,
-        slot,
-        tally,
-    )
+    float_row(records, size, first, n, at, from, 64, flagged, slot, before)
 }
 
-// Whether there is a loop for a kind of number
-fn is_short(number: Number, big_endian: bool, count: u32) -> bool
-    ensures { λ r. ⌜ (r ≡ true → («big_endian» ≡ false) × (number ≡ Number.Float → count ≡ 64)) ⌝ }
+// The loop for a kind of number
+fn kind_row(
+    records: &[u8],
+    size: usize,
+    first: usize,
+    n: usize,
+    at: usize,
+    from: u32,
+    slot: Slot,
+    before: Tally,
+) -> Row
+    requires { ⌜ RowAsked size slot at from before (now records) first n ⌝ }
+    ensures { λ r. ⌜ RowTo size slot before (now (records .entry)) first n r ⌝ }
 {
-    if big_endian {
-        return false;
-    }
+    let flagged = has_flag(slot);
+    let number = slot.number;
     match number {
-        Number::Float => count == 64,
-        _ => true,
+        Number::Unsigned => {
+            unsigned_row(records, size, first, n, at, from, flagged, slot, before)
+        }
+        Number::Signed => signed_row(records, size, first, n, at, from, flagged, slot, before),
+        Number::Float => {
+            if slot.count == 64 {
+                return double_row(records, size, first, n, at, from, flagged, slot, before);
+            }
+            single_row(records, size, first, n, at, from, flagged, slot, before)
+        }
     }
 }
 
-// A row by the loop for its kind
-fn row(
+// A row as far as it goes: none before there are marks, nor where no eight bytes hold the number
+fn read_row(
     records: &[u8],
     size: usize,
     first: usize,
     n: usize,
     place: PlaceFound,
     slot: Slot,
-    tally: Tally,
-) -> Quiet
-    requires { ⌜ Within size slot × PlaceTold size slot place × Sane tally × (first < n) × (tally .records + (n - first) < fewRecords) × (n * size ≤ length (now records)) ⌝ }
-    ensures { λ r. ⌜ QuietTo size slot tally (now (records .entry)) first n r ⌝ }
+    before: Tally,
+) -> Row
+    requires { ⌜ Within size slot × PlaceTold size slot place × Sane before × (first < n) × (before .records + (n - first) < fewRecords) × (n * size ≤ length (now records)) ⌝ }
+    ensures { λ r. ⌜ RowTo size slot before (now (records .entry)) first n r ⌝ }
 {
-    let number = slot.number;
-    let PlaceFound::Place(at, from) = place else {
-        return no_row(records, size, first, n, slot, tally);
+    let none = Row {
+        next: first,
+        tally: before,
     };
-    if !is_short(number, slot.big_endian, slot.count) {
-        let big = slot.big_endian;
-        let count = slot.count;
-        return quiet_run(
-            records,
-            size,
-            first,
-            n,
-            at,
-            from,
-            number,
-            big,
-            count,
-            slot,
-            tally,
-        );
+    if !has_marks(before) {
+        return none;
     }
-    match number {
-        Number::Unsigned => unsigned_row(records, size, first, n, at, from, slot, tally),
-        Number::Signed => signed_row(records, size, first, n, at, from, slot, tally),
-        Number::Float => double_row(records, size, first, n, at, from, slot, tally),
-    }
+    let PlaceFound::Place(at, from) = place else {
+        return none;
+    };
+    kind_row(records, size, first, n, at, from, slot, before)
 }
 
-// The record that ended a row
-fn ending(quiet: Quiet, slot: Slot, tally: Tally) -> Tally
-    requires { ⌜ Sane tally × (tally .records < fewRecords) ⌝ }
-    ensures { λ r. ⌜ r ≡ quietThen slot quiet tally ⌝ }
+// A record the whole way: where a row ends at one
+fn one_record(record: &[u8], slot: Slot, before: Tally) -> Tally
+    requires { ⌜ Within (length (now «record»)) slot × Sane before × (before .records < fewRecords) ⌝ }
+    ensures { λ r. ⌜ (r ≡ visited slot before (now («record» .entry))) × Sane r ⌝ }
 {
-    if quiet.is_valid {
+    if is_valid_in(record, slot) {
         let number = slot.number;
-        return counted(number, tally, quiet.word);
+        let word = far_word(record, slot);
+        return counted(number, before, word);
     }
-    skipped(tally)
+    skipped(before)
 }
 
 // The first n
@@ -306,13 +283,13 @@ pub(crate) fn run(records: &[u8], size: usize, n: usize, slot: Slot, before: Tal
     let mut tally = before;
     let mut i = 0;
     while i < n {
-        let quiet = row(records, size, i, n, place, slot, tally);
-        let total = quiet.total;
-        let last = quiet.last;
-        tally = with_inner(tally, (quiet.next - i) as u64, total, last);
-        i = quiet.next;
+        let row = read_row(records, size, i, n, place, slot, tally);
+        tally = row.tally;
+        i = row.next;
         if i < n {
-            tally = ending(quiet, slot, tally);
+            let begin = record_begin(i, size, n, records.len());
+            let end = begin + size;
+            tally = one_record(&records[begin..end], slot, tally);
             i += 1;
         }
     }

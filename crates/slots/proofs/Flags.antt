@@ -3,6 +3,7 @@ use mathlib.Core.Path.{_≡_, refl, sym, _∙_}
 use mathlib.Core.Bool.{Bool, true, false, not, _&&_}
 use Prim.Native.Nat.{ℕ, _+_, _*_, _/_, _%_, _^_, _<_}
 use native.Mathlib.Omega.{arith}
+use mathlib.Core.List.{List}
 use lib.ListN.{getD}
 use lib.Dec.{ltb, eqb}
 use borrow.Author.Tests.{eqb-true, eq-eqb, ltb-true, not-false}
@@ -11,11 +12,17 @@ use Rattle.definitions.specs.Bytes.{bit}
 use Rattle.definitions.specs.Channel.{Channel, Group, recordLength, hasInvalidationBit, areaOf}
 use Rattle.definitions.proofs.Replies.{not-answered}
 use Rattle.fields.proofs.Invalidation.{all-valid, by-bit}
+use Rattle.slots.specs.Slots.{slotValid}
 use Rattle.slots.specs.Known.{FlagAsked, FlagOf}
+use Rattle.slots.specs.declared.slot.Slot.{Slot}
 
 -- bit 8 of a byte
 no-ninth : (x : ℕ) → x < 256 → bit x 8 ≡ 0
 no-ninth x h = let e : x / 256 ≡ 0 = omega arith in rw e
+
+-- so where it is the one that tells, every record is valid
+pub no-flag : (w : Slot) (s : List ℕ) → getD s (w .«flag_at») 0 < 256 → w .«flag_bit» ≡ 8 → true ≡ slotValid w s
+no-flag w s h e = rw e (sym (eq-eqb (bit (getD s (w .«flag_at») 0) 8) 0 (no-ninth (getD s (w .«flag_at») 0) h)))
 
 module _ (g : Group) (c : Channel) (h : FlagAsked g c) {b : ℕ} (eb : b ≡ bit (c .flags) 1) where
   pub always : b ≡ 0 → FlagOf g c 0 8

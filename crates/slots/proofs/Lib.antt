@@ -4,4 +4,5 @@ pub mod Numbers
 pub mod Flags
 pub mod OneSize
 pub mod Places
+pub mod Rows
 pub mod Small

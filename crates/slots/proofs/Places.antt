@@ -1,5 +1,6 @@
 -- The word of the eight bytes at a slot's place is that of the record.
-use mathlib.Core.Path.{_≡_, ap, _∙_}
+use mathlib.Core.Path.{_≡_, sym, ap, ap₂, subst, _∙_}
+use mathlib.Core.Bool.{Bool}
 use mathlib.Core.List.{List}
 use Prim.Native.Nat.{ℕ, _/_, _%_}
 use native.Mathlib.Omega.{arith}
@@ -7,9 +8,10 @@ use lib.ListN.{length}
 use Rattle.definitions.specs.Bytes.{Order, numberOf, le, u64At, bits, fieldAt}
 use Rattle.words.proofs.Numbers.{Bytes}
 use Rattle.fields.specs.Form.{orderMeant}
+use Rattle.fields.specs.declared.form.Number.{Number}
 use Rattle.decoder.specs.Known.{Held, InWord}
 use Rattle.decoder.proofs.WordFields.{held-by}
-use Rattle.slots.specs.Slots.{wordOf, slotWord, Within, PlaceTold}
+use Rattle.slots.specs.Slots.{wordOf, slotWord, Within, PlaceTold, KindOf}
 use Rattle.slots.specs.declared.slot.Slot.{Slot}
 use Rattle.slots.specs.declared.word.PlaceFound.the-variants.{Place}
 
@@ -31,3 +33,15 @@ module _ {size : ℕ} {w : Slot} (p from : ℕ) (h : Within size w) (told : Plac
       ap (wordOf (w .number) (w .count))
       (held-field (orderMeant (w .«big_endian»)) s (w .at) (w .offset) (w .count)
       (held-by s (w .at) (w .offset) (w .count) p 8 from ew bytes (omega arith) (omega arith) (told .1) (h .low) (h .some) (omega arith)))
+
+-- ---- a word by a kind that is given beside the slot
+
+module _ (w : Slot) {number : Number} {big : Bool} {count : ℕ} (given : KindOf w number big count) where
+  pub kind-in : {from : ℕ} → InWord (w .number) from (w .count) → InWord number from count
+  kind-in {from} h = subst (λ (k : Number). InWord k from count) (sym (given .kind)) (subst (InWord (w .number) from) (sym (given .width)) h)
+
+  pub kind-word : (s : List ℕ) (p offset : ℕ) {x : ℕ} → x ≡ wordOf number count (fieldAt (orderMeant big) s p offset count)
+      → x ≡ wordOf (w .number) (w .count) (fieldAt (orderMeant (w .«big_endian»)) s p offset (w .count))
+  kind-word s p offset e =
+      e ∙ ap₂ (λ (k : Number) (b : Bool). wordOf k count (fieldAt (orderMeant b) s p offset count)) (given .kind) (given .order)
+      ∙ ap (λ (m : ℕ). wordOf (w .number) m (fieldAt (orderMeant (w .«big_endian»)) s p offset m)) (given .width)

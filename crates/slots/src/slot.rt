@@ -1,6 +1,6 @@
 // A channel's number in records of one size: where its field lies, and which bit tells that it is invalid.
 ghost use mathlib.Core.Path.{_≡_};
-ghost use mathlib.Core.Bool.{true};
+ghost use mathlib.Core.Bool.{true, false};
 ghost use Prim.Native.Nat.{_≤_, _<_};
 ghost use lib.ListN.{length};
 ghost use Rattle.definitions.specs.Reply.{answer};
@@ -103,4 +103,22 @@ pub fn is_valid_in(record: &[u8], slot: Slot) -> bool
 {
     let at = slot.flag_at;
     cut(record[at] as u64, slot.flag_bit, 1) == 0
+}
+
+// Whether any record can be invalid
+pub fn has_flag(slot: Slot) -> bool
+    ensures { λ r. ⌜ (r ≡ false → slot .«flag_bit» ≡ 8) ⌝ }
+{
+    slot.flag_bit != 8
+}
+
+// Validity, where it is known beforehand whether any record can be invalid
+pub fn is_valid_by(flagged: bool, record: &[u8], slot: Slot) -> bool
+    requires { ⌜ (slot .«flag_at» < length (now «record»)) × (slot .«flag_bit» ≤ 8) × (flagged ≡ false → slot .«flag_bit» ≡ 8) ⌝ }
+    ensures { λ r. ⌜ r ≡ slotValid slot (now («record» .entry)) ⌝ }
+{
+    if flagged {
+        return is_valid_in(record, slot);
+    }
+    true
 }

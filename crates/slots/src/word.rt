@@ -72,8 +72,8 @@ fn word_of(number: Number, count: u32, x: u64) -> u64
     }
 }
 
-// Of the eight bytes at that place. By numbers: where kind and order are known, the compiler leaves out what they are not.
-pub fn near_word(word: u64, from: u32, number: Number, big_endian: bool, count: u32) -> u64
+// Of the eight bytes at that place
+pub(crate) fn near_word(word: u64, from: u32, number: Number, big_endian: bool, count: u32) -> u64
     requires { ⌜ InWord number from count ⌝ }
     ensures { λ r. ⌜ r ≡ wordOf number count (fieldAt (orderMeant «big_endian») (le 8 word) (from / 8) (from % 8) count) ⌝ }
 {

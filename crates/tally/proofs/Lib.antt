@@ -1,6 +1,7 @@
--- Laws over plain numbers. For crates above: Tallying.
+-- Laws over plain numbers. For crates above: Kept, Tallying.
 pub mod Ordered
 pub mod Patterns
+pub mod Exactly
 pub mod Sums
 pub mod Kept
 pub mod Foremost

@@ -6,7 +6,7 @@ use native.Mathlib.Omega.{arith}
 use mathlib.Core.List.{[], _∷_}
 use types.Run.{OneOf, miss}
 use denote.Enum.Declared.{tagOf}
-use borrow.Author.Tests.{ltb-true, ltb-false, lt-ltb, le-ltb}
+use borrow.Author.Tests.{ltb-true, ltb-false, not-true, lt-ltb, le-ltb}
 use lib.Dec.{T, ltb, le→leb}
 use lib.IntN.{ℤ, pos, negsuc, _-ℤ_}
 use lib.Signed.{leZ, _≤ℤ_}
@@ -112,10 +112,6 @@ value-as n m word p v e f g = g ∙ ap (ofBits binary64) f ∙ ap (λ (k : Numbe
 
 pub never : {A : Type 0} → false ≡ true → A
 never e = absurd (true≢false (sym e))
-
-not-true : (b : Bool) → not b ≡ true → b ≡ false
-not-true true e = sym e
-not-true false e = refl
 
 pub double-between : (s v l : Float) → ne v v ≡ false → lt v s ≡ false → not (lt l v) ≡ true → (isNan v ≡ false) × (lt v s ≡ false) × (lt l v ≡ false)
 double-between s v l e f g = (sym (differs v false e), f, not-true (lt l v) g)

@@ -16,7 +16,7 @@ use Rattle.fields.specs.declared.form.Number.the-variants.{Unsigned, Signed, Fl
 use Rattle.tally.specs.Words.{integerOf, valueAt, Words}
 use Rattle.tally.specs.declared.sum.Total.{Total}
 use Rattle.tally.specs.declared.tally.Tally.{Tally}
-use Rattle.tally.specs.Tallies.{totalWith, totalOf, excessOf, emptyTally, skippedTally, nanTally, markedTally, countedTally, Sane, outermostIn, Tallied}
+use Rattle.tally.specs.Tallies.{totalWith, totalOf, excessOf, emptyTally, skippedTally, nanTally, markedTally, countedTally, Sane, HasMarks, outermostIn, Tallied}
 use Rattle.tally.proofs.Sums.{sum-with, sum-with-nan}
 use Rattle.tally.proofs.Outermosts.{outermost-more, marked-outermost, nan-outermost, with-point}
 use Rattle.tally.proofs.Counts.{count-more, sum-more, points-more, pointOf, numerals}
@@ -63,6 +63,14 @@ module _ (n : Number) {t : Tally} (word : ℕ) (s : Sane t) (f : word < 2 ^ 64) 
       go : (b : Bool) → Sane (if b then nanTally t else markedTally n t word)
       go true = sane-nan s
       go false = sane-marked
+
+-- a number behind another leaves marks
+pub marks-count : (n : Number) {t : Tally} (word : ℕ) → Sane t → HasMarks t → HasMarks (countedTally n t word)
+marks-count n {t} word s marks = go (isNan (valueAt n word))
+  where
+    go : (b : Bool) → HasMarks (if b then nanTally t else markedTally n t word)
+    go true e = marks (omega arith)
+    go false e = omega (arith, s .nan)
 
 -- ---- true to the readings
 

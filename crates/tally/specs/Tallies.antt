@@ -1,11 +1,11 @@
 -- What one record more makes of a tally, and what a tally knows of the records so far.
 use mathlib.Core.Path.{_≡_}
 use mathlib.Core.Bool.{true, false}
-use mathlib.Core.List.{List, []}
+use mathlib.Core.List.{List}
 use Prim.Native.Nat.{ℕ, _+_, _*_, _/_, _%_, _^_, _≤_, _<_}
 use lib.IntN.{pos, _+ℤ_}
 use lib.ListN.{length}
-use lib.Dec.{eqb}
+use lib.Dec.{ltb, eqb}
 use lib.Ieee.{lt, isNan}
 use Rattle.definitions.specs.Reply.{Reply, if_then_else_}
 use Rattle.definitions.specs.Channel.{ValidValue}
@@ -84,6 +84,19 @@ nanTally t = record {
   largest = t .largest;
 }
 
+-- one that is valid and no NaN, as far as nothing is compared
+abbrev pub lastTally : Number → Tally → ℕ → Tally
+lastTally n t word = record {
+  records = t .records + 1;
+  valid = t .valid + 1;
+  nan = t .nan;
+  total = totalWith n (t .total) word;
+  first = t .first;
+  last = record { number = t .records; word = word };
+  smallest = t .smallest;
+  largest = t .largest;
+}
+
 -- one that is valid, and none; before the first one all that are valid are NaN
 abbrev pub markedTally : Number → Tally → ℕ → Tally
 markedTally n t word = record {
@@ -102,27 +115,23 @@ markedTally n t word = record {
 abbrev pub countedTally : Number → Tally → ℕ → Tally
 countedTally n t word = if isNan (valueAt n word) then nanTally t else markedTally n t word
 
--- so many records more that change no extreme, with the total and the last mark that they leave
-abbrev pub innerTally : Tally → ℕ → Total → Mark → Tally
-innerTally t count total last = record {
-  records = t .records + count;
-  valid = t .valid + count;
-  nan = t .nan;
-  total = total;
-  first = t .first;
-  last = last;
-  smallest = t .smallest;
-  largest = t .largest;
-}
-
 -- ---- what is known of a tally
 
--- there are marks, and a word that is no NaN takes the place of none of the extremes
+-- one valid record at least was no NaN
+abbrev pub HasMarks : Tally → Type 0
+HasMarks t = t .valid ≡ t .nan → ⊥
+
+-- a word that is no NaN takes the place of none of the extremes
 pub record Inner (n : Number) (t : Tally) (word : ℕ) : Type 0 where
-  pub some : t .valid ≡ t .nan → ⊥
   pub number : isNan (valueAt n word) ≡ false
   pub notBelow : lt (valueAt n word) (valueAt n (t .smallest .word)) ≡ false
   pub notAbove : lt (valueAt n (t .largest .word)) (valueAt n word) ≡ false
+
+-- whether it does, the words tell as their doubles do
+pub record Clear (n : Number) (t : Tally) (word : ℕ) : Type 0 where
+  pub number : isNan (valueAt n word) ≡ false
+  pub below : lt (valueAt n word) (valueAt n (t .smallest .word)) ≡ ltb word (t .smallest .word)
+  pub above : lt (valueAt n (t .largest .word)) (valueAt n word) ≡ ltb (t .largest .word) word
 
 -- so none of its sums wraps while there are few records
 pub record Sane (t : Tally) : Type 0 where

@@ -3,7 +3,8 @@
 ghost use mathlib.Core.Path.{_≡_};
 ghost use mathlib.Core.Bool.{true, false};
 ghost use lib.Ieee.{lt, isNan};
-ghost use Rattle.tally.specs.Words.{patternOf, valueAt};
+ghost use lib.Dec.{ltb};
+ghost use Rattle.tally.specs.Words.{integerKind, patternOf, valueAt, Exact};
 use doubles::double_of;
 use doubles::double_of_sign;
 use doubles::value_of;
@@ -11,6 +12,17 @@ use fields::Number;
 
 // 0 as a signed integer of 64 bits, counted from the least one
 const SIGNED_ZERO: u64 = 0x8000_0000_0000_0000;
+// A double holds every integer up to 2^53.
+const MOST_EXACT: u64 = 1 << 53;
+
+pub fn integer_kind(signed: bool) -> Number
+    ensures { λ r. ⌜ r ≡ integerKind signed ⌝ }
+{
+    if signed {
+        return Number::Signed;
+    }
+    Number::Unsigned
+}
 
 // The double of a signed integer
 fn signed_pattern(word: u64) -> u64
@@ -51,7 +63,7 @@ fn is_double_below(number: Number, a: u64, b: u64) -> bool
     value_at(number, a) < value_at(number, b)
 }
 
-fn is_double_between(smallest: f64, value: f64, largest: f64) -> bool
+pub(crate) fn is_double_between(smallest: f64, value: f64, largest: f64) -> bool
     ensures { λ r. ⌜ (r ≡ true → (isNan value ≡ false) × (lt value smallest ≡ false) × (lt largest value ≡ false)) ⌝ }
 {
     if value != value {
@@ -63,19 +75,27 @@ fn is_double_between(smallest: f64, value: f64, largest: f64) -> bool
     !(largest < value)
 }
 
-// Whether a number is no NaN and takes the place of neither of two others. Of an integer no double is made for that.
-pub(crate) fn is_between(number: Number, smallest: u64, word: u64, largest: u64) -> bool
-    ensures { λ r. ⌜ (r ≡ true → (isNan (valueAt number word) ≡ false) × (lt (valueAt number word) (valueAt number smallest) ≡ false) × (lt (valueAt number largest) (valueAt number word) ≡ false)) ⌝ }
+// Whether two integers of which a is the smaller are both 2^53 at most away from 0: a double holds each of them.
+fn is_exact(signed: bool, a: u64, b: u64) -> bool
+    ensures { λ r. ⌜ (r ≡ true → Exact signed a b) ⌝ }
 {
-    match number {
-        Number::Float => is_double_between(value_of(smallest), value_of(word), value_of(largest)),
-        _ => {
-            if word < smallest {
-                return false;
-            }
-            word <= largest
+    if signed {
+        if a < SIGNED_ZERO - MOST_EXACT {
+            return false;
         }
+        return b <= SIGNED_ZERO + MOST_EXACT;
     }
+    b <= MOST_EXACT
+}
+
+// Whether two integers are in the order of their doubles: so where a is not the smaller one, and where both are exact
+pub(crate) fn is_told(signed: bool, a: u64, b: u64) -> bool
+    ensures { λ r. ⌜ (r ≡ true → lt (valueAt (integerKind signed) a) (valueAt (integerKind signed) b) ≡ ltb a b) ⌝ }
+{
+    if b <= a {
+        return true;
+    }
+    is_exact(signed, a, b)
 }
 
 // Whether the double of a is the smaller one. A smaller integer's is never larger, so most integers need no rounding.

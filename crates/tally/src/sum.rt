@@ -39,7 +39,7 @@ fn carried(total: Total, word: u64) -> Total
     }
 }
 
-pub fn added(number: Number, total: Total, word: u64) -> Total
+pub(crate) fn added(number: Number, total: Total, word: u64) -> Total
     requires { ⌜ total .high < 2 ^ 63 ⌝ }
     ensures { λ r. ⌜ r ≡ totalWith number total word ⌝ }
 {

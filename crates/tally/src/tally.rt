@@ -1,13 +1,18 @@
 // A tally, and one record more.
 ghost use mathlib.Core.Path.{_≡_};
-ghost use mathlib.Core.Bool.{true};
+ghost use mathlib.Core.Bool.{true, not};
 ghost use Prim.Native.Nat.{_+_, _^_, _<_};
-ghost use Rattle.tally.specs.Tallies.{Sane, Inner, smallerMark, largerMark, emptyTally, skippedTally, nanTally, markedTally, countedTally, innerTally};
+ghost use lib.Dec.{eqb};
+ghost use Rattle.definitions.specs.Reply.{if_then_else_};
+ghost use Rattle.tally.specs.Words.{integerKind};
+ghost use Rattle.tally.specs.Tallies.{Sane, HasMarks, Inner, Clear, smallerMark, largerMark, emptyTally, skippedTally, nanTally, lastTally, markedTally, countedTally};
 use crate::order::is_below;
-use crate::order::is_between;
+use crate::order::is_double_between;
 use crate::order::is_nan;
+use crate::order::is_told;
 use crate::sum::Total;
 use crate::sum::added;
+use doubles::value_of;
 use fields::Number;
 
 // A number as a word, and the number of its record
@@ -30,26 +35,25 @@ pub struct Tally {
     pub largest: Mark,
 }
 
-// The later of two where its double is smaller, else the earlier
+// The later of two where it takes the earlier's place
+fn latest(takes: bool, earlier: Mark, later: Mark) -> Mark
+    ensures { λ r. ⌜ r ≡ if takes then later else earlier ⌝ }
+{
+    if takes { later } else { earlier }
+}
+
 fn smaller(number: Number, earlier: Mark, later: Mark) -> Mark
     ensures { λ r. ⌜ r ≡ smallerMark number earlier later ⌝ }
 {
-    if is_below(number, later.word, earlier.word) {
-        later
-    } else {
-        earlier
-    }
+    let takes = is_below(number, later.word, earlier.word);
+    latest(takes, earlier, later)
 }
 
-// The later of two where its double is larger, else the earlier
 fn larger(number: Number, earlier: Mark, later: Mark) -> Mark
     ensures { λ r. ⌜ r ≡ largerMark number earlier later ⌝ }
 {
-    if is_below(number, earlier.word, later.word) {
-        later
-    } else {
-        earlier
-    }
+    let takes = is_below(number, earlier.word, later.word);
+    latest(takes, earlier, later)
 }
 
 pub fn empty_tally() -> Tally
@@ -78,6 +82,31 @@ pub fn skipped(tally: Tally) -> Tally
     next
 }
 
+// Whether there was one that is valid and no NaN: before that there are no marks
+pub fn has_marks(tally: Tally) -> bool
+    ensures { λ r. ⌜ r ≡ not (eqb (tally .valid) (tally .nan)) ⌝ }
+{
+    tally.valid != tally.nan
+}
+
+// One that is valid and no NaN, as far as it needs no comparing
+pub fn with_last(number: Number, tally: Tally, word: u64) -> Tally
+    requires { ⌜ (tally .records < 2 ^ 63) × (Sane tally) ⌝ }
+    ensures { λ r. ⌜ r ≡ lastTally number tally word ⌝ }
+{
+    let total = added(number, tally.total, word);
+    let last = Mark {
+        number: tally.records,
+        word,
+    };
+    let mut next = tally;
+    next.records = tally.records + 1;
+    next.valid = tally.valid + 1;
+    next.total = total;
+    next.last = last;
+    next
+}
+
 // One that is valid, and NaN
 fn with_nan(tally: Tally) -> Tally
     requires { ⌜ (tally .records < 2 ^ 63) × (Sane tally) ⌝ }
@@ -90,44 +119,40 @@ fn with_nan(tally: Tally) -> Tally
     next
 }
 
-// One that is valid, and none
-fn with_mark(number: Number, tally: Tally, word: u64) -> Tally
-    requires { ⌜ (tally .records < 2 ^ 63) × (Sane tally) ⌝ }
+// One that is valid and no NaN, behind another
+fn with_next_mark(number: Number, tally: Tally, word: u64) -> Tally
+    requires { ⌜ (tally .records < 2 ^ 63) × (Sane tally) × HasMarks tally ⌝ }
     ensures { λ r. ⌜ r ≡ markedTally number tally word ⌝ }
 {
     let mark = Mark {
         number: tally.records,
         word,
     };
-    let records = tally.records + 1;
-    let valid = tally.valid + 1;
-    let nan = tally.nan;
-    let total = added(number, tally.total, word);
-    if tally.valid == tally.nan {
-        return Tally {
-            records,
-            valid,
-            nan,
-            total,
-            first: mark,
-            last: mark,
-            smallest: mark,
-            largest: mark,
-        };
-    }
-    let first = tally.first;
     let smallest = smaller(number, tally.smallest, mark);
     let largest = larger(number, tally.largest, mark);
-    Tally {
-        records,
-        valid,
-        nan,
-        total,
-        first,
-        last: mark,
-        smallest,
-        largest,
+    let mut next = with_last(number, tally, word);
+    next.smallest = smallest;
+    next.largest = largest;
+    next
+}
+
+// The first one, or one behind it
+fn with_mark(number: Number, tally: Tally, word: u64) -> Tally
+    requires { ⌜ (tally .records < 2 ^ 63) × (Sane tally) ⌝ }
+    ensures { λ r. ⌜ r ≡ markedTally number tally word ⌝ }
+{
+    if has_marks(tally) {
+        return with_next_mark(number, tally, word);
     }
+    let mark = Mark {
+        number: tally.records,
+        word,
+    };
+    let mut next = with_last(number, tally, word);
+    next.first = mark;
+    next.smallest = mark;
+    next.largest = mark;
+    next
 }
 
 // One whose value is valid
@@ -141,32 +166,56 @@ pub fn counted(number: Number, tally: Tally, word: u64) -> Tally
     with_mark(number, tally, word)
 }
 
-// Whether there are extremes, and a number takes the place of none
-pub fn is_inner(number: Number, tally: Tally, word: u64) -> bool
-    ensures { λ r. ⌜ (r ≡ true → Inner number tally word) ⌝ }
+// Whether an integer takes the place of no extreme
+pub fn is_inner(signed: bool, tally: Tally, word: u64) -> bool
+    ensures { λ r. ⌜ (r ≡ true → Inner (integerKind signed) tally word) ⌝ }
 {
-    if tally.valid == tally.nan {
+    if word < tally.smallest.word {
         return false;
     }
-    is_between(number, tally.smallest.word, word, tally.largest.word)
+    word <= tally.largest.word
 }
 
-// So many more that are all such, with the words of all added up and the last of them
-pub fn with_inner(tally: Tally, count: u64, total: Total, last: Mark) -> Tally
-    requires { ⌜ (tally .records + count < 2 ^ 63) × (Sane tally) ⌝ }
-    ensures { λ r. ⌜ r ≡ innerTally tally count total last ⌝ }
+// Whether an integer's word alone tells which extremes' place it takes
+pub fn is_clear(signed: bool, tally: Tally, word: u64) -> bool
+    ensures { λ r. ⌜ (r ≡ true → Clear (integerKind signed) tally word) ⌝ }
 {
-    let first = tally.first;
-    let smallest = tally.smallest;
-    let largest = tally.largest;
-    Tally {
-        records: tally.records + count,
-        valid: tally.valid + count,
-        nan: tally.nan,
-        total,
-        first,
-        last,
-        smallest,
-        largest,
+    if !is_told(signed, word, tally.smallest.word) {
+        return false;
     }
+    is_told(signed, tally.largest.word, word)
+}
+
+// One more such
+pub fn with_clear(number: Number, tally: Tally, word: u64) -> Tally
+    requires { ⌜ (tally .records < 2 ^ 63) × (Sane tally) × HasMarks tally × Clear number tally word ⌝ }
+    ensures { λ r. ⌜ r ≡ countedTally number tally word ⌝ }
+{
+    let mark = Mark {
+        number: tally.records,
+        word,
+    };
+    let smallest = latest(word < tally.smallest.word, tally.smallest, mark);
+    let largest = latest(tally.largest.word < word, tally.largest, mark);
+    let mut next = with_last(number, tally, word);
+    next.smallest = smallest;
+    next.largest = largest;
+    next
+}
+
+// One more float
+pub fn counted_float(tally: Tally, word: u64) -> Tally
+    requires { ⌜ (tally .records < 2 ^ 63) × (Sane tally) × HasMarks tally ⌝ }
+    ensures { λ r. ⌜ r ≡ countedTally Number.Float tally word ⌝ }
+{
+    let value = value_of(word);
+    let smallest = value_of(tally.smallest.word);
+    let largest = value_of(tally.largest.word);
+    if is_double_between(smallest, value, largest) {
+        return with_last(Number::Float, tally, word);
+    }
+    if value != value {
+        return with_nan(tally);
+    }
+    with_next_mark(Number::Float, tally, word)
 }

@@ -6,6 +6,7 @@ use native.Mathlib.Omega.{arith}
 use lib.ListN.{length, take}
 use lib.Seq.{length-take-le}
 use borrow.Author.Needs.{needs}
+use borrow.Author.Tests.{not-true, not-false}
 use Rattle.definitions.specs.Reply.{answer}
 use Rattle.definitions.specs.Channel.{isFixedNumber, areaOf}
 use Rattle.definitions.specs.Chain.{idDT, badSize, dataLength, joined}
@@ -14,7 +15,6 @@ use Rattle.fields.specs.Meaning.{channelMeant, groupMeant, areaReply}
 use Rattle.chain.specs.Meaning.{locatedReply}
 use Rattle.chain.specs.Walk.{Walked}
 use Rattle.records.proofs.Records.{size-good, data-whole}
-use Rattle.report.proofs.Visiting.{not-true, not-false}
 use Rattle.report.proofs.Reporting.{report-bad, report-refused, report-other, report-outside, report-line, lined-back}
 use Rattle.report.proofs.report.report_channel.Statement.{statement}
 use Rattle.report.proofs.report.report_channel.Tie as tie

@@ -1,13 +1,14 @@
+use mathlib.Core.Path.{ap, _∙_}
+use mathlib.Core.Bool.{Bool}
 use borrow.Author.Needs.{needs}
-use Rattle.tally.proofs.Kept.{later-kept, earlier-kept}
+use Rattle.definitions.specs.Reply.{if_then_else_}
 use Rattle.tally.proofs.tally.larger.Statement.{statement}
 use Rattle.tally.proofs.tally.larger.Tie as tie
 
 returns : tie.Need-returns
-returns c = later-kept _ _ (c .before .is-below .ensures) (c .if1 .taken)
-
-returns-2 : tie.Need-returns-2
-returns-2 c = earlier-kept _ _ (c .before .is-below .ensures) (c .if1 .left)
+returns c =
+    let a = c .before .before .args in
+    c .latest .ensures ∙ ap (λ (t : Bool). if t then a .later else a .earlier) (c .before .is-below .ensures)
 
 pub larger-spec : {M : Type 1} → statement M
-larger-spec = tie.close (tie.spec (λ c κs. search needs) returns returns-2)
+larger-spec = tie.close (tie.spec (λ c κs. search needs) (λ c κs. search needs) returns)

@@ -3,10 +3,9 @@ use mathlib.Core.Path.{refl, _∙_}
 use Prim.Native.Nat.{_/_, _%_}
 use borrow.Author.Needs.{needs}
 use Rattle.definitions.specs.Bytes.{le}
-use Rattle.slots.proofs.Places.{place-word, place-is-slot}
-use Rattle.report.proofs.Quiets.{kind-in, kind-word}
-use Rattle.report.proofs.run.word_at.Statement.{statement}
-use Rattle.report.proofs.run.word_at.Tie as tie
+use Rattle.slots.proofs.Places.{place-word, place-is-slot, kind-in, kind-word}
+use Rattle.slots.proofs.record.word_at.Statement.{statement}
+use Rattle.slots.proofs.record.word_at.Tie as tie
 
 near-word-requires : tie.Need-near-word-requires
 near-word-requires c κs =

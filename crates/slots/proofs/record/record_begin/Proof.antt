@@ -1,9 +1,9 @@
 -- The product is no longer than the slice.
 use mathlib.Core.Path.{refl}
 use native.Mathlib.Omega.{arith}
-use Rattle.report.proofs.Visiting.{inside}
-use Rattle.report.proofs.run.record_begin.Statement.{statement}
-use Rattle.report.proofs.run.record_begin.Tie as tie
+use Rattle.slots.proofs.Rows.{inside}
+use Rattle.slots.proofs.record.record_begin.Statement.{statement}
+use Rattle.slots.proofs.record.record_begin.Tie as tie
 
 mul-result : tie.Need-mul-result
 mul-result c = record { fits = omega (arith, inside (c .args .i) (c .args .n) (c .args .size) (c .args .length) (c .pre .0) (c .pre .1), c .fits .length) }
