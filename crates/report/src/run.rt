@@ -13,11 +13,12 @@ use slots::PlaceFound;
 use slots::Slot;
 use slots::far_word;
 use slots::find_place;
+use slots::float_at;
 use slots::has_flag;
+use slots::integer_at;
 use slots::is_valid_by;
 use slots::is_valid_in;
 use slots::record_begin;
-use slots::word_at;
 use tally::Tally;
 use tally::counted;
 use tally::counted_float;
@@ -63,7 +64,7 @@ fn integer_row(
             i += 1;
             continue;
         }
-        let word = word_at(record, at, from, number, slot.big_endian, slot.count, slot);
+        let word = integer_at(record, at, from, signed, slot);
         if is_inner(signed, tally, word) {
             tally = with_last(number, tally, word);
             i += 1;
@@ -94,7 +95,6 @@ fn float_row(
     requires { ⌜ RowAsked size slot at from before (now records) first n × FlagTold slot flagged × (Float ≡ slot .number) × (count ≡ slot .count) ⌝ }
     ensures { λ r. ⌜ RowTo size slot before (now (records .entry)) first n r ⌝ }
 {
-    let number = Number::Float;
     let mut tally = before;
     let mut i = first;
     while i < n {
@@ -106,7 +106,7 @@ fn float_row(
             i += 1;
             continue;
         }
-        let word = word_at(record, at, from, number, slot.big_endian, count, slot);
+        let word = float_at(record, at, from, count, slot);
         tally = counted_float(tally, word);
         i += 1;
     }

@@ -61,9 +61,3 @@ SlotTold size g c NoValue = (s : List ℕ) → length s ≡ size → hasNoValue 
 abbrev pub PlaceTold : ℕ → Slot → PlaceFound → Type 0
 PlaceTold size w (Place p from) = (p + 8 ≤ size) × (8 * p + from ≡ 8 * w .at + w .offset) × (from + w .count ≤ 64)
 PlaceTold size w NoPlace = Unit {0}
-
--- a slot's kind of number, byte order and width, given beside it
-pub record KindOf (w : Slot) (number : Number) (big : Bool) (count : ℕ) : Type 0 where
-  pub kind : number ≡ w .number
-  pub order : big ≡ w .«big_endian»
-  pub width : count ≡ w .count

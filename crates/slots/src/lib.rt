@@ -3,8 +3,9 @@ mod record;
 mod slot;
 mod word;
 
+pub use record::float_at;
+pub use record::integer_at;
 pub use record::record_begin;
-pub use record::word_at;
 pub use slot::Slot;
 pub use slot::SlotFound;
 pub use slot::find_slot;

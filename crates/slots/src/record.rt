@@ -2,11 +2,14 @@
 ghost use mathlib.Core.Path.{_≡_};
 ghost use Prim.Native.Nat.{_+_, _*_, _≤_, _<_};
 ghost use lib.ListN.{length};
-ghost use Rattle.slots.specs.Slots.{slotWord, Within, PlaceTold, KindOf};
+ghost use Rattle.fields.specs.declared.form.Number.the-variants.{Float};
+ghost use Rattle.tally.specs.Words.{integerKind};
+ghost use Rattle.slots.specs.Slots.{slotWord, Within, PlaceTold};
 ghost use Rattle.slots.specs.declared.word.PlaceFound.{PlaceFound};
 use crate::slot::Slot;
-use crate::word::near_word;
-use fields::Number;
+use crate::word::near_field;
+use crate::word::signed_word;
+use fields::float_bits;
 use words::read_u64_le;
 
 // Where record i of n begins
@@ -17,20 +20,26 @@ pub fn record_begin(i: usize, size: usize, n: usize, length: usize) -> usize
     i * size
 }
 
-// The word of the number in a record, by a load of the eight bytes that hold it. Kind, order and width stand beside the slot, so that
-// the compiler leaves out what they are not.
-pub fn word_at(
-    record: &[u8],
-    at: usize,
-    from: u32,
-    number: Number,
-    big_endian: bool,
-    count: u32,
-    slot: Slot,
-) -> u64
-    requires { ⌜ Within (length (now «record»)) slot × PlaceTold (length (now «record»)) slot (PlaceFound.Place at from) × KindOf slot number «big_endian» count ⌝ }
+// The word of an integer in a record, by a load of the eight bytes that hold it. Its kind stands beside the slot, where the compiler
+// knows it.
+pub fn integer_at(record: &[u8], at: usize, from: u32, signed: bool, slot: Slot) -> u64
+    requires { ⌜ Within (length (now «record»)) slot × PlaceTold (length (now «record»)) slot (PlaceFound.Place at from) × (integerKind signed ≡ slot .number) ⌝ }
     ensures { λ r. ⌜ r ≡ slotWord slot (now («record» .entry)) ⌝ }
 {
     let word = read_u64_le(record, at);
-    near_word(word, from, number, big_endian, count)
+    let x = near_field(word, from, slot.big_endian, slot.count);
+    if signed {
+        return signed_word(slot.count, x);
+    }
+    x
+}
+
+// The same of a float, whose width stands beside the slot
+pub fn float_at(record: &[u8], at: usize, from: u32, count: u32, slot: Slot) -> u64
+    requires { ⌜ Within (length (now «record»)) slot × PlaceTold (length (now «record»)) slot (PlaceFound.Place at from) × (Float ≡ slot .number) × (count ≡ slot .count) ⌝ }
+    ensures { λ r. ⌜ r ≡ slotWord slot (now («record» .entry)) ⌝ }
+{
+    let word = read_u64_le(record, at);
+    let x = near_field(word, from, slot.big_endian, count);
+    float_bits(count, x)
 }

@@ -6,7 +6,6 @@ ghost use Rattle.definitions.specs.Bytes.{le, fieldAt};
 ghost use Rattle.fields.specs.Form.{orderMeant};
 ghost use Rattle.fields.specs.Known.{Fitting};
 ghost use Rattle.fields.specs.declared.form.Number.the-variants.{Signed};
-ghost use Rattle.decoder.specs.Known.{InWord};
 ghost use Rattle.slots.specs.Slots.{wordOf, slotWord, Within, PlaceTold};
 ghost use Rattle.slots.specs.Known.{SignBit};
 use crate::slot::Slot;
@@ -50,7 +49,7 @@ fn sign_bit(count: u32) -> u64
 }
 
 // An integer counted from the least one of 64 bits: order is then that of unsigned words
-fn signed_word(count: u32, x: u64) -> u64
+pub(crate) fn signed_word(count: u32, x: u64) -> u64
     requires { ⌜ Fitting Signed count x ⌝ }
     ensures { λ r. ⌜ r ≡ wordOf Signed count x ⌝ }
 {
@@ -72,17 +71,15 @@ fn word_of(number: Number, count: u32, x: u64) -> u64
     }
 }
 
-// Of the eight bytes at that place
-pub(crate) fn near_word(word: u64, from: u32, number: Number, big_endian: bool, count: u32) -> u64
-    requires { ⌜ InWord number from count ⌝ }
-    ensures { λ r. ⌜ r ≡ wordOf number count (fieldAt (orderMeant «big_endian») (le 8 word) (from / 8) (from % 8) count) ⌝ }
+// The field in the eight bytes at that place
+pub(crate) fn near_field(word: u64, from: u32, big_endian: bool, count: u32) -> u64
+    requires { ⌜ (1 ≤ count) × (from + count ≤ 64) ⌝ }
+    ensures { λ r. ⌜ r ≡ fieldAt (orderMeant «big_endian») (le 8 word) (from / 8) (from % 8) count ⌝ }
 {
-    let x = if big_endian {
-        near_be(word, from, count)
-    } else {
-        near_le(word, from, count)
-    };
-    word_of(number, count, x)
+    if big_endian {
+        return near_be(word, from, count);
+    }
+    near_le(word, from, count)
 }
 
 // Of the record, which need not have eight bytes; nor need they hold the field

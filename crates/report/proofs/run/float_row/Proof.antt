@@ -15,10 +15,10 @@ use Rattle.report.proofs.run.float_row.Statement.{statement}
 use Rattle.report.proofs.run.float_row.Tie as tie
 
 abbrev Inv-loop : tie.InvT-loop
-Inv-loop records size first n at from count flagged slot number tally₀ i₀ tally i = (i ≤ n) × RowSo size slot tally₀ records first i tally × HasMarks tally
+Inv-loop records size first n at from count flagged slot tally₀ i₀ tally i = (i ≤ n) × RowSo size slot tally₀ records first i tally × HasMarks tally
 
 abbrev μ-loop : tie.MeasureT-loop
-μ-loop records size first n at from count flagged slot number tally₀ i₀ tally i = n - i
+μ-loop records size first n at from count flagged slot tally₀ i₀ tally i = n - i
 
 -- the place of a turn
 few : (c : tie.In-loop Inv-loop μ-loop) → c .before .loop .tally .records < 2 ^ 63
@@ -72,14 +72,15 @@ loop-again c =
     (sym (asked .is-valid-by .ensures) ∙ not-true _ (c .before .if1 .taken)) (c .skipped .ensures) in
     (omega (arith, turn .loop-test .taken), so .0, so .1)
 
-word-at-requires : tie.Need-word-at-requires Inv-loop μ-loop
-word-at-requires c κs =
+float-at-requires : tie.Need-float-at-requires Inv-loop μ-loop
+float-at-requires c κs =
     let begin = c .before .before .before in
     let start = begin .before .before .before .before in
     let a = start .args in (
       subst (λ (m : ℕ). Within m (a .slot)) (sym (long begin)) (start .pre .0 .within),
       subst (λ (m : ℕ). PlaceTold m (a .slot) (Place (a .at) (a .from))) (sym (long begin)) (start .pre .0 .place),
-      record { kind = start .pre .2; order = refl; width = start .pre .3 },
+      start .pre .2,
+      start .pre .3,
     )
 
 counted-float-requires : tie.Need-counted-float-requires Inv-loop μ-loop
@@ -102,7 +103,7 @@ loop-again-2 c =
     let a = start .args in
     let so = row-valid (a .size) (a .slot) (a .before) (a .records .now) (a .first) (l .i) (l .tally) (l .inv .1) (l .inv .2) _ _
     (part-is (a .records .now) (a .size) (a .n) (l .i) _ (begin .record-begin .ensures .0) (begin .record-begin .ensures .1))
-    (word .word-at .result) (start .pre .2) (sym (asked .is-valid-by .ensures) ∙ not-false _ (word .before .if1 .left)) (word .word-at .ensures) (omega arith) (c .counted-float .ensures) in
+    (word .float-at .result) (start .pre .2) (sym (asked .is-valid-by .ensures) ∙ not-false _ (word .before .if1 .left)) (word .float-at .ensures) (omega arith) (c .counted-float .ensures) in
     (omega (arith, turn .loop-test .taken), so .0, so .1)
 
 returns : tie.Need-returns Inv-loop μ-loop
@@ -125,7 +126,7 @@ float-row-spec =
     add-i
     (λ c. search needs)
     loop-again
-    word-at-requires
+    float-at-requires
     counted-float-requires
     add-i-2
     (λ c. search needs)

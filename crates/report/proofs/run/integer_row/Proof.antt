@@ -9,7 +9,7 @@ use Rattle.fields.specs.declared.form.Number.{Number}
 use Rattle.tally.specs.Words.{integerKind}
 use Rattle.tally.specs.Tallies.{HasMarks, Inner, Clear, countedTally}
 use Rattle.tally.proofs.Kept.{inner-mark}
-use Rattle.slots.specs.Slots.{slotValid, Within, PlaceTold, KindOf}
+use Rattle.slots.specs.Slots.{Within, PlaceTold}
 use Rattle.slots.specs.declared.word.PlaceFound.the-variants.{Place}
 use Rattle.slots.proofs.Rows.{part-is, part-long}
 use Rattle.report.specs.Rows.{RowSo}
@@ -79,24 +79,24 @@ loop-again c =
 kind : (c : tie.In-loop Inv-loop μ-loop) → c .before .before .integer-kind .result ≡ c .before .before .before .before .args .slot .number
 kind c = c .before .before .integer-kind .ensures ∙ c .before .before .before .before .pre .2
 
-word-at-requires : tie.Need-word-at-requires Inv-loop μ-loop
-word-at-requires c κs =
+integer-at-requires : tie.Need-integer-at-requires Inv-loop μ-loop
+integer-at-requires c κs =
     let begin = c .before .before .before in
     let turn = begin .before in
     let start = turn .before .before .before .before in
     let a = start .args in (
       subst (λ (m : ℕ). Within m (a .slot)) (sym (long begin)) (start .pre .0 .within),
       subst (λ (m : ℕ). PlaceTold m (a .slot) (Place (a .at) (a .from))) (sym (long begin)) (start .pre .0 .place),
-      record { kind = kind turn; order = refl; width = refl },
+      start .pre .2,
     )
 
 -- a valid one, with what it makes of the tally
-next : (c : tie.After-word-at Inv-loop μ-loop) →
+next : (c : tie.After-integer-at Inv-loop μ-loop) →
     let begin = c .before .before .before .before in
     let turn = begin .before in
     let l = turn .before .loop in
     let a = turn .before .before .before .before .args in
-    (v : _) → v ≡ countedTally (turn .before .before .integer-kind .result) (l .tally) (c .word-at .result)
+    (v : _) → v ≡ countedTally (turn .before .before .integer-kind .result) (l .tally) (c .integer-at .result)
     → (l .i + 1 ≤ a .n) × RowSo (a .size) (a .slot) (a .before) (a .records .now) (a .first) (l .i + 1) v × HasMarks v
 next c v e =
     let asked = c .before .before in
@@ -106,7 +106,7 @@ next c v e =
     let a = turn .before .before .before .before .args in
     let so = row-valid (a .size) (a .slot) (a .before) (a .records .now) (a .first) (l .i) (l .tally) (l .inv .1) (l .inv .2) v _
     (part-is (a .records .now) (a .size) (a .n) (l .i) _ (begin .record-begin .ensures .0) (begin .record-begin .ensures .1))
-    (c .word-at .result) (kind turn) (sym (asked .is-valid-by .ensures) ∙ not-false _ (c .before .if1 .left)) (c .word-at .ensures) (omega arith) e in
+    (c .integer-at .result) (kind turn) (sym (asked .is-valid-by .ensures) ∙ not-false _ (c .before .if1 .left)) (c .integer-at .ensures) (omega arith) e in
     (omega (arith, turn .loop-test .taken), so .0, so .1)
 
 with-last-requires : tie.Need-with-last-requires Inv-loop μ-loop
@@ -127,8 +127,8 @@ loop-again-2 c =
     let turn = word .before .before .before .before .before in
     let l = turn .before .loop in
     let kinds = turn .before .before in
-    next word _ (inner-mark (kinds .integer-kind .result) (l .tally) (word .word-at .result) _ (c .with-last .ensures) (l .inv .2)
-    (subst (λ (k : Number). Inner k (l .tally) (word .word-at .result)) (sym (kinds .integer-kind .ensures)) (asked .is-inner .ensures (c .before .if2 .taken))))
+    next word _ (inner-mark (kinds .integer-kind .result) (l .tally) (word .integer-at .result) _ (c .with-last .ensures) (l .inv .2)
+    (subst (λ (k : Number). Inner k (l .tally) (word .integer-at .result)) (sym (kinds .integer-kind .ensures)) (asked .is-inner .ensures (c .before .if2 .taken))))
 
 -- the row ends where words do not tell
 returns : tie.Need-returns Inv-loop μ-loop
@@ -145,7 +145,7 @@ with-clear-requires c κs =
       few turn,
       l .inv .1 .sane,
       l .inv .2,
-      subst (λ (k : Number). Clear k (l .tally) (word .word-at .result)) (sym (turn .before .before .integer-kind .ensures)) (asked .is-clear .ensures (not-false _ (c .if3 .left))),
+      subst (λ (k : Number). Clear k (l .tally) (word .integer-at .result)) (sym (turn .before .before .integer-kind .ensures)) (asked .is-clear .ensures (not-false _ (c .if3 .left))),
     )
 
 add-i-3 : tie.Need-add-i-3 Inv-loop μ-loop
@@ -178,7 +178,7 @@ integer-row-spec =
     add-i
     (λ c. search needs)
     loop-again
-    word-at-requires
+    integer-at-requires
     (λ c κs. search needs)
     with-last-requires
     add-i-2
