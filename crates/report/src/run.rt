@@ -23,12 +23,11 @@ use tally::Tally;
 use tally::counted;
 use tally::counted_float;
 use tally::has_marks;
-use tally::integer_kind;
 use tally::is_clear;
 use tally::is_inner;
 use tally::skipped;
 use tally::with_clear;
-use tally::with_last;
+use tally::with_integer;
 
 // The record that comes next, and the tally of those before it
 pub(crate) struct Row {
@@ -52,7 +51,6 @@ fn integer_row(
     requires { ⌜ RowAsked size slot at from before (now records) first n × FlagTold slot flagged × (integerKind signed ≡ slot .number) ⌝ }
     ensures { λ r. ⌜ RowTo size slot before (now (records .entry)) first n r ⌝ }
 {
-    let number = integer_kind(signed);
     let mut tally = before;
     let mut i = first;
     while i < n {
@@ -66,14 +64,14 @@ fn integer_row(
         }
         let word = integer_at(record, at, from, signed, slot);
         if is_inner(signed, tally, word) {
-            tally = with_last(number, tally, word);
+            tally = with_integer(tally, word);
             i += 1;
             continue;
         }
         if !is_clear(signed, tally, word) {
             return Row { next: i, tally };
         }
-        tally = with_clear(number, tally, word);
+        tally = with_clear(signed, tally, word);
         i += 1;
     }
     Row { next: i, tally }

@@ -1,6 +1,6 @@
 -- What one record more makes of a tally, and what a tally knows of the records so far.
 use mathlib.Core.Path.{_≡_}
-use mathlib.Core.Bool.{true, false}
+use mathlib.Core.Bool.{Bool, true, false}
 use mathlib.Core.List.{List}
 use Prim.Native.Nat.{ℕ, _+_, _*_, _/_, _%_, _^_, _≤_, _<_}
 use lib.IntN.{pos, _+ℤ_}
@@ -95,6 +95,19 @@ lastTally n t word = record {
   last = record { number = t .records; word = word };
   smallest = t .smallest;
   largest = t .largest;
+}
+
+-- a mark in the place of extremes
+abbrev pub withExtremes : Tally → Mark → Bool → Bool → Tally
+withExtremes t mark isSmallest isLargest = record {
+  records = t .records;
+  valid = t .valid;
+  nan = t .nan;
+  total = t .total;
+  first = t .first;
+  last = t .last;
+  smallest = if isSmallest then mark else t .smallest;
+  largest = if isLargest then mark else t .largest;
 }
 
 -- one that is valid, and none; before the first one all that are valid are NaN

@@ -4,7 +4,6 @@ mod report;
 mod sum;
 mod tally;
 
-pub use order::integer_kind;
 pub use report::Outermost;
 pub use report::Point;
 pub use report::Report;
@@ -23,4 +22,4 @@ pub use tally::is_clear;
 pub use tally::is_inner;
 pub use tally::skipped;
 pub use tally::with_clear;
-pub use tally::with_last;
+pub use tally::with_integer;

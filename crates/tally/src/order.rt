@@ -15,15 +15,6 @@ const SIGNED_ZERO: u64 = 0x8000_0000_0000_0000;
 // A double holds every integer up to 2^53.
 const MOST_EXACT: u64 = 1 << 53;
 
-pub fn integer_kind(signed: bool) -> Number
-    ensures { λ r. ⌜ r ≡ integerKind signed ⌝ }
-{
-    if signed {
-        return Number::Signed;
-    }
-    Number::Unsigned
-}
-
 // The double of a signed integer
 fn signed_pattern(word: u64) -> u64
     ensures { λ r. ⌜ r ≡ patternOf Number.Signed word ⌝ }

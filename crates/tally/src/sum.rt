@@ -3,7 +3,7 @@ ghost use mathlib.Core.Path.{_≡_};
 ghost use Prim.Native.Nat.{_*_, _%_, _^_, _≤_, _<_};
 ghost use lib.IntN.{pos, _+ℤ_, _-ℤ_};
 ghost use Rattle.tally.specs.Words.{signedZero};
-ghost use Rattle.tally.specs.Tallies.{totalOf, addedTotal, totalWith, excessOf};
+ghost use Rattle.tally.specs.Tallies.{totalOf, addedTotal, excessOf};
 ghost use Rattle.tally.specs.Meaning.{sumMeant};
 use fields::Number;
 use std::num::wrapping_add_u64;
@@ -22,7 +22,7 @@ pub struct Sum {
 }
 
 // The low word wraps where it ends below what was added: then one is carried.
-fn carried(total: Total, word: u64) -> Total
+pub(crate) fn carried(total: Total, word: u64) -> Total
     requires { ⌜ total .high < 2 ^ 63 ⌝ }
     ensures { λ r. ⌜ r ≡ addedTotal total word ⌝ }
 {
@@ -36,17 +36,6 @@ fn carried(total: Total, word: u64) -> Total
     Total {
         high: total.high,
         low,
-    }
-}
-
-pub(crate) fn added(number: Number, total: Total, word: u64) -> Total
-    requires { ⌜ total .high < 2 ^ 63 ⌝ }
-    ensures { λ r. ⌜ r ≡ totalWith number total word ⌝ }
-{
-    match number {
-        Number::Unsigned => carried(total, word),
-        Number::Signed => carried(total, word),
-        Number::Float => total,
     }
 }
 

@@ -1,17 +1,16 @@
 // A tally, and one record more.
 ghost use mathlib.Core.Path.{_≡_};
-ghost use mathlib.Core.Bool.{true, not};
+ghost use mathlib.Core.Bool.{Bool, true, not};
 ghost use Prim.Native.Nat.{_+_, _^_, _<_};
 ghost use lib.Dec.{eqb};
-ghost use Rattle.definitions.specs.Reply.{if_then_else_};
 ghost use Rattle.tally.specs.Words.{integerKind};
-ghost use Rattle.tally.specs.Tallies.{Sane, HasMarks, Inner, Clear, smallerMark, largerMark, emptyTally, skippedTally, nanTally, lastTally, markedTally, countedTally};
+ghost use Rattle.tally.specs.Tallies.{Sane, HasMarks, Inner, Clear, emptyTally, skippedTally, nanTally, lastTally, withExtremes, markedTally, countedTally};
 use crate::order::is_below;
 use crate::order::is_double_between;
 use crate::order::is_nan;
 use crate::order::is_told;
 use crate::sum::Total;
-use crate::sum::added;
+use crate::sum::carried;
 use doubles::value_of;
 use fields::Number;
 
@@ -33,27 +32,6 @@ pub struct Tally {
     pub last: Mark,
     pub smallest: Mark,
     pub largest: Mark,
-}
-
-// The later of two where it takes the earlier's place
-fn latest(takes: bool, earlier: Mark, later: Mark) -> Mark
-    ensures { λ r. ⌜ r ≡ if takes then later else earlier ⌝ }
-{
-    if takes { later } else { earlier }
-}
-
-fn smaller(number: Number, earlier: Mark, later: Mark) -> Mark
-    ensures { λ r. ⌜ r ≡ smallerMark number earlier later ⌝ }
-{
-    let takes = is_below(number, later.word, earlier.word);
-    latest(takes, earlier, later)
-}
-
-fn larger(number: Number, earlier: Mark, later: Mark) -> Mark
-    ensures { λ r. ⌜ r ≡ largerMark number earlier later ⌝ }
-{
-    let takes = is_below(number, earlier.word, later.word);
-    latest(takes, earlier, later)
 }
 
 pub fn empty_tally() -> Tally
@@ -89,12 +67,12 @@ pub fn has_marks(tally: Tally) -> bool
     tally.valid != tally.nan
 }
 
-// One that is valid and no NaN, as far as it needs no comparing
-pub fn with_last(number: Number, tally: Tally, word: u64) -> Tally
+// One that is valid, an integer, as far as it needs no comparing
+pub fn with_integer(tally: Tally, word: u64) -> Tally
     requires { ⌜ (tally .records < 2 ^ 63) × (Sane tally) ⌝ }
-    ensures { λ r. ⌜ r ≡ lastTally number tally word ⌝ }
+    ensures { λ r. ⌜ ((signed : Bool) → r ≡ lastTally (integerKind signed) tally word) ⌝ }
 {
-    let total = added(number, tally.total, word);
+    let total = carried(tally.total, word);
     let last = Mark {
         number: tally.records,
         word,
@@ -104,6 +82,47 @@ pub fn with_last(number: Number, tally: Tally, word: u64) -> Tally
     next.valid = tally.valid + 1;
     next.total = total;
     next.last = last;
+    next
+}
+
+// A float that is no NaN, in the same way
+fn with_float(tally: Tally, word: u64) -> Tally
+    requires { ⌜ (tally .records < 2 ^ 63) × (Sane tally) ⌝ }
+    ensures { λ r. ⌜ r ≡ lastTally Number.Float tally word ⌝ }
+{
+    let last = Mark {
+        number: tally.records,
+        word,
+    };
+    let mut next = tally;
+    next.records = tally.records + 1;
+    next.valid = tally.valid + 1;
+    next.last = last;
+    next
+}
+
+fn with_last(number: Number, tally: Tally, word: u64) -> Tally
+    requires { ⌜ (tally .records < 2 ^ 63) × (Sane tally) ⌝ }
+    ensures { λ r. ⌜ r ≡ lastTally number tally word ⌝ }
+{
+    match number {
+        Number::Unsigned => with_integer(tally, word),
+        Number::Signed => with_integer(tally, word),
+        Number::Float => with_float(tally, word),
+    }
+}
+
+// The mark in the place of an extreme, or of both
+fn with_extremes(before: Tally, mark: Mark, is_smallest: bool, is_largest: bool) -> Tally
+    ensures { λ r. ⌜ r ≡ withExtremes before mark «is_smallest» «is_largest» ⌝ }
+{
+    let mut next = before;
+    if is_smallest {
+        next.smallest = mark;
+    }
+    if is_largest {
+        next.largest = mark;
+    }
     next
 }
 
@@ -128,12 +147,10 @@ fn with_next_mark(number: Number, tally: Tally, word: u64) -> Tally
         number: tally.records,
         word,
     };
-    let smallest = smaller(number, tally.smallest, mark);
-    let largest = larger(number, tally.largest, mark);
-    let mut next = with_last(number, tally, word);
-    next.smallest = smallest;
-    next.largest = largest;
-    next
+    let is_smallest = is_below(number, word, tally.smallest.word);
+    let is_largest = is_below(number, tally.largest.word, word);
+    let next = with_last(number, tally, word);
+    with_extremes(next, mark, is_smallest, is_largest)
 }
 
 // The first one, or one behind it
@@ -187,20 +204,21 @@ pub fn is_clear(signed: bool, tally: Tally, word: u64) -> bool
 }
 
 // One more such
-pub fn with_clear(number: Number, tally: Tally, word: u64) -> Tally
-    requires { ⌜ (tally .records < 2 ^ 63) × (Sane tally) × HasMarks tally × Clear number tally word ⌝ }
-    ensures { λ r. ⌜ r ≡ countedTally number tally word ⌝ }
+pub fn with_clear(signed: bool, tally: Tally, word: u64) -> Tally
+    requires { ⌜ (tally .records < 2 ^ 63) × (Sane tally) × HasMarks tally × Clear (integerKind signed) tally word ⌝ }
+    ensures { λ r. ⌜ r ≡ countedTally (integerKind signed) tally word ⌝ }
 {
     let mark = Mark {
         number: tally.records,
         word,
     };
-    let smallest = latest(word < tally.smallest.word, tally.smallest, mark);
-    let largest = latest(tally.largest.word < word, tally.largest, mark);
-    let mut next = with_last(number, tally, word);
-    next.smallest = smallest;
-    next.largest = largest;
-    next
+    let next = with_integer(tally, word);
+    with_extremes(
+        next,
+        mark,
+        word < tally.smallest.word,
+        tally.largest.word < word,
+    )
 }
 
 // One more float
@@ -212,10 +230,15 @@ pub fn counted_float(tally: Tally, word: u64) -> Tally
     let smallest = value_of(tally.smallest.word);
     let largest = value_of(tally.largest.word);
     if is_double_between(smallest, value, largest) {
-        return with_last(Number::Float, tally, word);
+        return with_float(tally, word);
     }
     if value != value {
         return with_nan(tally);
     }
-    with_next_mark(Number::Float, tally, word)
+    let mark = Mark {
+        number: tally.records,
+        word,
+    };
+    let next = with_float(tally, word);
+    with_extremes(next, mark, value < smallest, largest < value)
 }

@@ -5,9 +5,9 @@ use native.Mathlib.Omega.{arith}
 use borrow.Author.Needs.{needs}
 use borrow.Author.Tests.{not-true, not-false}
 use lib.ListN.{length, take, drop}
-use Rattle.fields.specs.declared.form.Number.{Number}
 use Rattle.tally.specs.Words.{integerKind}
-use Rattle.tally.specs.Tallies.{HasMarks, Inner, Clear, countedTally}
+use Rattle.tally.specs.Tallies.{HasMarks, countedTally}
+use Rattle.tally.specs.declared.tally.Tally.{Tally}
 use Rattle.tally.proofs.Kept.{inner-mark}
 use Rattle.slots.specs.Slots.{Within, PlaceTold}
 use Rattle.slots.specs.declared.word.PlaceFound.the-variants.{Place}
@@ -18,41 +18,41 @@ use Rattle.report.proofs.run.integer_row.Statement.{statement}
 use Rattle.report.proofs.run.integer_row.Tie as tie
 
 abbrev Inv-loop : tie.InvT-loop
-Inv-loop records size first n at from signed flagged slot number tally₀ i₀ tally i = (i ≤ n) × RowSo size slot tally₀ records first i tally × HasMarks tally
+Inv-loop records size first n at from signed flagged slot tally₀ i₀ tally i = (i ≤ n) × RowSo size slot tally₀ records first i tally × HasMarks tally
 
 abbrev μ-loop : tie.MeasureT-loop
-μ-loop records size first n at from signed flagged slot number tally₀ i₀ tally i = n - i
+μ-loop records size first n at from signed flagged slot tally₀ i₀ tally i = n - i
 
 -- the place of a turn
 few : (c : tie.In-loop Inv-loop μ-loop) → c .before .loop .tally .records < 2 ^ 63
 few c =
     let l = c .before .loop in
-    let start = c .before .before .before .before in
+    let start = c .before .before .before in
     let a = start .args in
     row-few (a .size) (a .slot) (a .before) (a .records .now) (a .first) (l .i) (l .tally) (l .inv .1) (a .n) (c .loop-test .taken) (start .pre .0 .few)
 
 -- the record has its size
 long : (c : tie.After-record-begin Inv-loop μ-loop) →
-    let a = c .before .before .before .before .before .args in
+    let a = c .before .before .before .before .args in
     let begin = c .record-begin .result in
     length (take (begin + a .size - begin) (drop begin (a .records .now))) ≡ a .size
 long c =
-    let a = c .before .before .before .before .before .args in
+    let a = c .before .before .before .before .args in
     part-long (a .records .now) (a .size) (a .n) (c .before .before .loop .i) _ (c .record-begin .ensures .0) (c .record-begin .ensures .1)
 
 loop-holds : tie.Need-loop-holds Inv-loop μ-loop
 loop-holds c =
-    let start = c .before .before in
+    let start = c .before in
     let a = start .args in
     let asked = start .pre .0 in
     (asked .ahead, row-start (a .size) (a .slot) (a .before) (a .records .now) (a .first) (asked .sane), asked .marks)
 
 record-begin-requires : tie.Need-record-begin-requires Inv-loop μ-loop
-record-begin-requires c κs = (c .loop-test .taken, c .before .before .before .before .pre .0 .fits)
+record-begin-requires c κs = (c .loop-test .taken, c .before .before .before .pre .0 .fits)
 
 is-valid-by-requires : tie.Need-is-valid-by-requires Inv-loop μ-loop
 is-valid-by-requires c κs =
-    let start = c .before .before .before .before .before .before in
+    let start = c .before .before .before .before .before in
     let within = start .pre .0 .within in
     (omega (arith, long (c .before), within .flag), within .flagBit, start .pre .1)
 
@@ -69,56 +69,49 @@ loop-again c =
     let begin = asked .before .before in
     let turn = begin .before in
     let l = turn .before .loop in
-    let a = turn .before .before .before .before .args in
+    let a = turn .before .before .before .args in
     let so = row-invalid (a .size) (a .slot) (a .before) (a .records .now) (a .first) (l .i) (l .tally) (l .inv .1) (l .inv .2) _ _
     (part-is (a .records .now) (a .size) (a .n) (l .i) _ (begin .record-begin .ensures .0) (begin .record-begin .ensures .1))
     (sym (asked .is-valid-by .ensures) ∙ not-true _ (c .before .if1 .taken)) (c .skipped .ensures) in
     (omega (arith, turn .loop-test .taken), so .0, so .1)
 
--- the kind that the loop has is the slot's
-kind : (c : tie.In-loop Inv-loop μ-loop) → c .before .before .integer-kind .result ≡ c .before .before .before .before .args .slot .number
-kind c = c .before .before .integer-kind .ensures ∙ c .before .before .before .before .pre .2
-
 integer-at-requires : tie.Need-integer-at-requires Inv-loop μ-loop
 integer-at-requires c κs =
     let begin = c .before .before .before in
-    let turn = begin .before in
-    let start = turn .before .before .before .before in
-    let a = start .args in (
-      subst (λ (m : ℕ). Within m (a .slot)) (sym (long begin)) (start .pre .0 .within),
-      subst (λ (m : ℕ). PlaceTold m (a .slot) (Place (a .at) (a .from))) (sym (long begin)) (start .pre .0 .place),
-      start .pre .2,
-    )
+    let start = begin .before .before .before .before in
+    let a = start .args in
+    (subst (λ (m : ℕ). Within m (a .slot)) (sym (long begin)) (start .pre .0 .within), subst (λ (m : ℕ). PlaceTold m (a .slot) (Place (a .at) (a .from))) (sym (long begin)) (start .pre .0 .place), start .pre .2)
 
 -- a valid one, with what it makes of the tally
-next : (c : tie.After-integer-at Inv-loop μ-loop) →
-    let begin = c .before .before .before .before in
-    let turn = begin .before in
+next : (c : tie.After-integer-at Inv-loop μ-loop) (v : Tally) →
+    let turn = c .before .before .before .before .before in
     let l = turn .before .loop in
-    let a = turn .before .before .before .before .args in
-    (v : _) → v ≡ countedTally (turn .before .before .integer-kind .result) (l .tally) (c .integer-at .result)
+    let a = turn .before .before .before .args in
+    v ≡ countedTally (integerKind (a .signed)) (l .tally) (c .integer-at .result)
     → (l .i + 1 ≤ a .n) × RowSo (a .size) (a .slot) (a .before) (a .records .now) (a .first) (l .i + 1) v × HasMarks v
 next c v e =
     let asked = c .before .before in
     let begin = asked .before .before in
     let turn = begin .before in
     let l = turn .before .loop in
-    let a = turn .before .before .before .before .args in
+    let start = turn .before .before .before in
+    let a = start .args in
     let so = row-valid (a .size) (a .slot) (a .before) (a .records .now) (a .first) (l .i) (l .tally) (l .inv .1) (l .inv .2) v _
     (part-is (a .records .now) (a .size) (a .n) (l .i) _ (begin .record-begin .ensures .0) (begin .record-begin .ensures .1))
-    (c .integer-at .result) (kind turn) (sym (asked .is-valid-by .ensures) ∙ not-false _ (c .before .if1 .left)) (c .integer-at .ensures) (omega arith) e in
+    (c .integer-at .result) (start .pre .2) (sym (asked .is-valid-by .ensures) ∙ not-false _ (c .before .if1 .left)) (c .integer-at .ensures) (omega arith) e in
     (omega (arith, turn .loop-test .taken), so .0, so .1)
 
-with-last-requires : tie.Need-with-last-requires Inv-loop μ-loop
-with-last-requires c κs =
+with-integer-requires : tie.Need-with-integer-requires Inv-loop μ-loop
+with-integer-requires c κs =
     let turn = c .before .before .before .before .before .before .before in
     (few turn, turn .before .loop .inv .1 .sane)
 
+-- behind a valid record
+counts : (c : tie.In-loop Inv-loop μ-loop) → c .before .loop .i + 1 < 2 ^ 64
+counts c = omega (arith, c .loop-test .taken, c .before .before .before .fits .n)
+
 add-i-2 : tie.Need-add-i-2 Inv-loop μ-loop
-add-i-2 c =
-    let turn = c .before .before .before .before .before .before .before .before in
-    let below : turn .before .loop .i + 1 < 2 ^ 64 = omega (arith, turn .loop-test .taken, turn .before .before .before .before .fits .n) in
-    record { fits = below }
+add-i-2 c = record { fits = counts (c .before .before .before .before .before .before .before .before) }
 
 loop-again-2 : tie.Need-loop-again-2 Inv-loop μ-loop
 loop-again-2 c =
@@ -126,9 +119,8 @@ loop-again-2 c =
     let word = asked .before in
     let turn = word .before .before .before .before .before in
     let l = turn .before .loop in
-    let kinds = turn .before .before in
-    next word _ (inner-mark (kinds .integer-kind .result) (l .tally) (word .integer-at .result) _ (c .with-last .ensures) (l .inv .2)
-    (subst (λ (k : Number). Inner k (l .tally) (word .integer-at .result)) (sym (kinds .integer-kind .ensures)) (asked .is-inner .ensures (c .before .if2 .taken))))
+    let signed = turn .before .before .before .args .signed in
+    next word _ (inner-mark (integerKind signed) (l .tally) (word .integer-at .result) _ (c .with-integer .ensures signed) (l .inv .2) (asked .is-inner .ensures (c .before .if2 .taken)))
 
 -- the row ends where words do not tell
 returns : tie.Need-returns Inv-loop μ-loop
@@ -138,21 +130,12 @@ returns c =
 
 with-clear-requires : tie.Need-with-clear-requires Inv-loop μ-loop
 with-clear-requires c κs =
-    let asked = c .before in
-    let word = asked .before .before .before in
-    let turn = word .before .before .before .before .before in
-    let l = turn .before .loop in (
-      few turn,
-      l .inv .1 .sane,
-      l .inv .2,
-      subst (λ (k : Number). Clear k (l .tally) (word .integer-at .result)) (sym (turn .before .before .integer-kind .ensures)) (asked .is-clear .ensures (not-false _ (c .if3 .left))),
-    )
+    let turn = c .before .before .before .before .before .before .before .before .before in
+    let l = turn .before .loop in
+    (few turn, l .inv .1 .sane, l .inv .2, c .before .is-clear .ensures (not-false _ (c .if3 .left)))
 
 add-i-3 : tie.Need-add-i-3 Inv-loop μ-loop
-add-i-3 c =
-    let turn = c .before .before .before .before .before .before .before .before .before .before in
-    let below : turn .before .loop .i + 1 < 2 ^ 64 = omega (arith, turn .loop-test .taken, turn .before .before .before .before .fits .n) in
-    record { fits = below }
+add-i-3 c = record { fits = counts (c .before .before .before .before .before .before .before .before .before .before) }
 
 loop-again-3 : tie.Need-loop-again-3 Inv-loop μ-loop
 loop-again-3 c = next (c .before .before .before .before .before) _ (c .with-clear .ensures)
@@ -166,7 +149,6 @@ integer-row-spec =
     (tie.spec
     Inv-loop
     μ-loop
-    (λ c κs. search needs)
     loop-holds
     record-begin-requires
     (λ c. search needs)
@@ -180,7 +162,7 @@ integer-row-spec =
     loop-again
     integer-at-requires
     (λ c κs. search needs)
-    with-last-requires
+    with-integer-requires
     add-i-2
     (λ c. search needs)
     loop-again-2
