@@ -57,21 +57,19 @@ fn integer_row(
         let begin = record_begin(i, size, n, records.len());
         let end = begin + size;
         let record = &records[begin..end];
-        if !is_valid_by(flagged, record, slot) {
+        if is_valid_by(flagged, record, slot) {
+            let word = integer_at(record, at, from, signed, slot);
+            if is_inner(signed, tally, word) {
+                tally = with_integer(tally, word);
+            } else {
+                if !is_clear(signed, tally, word) {
+                    return Row { next: i, tally };
+                }
+                tally = with_clear(signed, tally, word);
+            }
+        } else {
             tally = skipped(tally);
-            i += 1;
-            continue;
         }
-        let word = integer_at(record, at, from, signed, slot);
-        if is_inner(signed, tally, word) {
-            tally = with_integer(tally, word);
-            i += 1;
-            continue;
-        }
-        if !is_clear(signed, tally, word) {
-            return Row { next: i, tally };
-        }
-        tally = with_clear(signed, tally, word);
         i += 1;
     }
     Row { next: i, tally }
@@ -99,13 +97,12 @@ fn float_row(
         let begin = record_begin(i, size, n, records.len());
         let end = begin + size;
         let record = &records[begin..end];
-        if !is_valid_by(flagged, record, slot) {
+        if is_valid_by(flagged, record, slot) {
+            let word = float_at(record, at, from, count, slot);
+            tally = counted_float(tally, word);
+        } else {
             tally = skipped(tally);
-            i += 1;
-            continue;
         }
-        let word = float_at(record, at, from, count, slot);
-        tally = counted_float(tally, word);
         i += 1;
     }
     Row { next: i, tally }

@@ -1,9 +1,9 @@
 -- After each record the tally is what the records so far make of the first one.
 use mathlib.Core.Path.{_≡_, refl, sym, subst, _∙_}
+use mathlib.Core.Logic.{⊎-elim}
 use Prim.Native.Nat.{ℕ, _+_, _-_, _^_, _≤_, _<_}
 use native.Mathlib.Omega.{arith}
 use borrow.Author.Needs.{needs}
-use borrow.Author.Tests.{not-true, not-false}
 use lib.ListN.{length, take, drop}
 use Rattle.tally.specs.Tallies.{HasMarks}
 use Rattle.slots.specs.Slots.{Within, PlaceTold}
@@ -20,7 +20,17 @@ Inv-loop records size first n at from count flagged slot tally₀ i₀ tally i =
 abbrev μ-loop : tie.MeasureT-loop
 μ-loop records size first n at from count flagged slot tally₀ i₀ tally i = n - i
 
--- the place of a turn
+loop-holds : tie.Need-loop-holds Inv-loop μ-loop
+loop-holds c =
+    let start = c .before in
+    let a = start .args in
+    let asked = start .pre .0 in
+    (asked .ahead, row-start (a .size) (a .slot) (a .before) (a .records .now) (a .first) (asked .sane), asked .marks)
+
+record-begin-requires : tie.Need-record-begin-requires Inv-loop μ-loop
+record-begin-requires c κs = (c .loop-test .taken, c .before .before .before .pre .0 .fits)
+
+-- no count wraps
 few : (c : tie.In-loop Inv-loop μ-loop) → c .before .loop .tally .records < 2 ^ 63
 few c =
     let l = c .before .loop in
@@ -37,51 +47,18 @@ long c =
     let a = c .before .before .before .before .args in
     part-long (a .records .now) (a .size) (a .n) (c .before .before .loop .i) _ (c .record-begin .ensures .0) (c .record-begin .ensures .1)
 
-loop-holds : tie.Need-loop-holds Inv-loop μ-loop
-loop-holds c =
-    let start = c .before in
-    let a = start .args in
-    let asked = start .pre .0 in
-    (asked .ahead, row-start (a .size) (a .slot) (a .before) (a .records .now) (a .first) (asked .sane), asked .marks)
-
-record-begin-requires : tie.Need-record-begin-requires Inv-loop μ-loop
-record-begin-requires c κs = (c .loop-test .taken, c .before .before .before .pre .0 .fits)
-
 is-valid-by-requires : tie.Need-is-valid-by-requires Inv-loop μ-loop
 is-valid-by-requires c κs =
     let start = c .before .before .before .before .before in
     let within = start .pre .0 .within in
     (omega (arith, long (c .before), within .flag), within .flagBit, start .pre .1)
 
--- an invalid record
-skipped-requires : tie.Need-skipped-requires Inv-loop μ-loop
-skipped-requires c κs = few (c .before .before .before .before)
-
-add-i : tie.Need-add-i Inv-loop μ-loop
-add-i c = record { fits = omega (arith, c .before .before .before .before .before .loop-test .taken) }
-
-loop-again : tie.Need-loop-again Inv-loop μ-loop
-loop-again c =
-    let asked = c .before .before in
-    let begin = asked .before .before in
-    let turn = begin .before in
-    let l = turn .before .loop in
-    let a = turn .before .before .before .args in
-    let so = row-invalid (a .size) (a .slot) (a .before) (a .records .now) (a .first) (l .i) (l .tally) (l .inv .1) (l .inv .2) _ _
-    (part-is (a .records .now) (a .size) (a .n) (l .i) _ (begin .record-begin .ensures .0) (begin .record-begin .ensures .1))
-    (sym (asked .is-valid-by .ensures) ∙ not-true _ (c .before .if1 .taken)) (c .skipped .ensures) in
-    (omega (arith, turn .loop-test .taken), so .0, so .1)
-
 float-at-requires : tie.Need-float-at-requires Inv-loop μ-loop
 float-at-requires c κs =
     let begin = c .before .before .before in
     let start = begin .before .before .before .before in
-    let a = start .args in (
-      subst (λ (m : ℕ). Within m (a .slot)) (sym (long begin)) (start .pre .0 .within),
-      subst (λ (m : ℕ). PlaceTold m (a .slot) (Place (a .at) (a .from))) (sym (long begin)) (start .pre .0 .place),
-      start .pre .2,
-      start .pre .3,
-    )
+    let a = start .args in
+    (subst (λ (m : ℕ). Within m (a .slot)) (sym (long begin)) (start .pre .0 .within), subst (λ (m : ℕ). PlaceTold m (a .slot) (Place (a .at) (a .from))) (sym (long begin)) (start .pre .0 .place), start .pre .2, start .pre .3)
 
 counted-float-requires : tie.Need-counted-float-requires Inv-loop μ-loop
 counted-float-requires c κs =
@@ -89,22 +66,38 @@ counted-float-requires c κs =
     let l = turn .before .loop in
     (few turn, l .inv .1 .sane, l .inv .2)
 
-add-i-2 : tie.Need-add-i-2 Inv-loop μ-loop
-add-i-2 c = record { fits = omega (arith, c .before .before .before .before .before .before .loop-test .taken) }
+skipped-requires : tie.Need-skipped-requires Inv-loop μ-loop
+skipped-requires c κs = few (c .before .before .before .before)
 
-loop-again-2 : tie.Need-loop-again-2 Inv-loop μ-loop
-loop-again-2 c =
-    let word = c .before in
-    let asked = word .before .before in
+add-i : tie.Need-add-i Inv-loop μ-loop
+add-i c =
+    let turn = c .before .before .before .before in
+    let below : turn .before .loop .i + 1 < 2 ^ 64 = omega (arith, turn .loop-test .taken, turn .before .before .before .fits .n) in
+    record { fits = below }
+
+-- whichever way, the tally has one record more
+next : (c : tie.Joined1 Inv-loop μ-loop) →
+    let turn = c .before .before .before .before in
+    let l = turn .before .loop in
+    let a = turn .before .before .before .args in
+    RowSo (a .size) (a .slot) (a .before) (a .records .now) (a .first) (l .i + 1) (c .if1 .tally) × HasMarks (c .if1 .tally)
+next c =
+    let asked = c .before in
     let begin = asked .before .before in
     let turn = begin .before in
     let l = turn .before .loop in
     let start = turn .before .before .before in
     let a = start .args in
-    let so = row-valid (a .size) (a .slot) (a .before) (a .records .now) (a .first) (l .i) (l .tally) (l .inv .1) (l .inv .2) _ _
-    (part-is (a .records .now) (a .size) (a .n) (l .i) _ (begin .record-begin .ensures .0) (begin .record-begin .ensures .1))
-    (word .float-at .result) (start .pre .2) (sym (asked .is-valid-by .ensures) ∙ not-false _ (word .before .if1 .left)) (word .float-at .ensures) (omega arith) (c .counted-float .ensures) in
-    (omega (arith, turn .loop-test .taken), so .0, so .1)
+    let is = part-is (a .records .now) (a .size) (a .n) (l .i) _ (begin .record-begin .ensures .0) (begin .record-begin .ensures .1) in
+    let valid = row-valid (a .size) (a .slot) (a .before) (a .records .now) (a .first) (l .i) (l .tally) (l .inv .1) (l .inv .2) (c .if1 .tally) _ is in
+    let invalid = row-invalid (a .size) (a .slot) (a .before) (a .records .now) (a .first) (l .i) (l .tally) (l .inv .1) (l .inv .2) (c .if1 .tally) _ is in
+    ⊎-elim
+    (λ w. valid _ (start .pre .2) (sym (asked .is-valid-by .ensures) ∙ w .0 .taken) (w .1 .ensures) (omega arith) (w .3 ∙ w .2 .ensures))
+    (λ w. invalid (sym (asked .is-valid-by .ensures) ∙ w .0 .left) (w .2 ∙ w .1 .ensures))
+    (c .if1 .came)
+
+loop-again : tie.Need-loop-again Inv-loop μ-loop
+loop-again c = let so = next c in (omega (arith, c .before .before .before .before .loop-test .taken), so .0, so .1)
 
 returns : tie.Need-returns Inv-loop μ-loop
 returns c = let l = c .before .loop in record { inside = l .inv .0; so = l .inv .1 }
@@ -122,13 +115,10 @@ float-row-spec =
     (λ c. search needs)
     (λ c. search needs)
     is-valid-by-requires
+    float-at-requires
+    counted-float-requires
     skipped-requires
     add-i
     (λ c. search needs)
     loop-again
-    float-at-requires
-    counted-float-requires
-    add-i-2
-    (λ c. search needs)
-    loop-again-2
     returns)

@@ -1,13 +1,13 @@
 -- After each record the tally is what the records so far make of the first one.
 use mathlib.Core.Path.{_≡_, refl, sym, subst, _∙_}
+use mathlib.Core.Logic.{⊎-elim}
 use Prim.Native.Nat.{ℕ, _+_, _-_, _^_, _≤_, _<_}
 use native.Mathlib.Omega.{arith}
 use borrow.Author.Needs.{needs}
-use borrow.Author.Tests.{not-true, not-false}
+use borrow.Author.Tests.{not-false}
 use lib.ListN.{length, take, drop}
 use Rattle.tally.specs.Words.{integerKind}
-use Rattle.tally.specs.Tallies.{HasMarks, countedTally}
-use Rattle.tally.specs.declared.tally.Tally.{Tally}
+use Rattle.tally.specs.Tallies.{HasMarks}
 use Rattle.tally.proofs.Kept.{inner-mark}
 use Rattle.slots.specs.Slots.{Within, PlaceTold}
 use Rattle.slots.specs.declared.word.PlaceFound.the-variants.{Place}
@@ -23,7 +23,17 @@ Inv-loop records size first n at from signed flagged slot tally₀ i₀ tally i 
 abbrev μ-loop : tie.MeasureT-loop
 μ-loop records size first n at from signed flagged slot tally₀ i₀ tally i = n - i
 
--- the place of a turn
+loop-holds : tie.Need-loop-holds Inv-loop μ-loop
+loop-holds c =
+    let start = c .before in
+    let a = start .args in
+    let asked = start .pre .0 in
+    (asked .ahead, row-start (a .size) (a .slot) (a .before) (a .records .now) (a .first) (asked .sane), asked .marks)
+
+record-begin-requires : tie.Need-record-begin-requires Inv-loop μ-loop
+record-begin-requires c κs = (c .loop-test .taken, c .before .before .before .pre .0 .fits)
+
+-- no count wraps
 few : (c : tie.In-loop Inv-loop μ-loop) → c .before .loop .tally .records < 2 ^ 63
 few c =
     let l = c .before .loop in
@@ -40,40 +50,11 @@ long c =
     let a = c .before .before .before .before .args in
     part-long (a .records .now) (a .size) (a .n) (c .before .before .loop .i) _ (c .record-begin .ensures .0) (c .record-begin .ensures .1)
 
-loop-holds : tie.Need-loop-holds Inv-loop μ-loop
-loop-holds c =
-    let start = c .before in
-    let a = start .args in
-    let asked = start .pre .0 in
-    (asked .ahead, row-start (a .size) (a .slot) (a .before) (a .records .now) (a .first) (asked .sane), asked .marks)
-
-record-begin-requires : tie.Need-record-begin-requires Inv-loop μ-loop
-record-begin-requires c κs = (c .loop-test .taken, c .before .before .before .pre .0 .fits)
-
 is-valid-by-requires : tie.Need-is-valid-by-requires Inv-loop μ-loop
 is-valid-by-requires c κs =
     let start = c .before .before .before .before .before in
     let within = start .pre .0 .within in
     (omega (arith, long (c .before), within .flag), within .flagBit, start .pre .1)
-
--- an invalid record
-skipped-requires : tie.Need-skipped-requires Inv-loop μ-loop
-skipped-requires c κs = few (c .before .before .before .before)
-
-add-i : tie.Need-add-i Inv-loop μ-loop
-add-i c = record { fits = omega (arith, c .before .before .before .before .before .loop-test .taken) }
-
-loop-again : tie.Need-loop-again Inv-loop μ-loop
-loop-again c =
-    let asked = c .before .before in
-    let begin = asked .before .before in
-    let turn = begin .before in
-    let l = turn .before .loop in
-    let a = turn .before .before .before .args in
-    let so = row-invalid (a .size) (a .slot) (a .before) (a .records .now) (a .first) (l .i) (l .tally) (l .inv .1) (l .inv .2) _ _
-    (part-is (a .records .now) (a .size) (a .n) (l .i) _ (begin .record-begin .ensures .0) (begin .record-begin .ensures .1))
-    (sym (asked .is-valid-by .ensures) ∙ not-true _ (c .before .if1 .taken)) (c .skipped .ensures) in
-    (omega (arith, turn .loop-test .taken), so .0, so .1)
 
 integer-at-requires : tie.Need-integer-at-requires Inv-loop μ-loop
 integer-at-requires c κs =
@@ -82,45 +63,10 @@ integer-at-requires c κs =
     let a = start .args in
     (subst (λ (m : ℕ). Within m (a .slot)) (sym (long begin)) (start .pre .0 .within), subst (λ (m : ℕ). PlaceTold m (a .slot) (Place (a .at) (a .from))) (sym (long begin)) (start .pre .0 .place), start .pre .2)
 
--- a valid one, with what it makes of the tally
-next : (c : tie.After-integer-at Inv-loop μ-loop) (v : Tally) →
-    let turn = c .before .before .before .before .before in
-    let l = turn .before .loop in
-    let a = turn .before .before .before .args in
-    v ≡ countedTally (integerKind (a .signed)) (l .tally) (c .integer-at .result)
-    → (l .i + 1 ≤ a .n) × RowSo (a .size) (a .slot) (a .before) (a .records .now) (a .first) (l .i + 1) v × HasMarks v
-next c v e =
-    let asked = c .before .before in
-    let begin = asked .before .before in
-    let turn = begin .before in
-    let l = turn .before .loop in
-    let start = turn .before .before .before in
-    let a = start .args in
-    let so = row-valid (a .size) (a .slot) (a .before) (a .records .now) (a .first) (l .i) (l .tally) (l .inv .1) (l .inv .2) v _
-    (part-is (a .records .now) (a .size) (a .n) (l .i) _ (begin .record-begin .ensures .0) (begin .record-begin .ensures .1))
-    (c .integer-at .result) (start .pre .2) (sym (asked .is-valid-by .ensures) ∙ not-false _ (c .before .if1 .left)) (c .integer-at .ensures) (omega arith) e in
-    (omega (arith, turn .loop-test .taken), so .0, so .1)
-
 with-integer-requires : tie.Need-with-integer-requires Inv-loop μ-loop
 with-integer-requires c κs =
     let turn = c .before .before .before .before .before .before .before in
     (few turn, turn .before .loop .inv .1 .sane)
-
--- behind a valid record
-counts : (c : tie.In-loop Inv-loop μ-loop) → c .before .loop .i + 1 < 2 ^ 64
-counts c = omega (arith, c .loop-test .taken, c .before .before .before .fits .n)
-
-add-i-2 : tie.Need-add-i-2 Inv-loop μ-loop
-add-i-2 c = record { fits = counts (c .before .before .before .before .before .before .before .before) }
-
-loop-again-2 : tie.Need-loop-again-2 Inv-loop μ-loop
-loop-again-2 c =
-    let asked = c .before .before in
-    let word = asked .before in
-    let turn = word .before .before .before .before .before in
-    let l = turn .before .loop in
-    let signed = turn .before .before .before .args .signed in
-    next word _ (inner-mark (integerKind signed) (l .tally) (word .integer-at .result) _ (c .with-integer .ensures signed) (l .inv .2) (asked .is-inner .ensures (c .before .if2 .taken)))
 
 -- the row ends where words do not tell
 returns : tie.Need-returns Inv-loop μ-loop
@@ -134,11 +80,42 @@ with-clear-requires c κs =
     let l = turn .before .loop in
     (few turn, l .inv .1 .sane, l .inv .2, c .before .is-clear .ensures (not-false _ (c .if3 .left)))
 
-add-i-3 : tie.Need-add-i-3 Inv-loop μ-loop
-add-i-3 c = record { fits = counts (c .before .before .before .before .before .before .before .before .before .before) }
+skipped-requires : tie.Need-skipped-requires Inv-loop μ-loop
+skipped-requires c κs = few (c .before .before .before .before)
 
-loop-again-3 : tie.Need-loop-again-3 Inv-loop μ-loop
-loop-again-3 c = next (c .before .before .before .before .before) _ (c .with-clear .ensures)
+add-i : tie.Need-add-i Inv-loop μ-loop
+add-i c =
+    let turn = c .before .before .before .before in
+    let below : turn .before .loop .i + 1 < 2 ^ 64 = omega (arith, turn .loop-test .taken, turn .before .before .before .fits .n) in
+    record { fits = below }
+
+-- whichever way, the tally has one record more
+next : (c : tie.Joined1 Inv-loop μ-loop) →
+    let turn = c .before .before .before .before in
+    let l = turn .before .loop in
+    let a = turn .before .before .before .args in
+    RowSo (a .size) (a .slot) (a .before) (a .records .now) (a .first) (l .i + 1) (c .if1 .tally) × HasMarks (c .if1 .tally)
+next c =
+    let asked = c .before in
+    let begin = asked .before .before in
+    let turn = begin .before in
+    let l = turn .before .loop in
+    let start = turn .before .before .before in
+    let a = start .args in
+    let is = part-is (a .records .now) (a .size) (a .n) (l .i) _ (begin .record-begin .ensures .0) (begin .record-begin .ensures .1) in
+    let valid = row-valid (a .size) (a .slot) (a .before) (a .records .now) (a .first) (l .i) (l .tally) (l .inv .1) (l .inv .2) (c .if1 .tally) _ is in
+    let invalid = row-invalid (a .size) (a .slot) (a .before) (a .records .now) (a .first) (l .i) (l .tally) (l .inv .1) (l .inv .2) (c .if1 .tally) _ is in
+    let kind = integerKind (a .signed) in
+    ⊎-elim
+    (λ w. valid _ (start .pre .2) (sym (asked .is-valid-by .ensures) ∙ w .0 .taken) (w .1 .ensures) (omega arith)
+    (w .5 ∙ inner-mark kind (l .tally) (w .1 .result) _ (w .4 .ensures (a .signed)) (l .inv .2) (w .2 .ensures (w .3 .taken))))
+    (⊎-elim
+    (λ w. valid _ (start .pre .2) (sym (asked .is-valid-by .ensures) ∙ w .0 .taken) (w .1 .ensures) (omega arith) (w .7 ∙ w .6 .ensures))
+    (λ w. invalid (sym (asked .is-valid-by .ensures) ∙ w .0 .left) (w .2 ∙ w .1 .ensures)))
+    (c .if1 .came)
+
+loop-again : tie.Need-loop-again Inv-loop μ-loop
+loop-again c = let so = next c in (omega (arith, c .before .before .before .before .loop-test .taken), so .0, so .1)
 
 returns-2 : tie.Need-returns-2 Inv-loop μ-loop
 returns-2 c = let l = c .before .loop in record { inside = l .inv .0; so = l .inv .1 }
@@ -156,20 +133,14 @@ integer-row-spec =
     (λ c. search needs)
     (λ c. search needs)
     is-valid-by-requires
+    integer-at-requires
+    (λ c κs. search needs)
+    with-integer-requires
+    (λ c κs. search needs)
+    returns
+    with-clear-requires
     skipped-requires
     add-i
     (λ c. search needs)
     loop-again
-    integer-at-requires
-    (λ c κs. search needs)
-    with-integer-requires
-    add-i-2
-    (λ c. search needs)
-    loop-again-2
-    (λ c κs. search needs)
-    returns
-    with-clear-requires
-    add-i-3
-    (λ c. search needs)
-    loop-again-3
     returns-2)
