@@ -6,17 +6,16 @@ use Prim.Native.Nat.{ℕ, _+_, _-_, _*_, _≤_, _<_}
 use lib.ListN.{length}
 use Rattle.tally.specs.Tallies.{Sane, HasMarks}
 use Rattle.tally.specs.declared.tally.Tally.{Tally}
-use Rattle.slots.specs.Slots.{Within, PlaceTold}
+use Rattle.slots.specs.Slots.{Within, ShiftTold}
 use Rattle.slots.specs.declared.slot.Slot.{Slot}
-use Rattle.slots.specs.declared.word.PlaceFound.the-variants.{Place}
 use Rattle.report.specs.Visits.{seen, visited, fewRecords}
 use Rattle.report.specs.declared.run.Row.{Row}
 
 -- what is known where a row begins: of n records in l those from `first` on are left for a tally t, which has marks, and the number
 -- lies in the eight bytes at p of each
-pub record RowAsked (size : ℕ) (w : Slot) (p from : ℕ) (t : Tally) (l : List ℕ) (first n : ℕ) : Type 0 where
+pub record RowAsked (size : ℕ) (w : Slot) (p shift : ℕ) (t : Tally) (l : List ℕ) (first n : ℕ) : Type 0 where
   pub within : Within size w
-  pub place : PlaceTold size w (Place p from)
+  pub place : ShiftTold size w p shift
   pub sane : Sane t
   pub marks : HasMarks t
   pub ahead : first ≤ n

@@ -19,6 +19,7 @@ use slots::integer_at;
 use slots::is_valid_by;
 use slots::is_valid_in;
 use slots::record_begin;
+use slots::shift_of;
 use tally::Tally;
 use tally::counted;
 use tally::counted_float;
@@ -42,13 +43,13 @@ fn integer_row(
     first: usize,
     n: usize,
     at: usize,
-    from: u32,
+    shift: u32,
     signed: bool,
     flagged: bool,
     slot: Slot,
     before: Tally,
 ) -> Row
-    requires { ⌜ RowAsked size slot at from before (now records) first n × FlagTold slot flagged × (integerKind signed ≡ slot .number) ⌝ }
+    requires { ⌜ RowAsked size slot at shift before (now records) first n × FlagTold slot flagged × (integerKind signed ≡ slot .number) ⌝ }
     ensures { λ r. ⌜ RowTo size slot before (now (records .entry)) first n r ⌝ }
 {
     let mut tally = before;
@@ -58,7 +59,7 @@ fn integer_row(
         let end = begin + size;
         let record = &records[begin..end];
         if is_valid_by(flagged, record, slot) {
-            let word = integer_at(record, at, from, signed, slot);
+            let word = integer_at(record, at, shift, signed, slot);
             if is_inner(signed, tally, word) {
                 tally = with_integer(tally, word);
             } else {
@@ -82,13 +83,13 @@ fn float_row(
     first: usize,
     n: usize,
     at: usize,
-    from: u32,
+    shift: u32,
     count: u32,
     flagged: bool,
     slot: Slot,
     before: Tally,
 ) -> Row
-    requires { ⌜ RowAsked size slot at from before (now records) first n × FlagTold slot flagged × (Float ≡ slot .number) × (count ≡ slot .count) ⌝ }
+    requires { ⌜ RowAsked size slot at shift before (now records) first n × FlagTold slot flagged × (Float ≡ slot .number) × (count ≡ slot .count) ⌝ }
     ensures { λ r. ⌜ RowTo size slot before (now (records .entry)) first n r ⌝ }
 {
     let mut tally = before;
@@ -98,7 +99,7 @@ fn float_row(
         let end = begin + size;
         let record = &records[begin..end];
         if is_valid_by(flagged, record, slot) {
-            let word = float_at(record, at, from, count, slot);
+            let word = float_at(record, at, shift, count, slot);
             tally = counted_float(tally, word);
         } else {
             tally = skipped(tally);
@@ -116,12 +117,12 @@ fn unsigned_row(
     first: usize,
     n: usize,
     at: usize,
-    from: u32,
+    shift: u32,
     flagged: bool,
     slot: Slot,
     before: Tally,
 ) -> Row
-    requires { ⌜ RowAsked size slot at from before (now records) first n × FlagTold slot flagged × (Unsigned ≡ slot .number) ⌝ }
+    requires { ⌜ RowAsked size slot at shift before (now records) first n × FlagTold slot flagged × (Unsigned ≡ slot .number) ⌝ }
     ensures { λ r. ⌜ RowTo size slot before (now (records .entry)) first n r ⌝ }
 {
     integer_row(
@@ -130,7 +131,7 @@ fn unsigned_row(
         first,
         n,
         at,
-        from,
+        shift,
         false,
         flagged,
         slot,
@@ -144,12 +145,12 @@ fn signed_row(
     first: usize,
     n: usize,
     at: usize,
-    from: u32,
+    shift: u32,
     flagged: bool,
     slot: Slot,
     before: Tally,
 ) -> Row
-    requires { ⌜ RowAsked size slot at from before (now records) first n × FlagTold slot flagged × (Signed ≡ slot .number) ⌝ }
+    requires { ⌜ RowAsked size slot at shift before (now records) first n × FlagTold slot flagged × (Signed ≡ slot .number) ⌝ }
     ensures { λ r. ⌜ RowTo size slot before (now (records .entry)) first n r ⌝ }
 {
     integer_row(
@@ -158,7 +159,7 @@ fn signed_row(
         first,
         n,
         at,
-        from,
+        shift,
         true,
         flagged,
         slot,
@@ -172,15 +173,26 @@ fn single_row(
     first: usize,
     n: usize,
     at: usize,
-    from: u32,
+    shift: u32,
     flagged: bool,
     slot: Slot,
     before: Tally,
 ) -> Row
-    requires { ⌜ RowAsked size slot at from before (now records) first n × FlagTold slot flagged × (Float ≡ slot .number) × (32 ≡ slot .count) ⌝ }
+    requires { ⌜ RowAsked size slot at shift before (now records) first n × FlagTold slot flagged × (Float ≡ slot .number) × (32 ≡ slot .count) ⌝ }
     ensures { λ r. ⌜ RowTo size slot before (now (records .entry)) first n r ⌝ }
 {
-    float_row(records, size, first, n, at, from, 32, flagged, slot, before)
+    float_row(
+        records,
+        size,
+        first,
+        n,
+        at,
+        shift,
+        32,
+        flagged,
+        slot,
+        before,
+    )
 }
 
 fn double_row(
@@ -189,15 +201,26 @@ fn double_row(
     first: usize,
     n: usize,
     at: usize,
-    from: u32,
+    shift: u32,
     flagged: bool,
     slot: Slot,
     before: Tally,
 ) -> Row
-    requires { ⌜ RowAsked size slot at from before (now records) first n × FlagTold slot flagged × (Float ≡ slot .number) × (64 ≡ slot .count) ⌝ }
+    requires { ⌜ RowAsked size slot at shift before (now records) first n × FlagTold slot flagged × (Float ≡ slot .number) × (64 ≡ slot .count) ⌝ }
     ensures { λ r. ⌜ RowTo size slot before (now (records .entry)) first n r ⌝ }
 {
-    float_row(records, size, first, n, at, from, 64, flagged, slot, before)
+    float_row(
+        records,
+        size,
+        first,
+        n,
+        at,
+        shift,
+        64,
+        flagged,
+        slot,
+        before,
+    )
 }
 
 // The loop for a kind of number
@@ -207,25 +230,25 @@ fn kind_row(
     first: usize,
     n: usize,
     at: usize,
-    from: u32,
+    shift: u32,
     slot: Slot,
     before: Tally,
 ) -> Row
-    requires { ⌜ RowAsked size slot at from before (now records) first n ⌝ }
+    requires { ⌜ RowAsked size slot at shift before (now records) first n ⌝ }
     ensures { λ r. ⌜ RowTo size slot before (now (records .entry)) first n r ⌝ }
 {
     let flagged = has_flag(slot);
     let number = slot.number;
     match number {
         Number::Unsigned => {
-            unsigned_row(records, size, first, n, at, from, flagged, slot, before)
+            unsigned_row(records, size, first, n, at, shift, flagged, slot, before)
         }
-        Number::Signed => signed_row(records, size, first, n, at, from, flagged, slot, before),
+        Number::Signed => signed_row(records, size, first, n, at, shift, flagged, slot, before),
         Number::Float => {
             if slot.count == 64 {
-                return double_row(records, size, first, n, at, from, flagged, slot, before);
+                return double_row(records, size, first, n, at, shift, flagged, slot, before);
             }
-            single_row(records, size, first, n, at, from, flagged, slot, before)
+            single_row(records, size, first, n, at, shift, flagged, slot, before)
         }
     }
 }
@@ -253,7 +276,8 @@ fn read_row(
     let PlaceFound::Place(at, from) = place else {
         return none;
     };
-    kind_row(records, size, first, n, at, from, slot, before)
+    let shift = shift_of(from, slot);
+    kind_row(records, size, first, n, at, shift, slot, before)
 }
 
 // A record the whole way: where a row ends at one

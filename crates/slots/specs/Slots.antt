@@ -2,7 +2,7 @@
 use mathlib.Core.Path.{_≡_}
 use mathlib.Core.Bool.{Bool, true, false}
 use mathlib.Core.List.{List}
-use Prim.Native.Nat.{ℕ, _+_, _-_, _*_, _^_, _≤_, _<_}
+use Prim.Native.Nat.{ℕ, _+_, _-_, _*_, _/_, _%_, _^_, _≤_, _<_}
 use lib.ListN.{length, getD}
 use lib.Dec.{ltb, eqb}
 use Rattle.definitions.specs.Reply.{answer, if_then_else_}
@@ -61,3 +61,14 @@ SlotTold size g c NoValue = (s : List ℕ) → length s ≡ size → hasNoValue 
 abbrev pub PlaceTold : ℕ → Slot → PlaceFound → Type 0
 PlaceTold size w (Place p from) = (p + 8 ≤ size) × (8 * p + from ≡ 8 * w .at + w .offset) × (from + w .count ≤ 64)
 PlaceTold size w NoPlace = Unit {0}
+
+-- how far below the field the word of eight bytes is read: those before it stand there, or where the first byte is the highest, those
+-- after it
+abbrev pub shiftIn : Bool → ℕ → ℕ → ℕ
+shiftIn true from count = (64 - from - count) / 8 * 8 + from % 8
+shiftIn false from count = from
+
+pub record ShiftTold (size : ℕ) (w : Slot) (p shift : ℕ) : Type 0 where
+  pub from : ℕ
+  pub place : PlaceTold size w (Place p from)
+  pub is : shift ≡ shiftIn (w .«big_endian») from (w .count)

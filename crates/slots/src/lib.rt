@@ -16,3 +16,4 @@ pub use slot::is_valid_in;
 pub use word::PlaceFound;
 pub use word::far_word;
 pub use word::find_place;
+pub use word::shift_of;

@@ -4,8 +4,7 @@ ghost use Prim.Native.Nat.{_+_, _*_, _≤_, _<_};
 ghost use lib.ListN.{length};
 ghost use Rattle.fields.specs.declared.form.Number.the-variants.{Float};
 ghost use Rattle.tally.specs.Words.{integerKind};
-ghost use Rattle.slots.specs.Slots.{slotWord, Within, PlaceTold};
-ghost use Rattle.slots.specs.declared.word.PlaceFound.{PlaceFound};
+ghost use Rattle.slots.specs.Slots.{slotWord, Within, ShiftTold};
 use crate::slot::Slot;
 use crate::word::near_field;
 use crate::word::signed_word;
@@ -22,12 +21,12 @@ pub fn record_begin(i: usize, size: usize, n: usize, length: usize) -> usize
 
 // The word of an integer in a record, by a load of the eight bytes that hold it. Its kind stands beside the slot, where the compiler
 // knows it.
-pub fn integer_at(record: &[u8], at: usize, from: u32, signed: bool, slot: Slot) -> u64
-    requires { ⌜ Within (length (now «record»)) slot × PlaceTold (length (now «record»)) slot (PlaceFound.Place at from) × (integerKind signed ≡ slot .number) ⌝ }
+pub fn integer_at(record: &[u8], at: usize, shift: u32, signed: bool, slot: Slot) -> u64
+    requires { ⌜ Within (length (now «record»)) slot × ShiftTold (length (now «record»)) slot at shift × (integerKind signed ≡ slot .number) ⌝ }
     ensures { λ r. ⌜ r ≡ slotWord slot (now («record» .entry)) ⌝ }
 {
     let word = read_u64_le(record, at);
-    let x = near_field(word, from, slot.big_endian, slot.count);
+    let x = near_field(word, shift, slot.big_endian, slot.count);
     if signed {
         return signed_word(slot.count, x);
     }
@@ -35,11 +34,11 @@ pub fn integer_at(record: &[u8], at: usize, from: u32, signed: bool, slot: Slot)
 }
 
 // The same of a float, whose width stands beside the slot
-pub fn float_at(record: &[u8], at: usize, from: u32, count: u32, slot: Slot) -> u64
-    requires { ⌜ Within (length (now «record»)) slot × PlaceTold (length (now «record»)) slot (PlaceFound.Place at from) × (Float ≡ slot .number) × (count ≡ slot .count) ⌝ }
+pub fn float_at(record: &[u8], at: usize, shift: u32, count: u32, slot: Slot) -> u64
+    requires { ⌜ Within (length (now «record»)) slot × ShiftTold (length (now «record»)) slot at shift × (Float ≡ slot .number) × (count ≡ slot .count) ⌝ }
     ensures { λ r. ⌜ r ≡ slotWord slot (now («record» .entry)) ⌝ }
 {
     let word = read_u64_le(record, at);
-    let x = near_field(word, from, slot.big_endian, count);
+    let x = near_field(word, shift, slot.big_endian, count);
     float_bits(count, x)
 }

@@ -1,19 +1,19 @@
 // The word of a number in a record, by a load of eight bytes, or by the general way.
 ghost use mathlib.Core.Path.{_≡_};
-ghost use Prim.Native.Nat.{_+_, _/_, _%_, _≤_};
+ghost use Prim.Native.Nat.{_+_, _≤_, _<_};
 ghost use lib.ListN.{length};
-ghost use Rattle.definitions.specs.Bytes.{le, fieldAt};
+ghost use Rattle.definitions.specs.Bytes.{numberOf, le, bits};
 ghost use Rattle.fields.specs.Form.{orderMeant};
 ghost use Rattle.fields.specs.Known.{Fitting};
 ghost use Rattle.fields.specs.declared.form.Number.the-variants.{Signed};
-ghost use Rattle.slots.specs.Slots.{wordOf, slotWord, Within, PlaceTold};
+ghost use Rattle.slots.specs.Slots.{wordOf, slotWord, shiftIn, Within, PlaceTold};
 ghost use Rattle.slots.specs.Known.{SignBit};
 use crate::slot::Slot;
-use bit_fields::near_be;
-use bit_fields::near_le;
+use bit_fields::cut;
 use fields::Number;
 use fields::float_bits;
 use fields::number_at;
+use words::swapped;
 
 // The first byte of eight of a record that hold the field, and the bit of them at which it begins
 pub enum PlaceFound {
@@ -71,15 +71,26 @@ fn word_of(number: Number, count: u32, x: u64) -> u64
     }
 }
 
-// The field in the eight bytes at that place
-pub(crate) fn near_field(word: u64, from: u32, big_endian: bool, count: u32) -> u64
-    requires { ⌜ (1 ≤ count) × (from + count ≤ 64) ⌝ }
-    ensures { λ r. ⌜ r ≡ fieldAt (orderMeant «big_endian») (le 8 word) (from / 8) (from % 8) count ⌝ }
+// How far below the field those bytes are read
+pub fn shift_of(from: u32, slot: Slot) -> u32
+    requires { ⌜ from + slot .count ≤ 64 ⌝ }
+    ensures { λ r. ⌜ r ≡ shiftIn (slot .«big_endian») from (slot .count) ⌝ }
+{
+    if slot.big_endian {
+        return (64 - from - slot.count) / 8 * 8 + from % 8;
+    }
+    from
+}
+
+// The field in them
+pub(crate) fn near_field(word: u64, shift: u32, big_endian: bool, count: u32) -> u64
+    requires { ⌜ (shift < 64) × (1 ≤ count) × (count ≤ 64) ⌝ }
+    ensures { λ r. ⌜ r ≡ bits (numberOf (orderMeant «big_endian») (le 8 word)) shift count ⌝ }
 {
     if big_endian {
-        return near_be(word, from, count);
+        return cut(swapped(word), shift, count);
     }
-    near_le(word, from, count)
+    cut(word, shift, count)
 }
 
 // Of the record, which need not have eight bytes; nor need they hold the field

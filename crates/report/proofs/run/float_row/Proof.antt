@@ -6,8 +6,7 @@ use native.Mathlib.Omega.{arith}
 use borrow.Author.Needs.{needs}
 use lib.ListN.{length, take, drop}
 use Rattle.tally.specs.Tallies.{HasMarks}
-use Rattle.slots.specs.Slots.{Within, PlaceTold}
-use Rattle.slots.specs.declared.word.PlaceFound.the-variants.{Place}
+use Rattle.slots.specs.Slots.{Within, ShiftTold}
 use Rattle.slots.proofs.Rows.{part-is, part-long}
 use Rattle.report.specs.Rows.{RowSo}
 use Rattle.report.proofs.Rows.{row-start, row-few, row-valid, row-invalid}
@@ -15,10 +14,10 @@ use Rattle.report.proofs.run.float_row.Statement.{statement}
 use Rattle.report.proofs.run.float_row.Tie as tie
 
 abbrev Inv-loop : tie.InvT-loop
-Inv-loop records size first n at from count flagged slot tally₀ i₀ tally i = (i ≤ n) × RowSo size slot tally₀ records first i tally × HasMarks tally
+Inv-loop records size first n at shift count flagged slot tally₀ i₀ tally i = (i ≤ n) × RowSo size slot tally₀ records first i tally × HasMarks tally
 
 abbrev μ-loop : tie.MeasureT-loop
-μ-loop records size first n at from count flagged slot tally₀ i₀ tally i = n - i
+μ-loop records size first n at shift count flagged slot tally₀ i₀ tally i = n - i
 
 loop-holds : tie.Need-loop-holds Inv-loop μ-loop
 loop-holds c =
@@ -58,7 +57,7 @@ float-at-requires c κs =
     let begin = c .before .before .before in
     let start = begin .before .before .before .before in
     let a = start .args in
-    (subst (λ (m : ℕ). Within m (a .slot)) (sym (long begin)) (start .pre .0 .within), subst (λ (m : ℕ). PlaceTold m (a .slot) (Place (a .at) (a .from))) (sym (long begin)) (start .pre .0 .place), start .pre .2, start .pre .3)
+    (subst (λ (m : ℕ). Within m (a .slot)) (sym (long begin)) (start .pre .0 .within), subst (λ (m : ℕ). ShiftTold m (a .slot) (a .at) (a .shift)) (sym (long begin)) (start .pre .0 .place), start .pre .2, start .pre .3)
 
 counted-float-requires : tie.Need-counted-float-requires Inv-loop μ-loop
 counted-float-requires c κs =

@@ -9,8 +9,7 @@ use lib.ListN.{length, take, drop}
 use Rattle.tally.specs.Words.{integerKind}
 use Rattle.tally.specs.Tallies.{HasMarks}
 use Rattle.tally.proofs.Kept.{inner-mark}
-use Rattle.slots.specs.Slots.{Within, PlaceTold}
-use Rattle.slots.specs.declared.word.PlaceFound.the-variants.{Place}
+use Rattle.slots.specs.Slots.{Within, ShiftTold}
 use Rattle.slots.proofs.Rows.{part-is, part-long}
 use Rattle.report.specs.Rows.{RowSo}
 use Rattle.report.proofs.Rows.{row-start, row-few, row-valid, row-invalid}
@@ -18,10 +17,10 @@ use Rattle.report.proofs.run.integer_row.Statement.{statement}
 use Rattle.report.proofs.run.integer_row.Tie as tie
 
 abbrev Inv-loop : tie.InvT-loop
-Inv-loop records size first n at from signed flagged slot tally₀ i₀ tally i = (i ≤ n) × RowSo size slot tally₀ records first i tally × HasMarks tally
+Inv-loop records size first n at shift signed flagged slot tally₀ i₀ tally i = (i ≤ n) × RowSo size slot tally₀ records first i tally × HasMarks tally
 
 abbrev μ-loop : tie.MeasureT-loop
-μ-loop records size first n at from signed flagged slot tally₀ i₀ tally i = n - i
+μ-loop records size first n at shift signed flagged slot tally₀ i₀ tally i = n - i
 
 loop-holds : tie.Need-loop-holds Inv-loop μ-loop
 loop-holds c =
@@ -61,7 +60,7 @@ integer-at-requires c κs =
     let begin = c .before .before .before in
     let start = begin .before .before .before .before in
     let a = start .args in
-    (subst (λ (m : ℕ). Within m (a .slot)) (sym (long begin)) (start .pre .0 .within), subst (λ (m : ℕ). PlaceTold m (a .slot) (Place (a .at) (a .from))) (sym (long begin)) (start .pre .0 .place), start .pre .2)
+    (subst (λ (m : ℕ). Within m (a .slot)) (sym (long begin)) (start .pre .0 .within), subst (λ (m : ℕ). ShiftTold m (a .slot) (a .at) (a .shift)) (sym (long begin)) (start .pre .0 .place), start .pre .2)
 
 with-integer-requires : tie.Need-with-integer-requires Inv-loop μ-loop
 with-integer-requires c κs =
