@@ -45,11 +45,12 @@ fn integer_row(
     at: usize,
     shift: u32,
     signed: bool,
+    count: u32,
     flagged: bool,
     slot: Slot,
     before: Tally,
 ) -> Row
-    requires { ⌜ RowAsked size slot at shift before (now records) first n × FlagTold slot flagged × (integerKind signed ≡ slot .number) ⌝ }
+    requires { ⌜ RowAsked size slot at shift before (now records) first n × FlagTold slot flagged × (integerKind signed ≡ slot .number) × (count ≡ slot .count) ⌝ }
     ensures { λ r. ⌜ RowTo size slot before (now (records .entry)) first n r ⌝ }
 {
     let mut tally = before;
@@ -59,7 +60,7 @@ fn integer_row(
         let end = begin + size;
         let record = &records[begin..end];
         if is_valid_by(flagged, record, slot) {
-            let word = integer_at(record, at, shift, signed, slot);
+            let word = integer_at(record, at, shift, signed, count, slot);
             if is_inner(signed, tally, word) {
                 tally = with_integer(tally, word);
             } else {
@@ -133,6 +134,7 @@ fn unsigned_row(
         at,
         shift,
         false,
+        slot.count,
         flagged,
         slot,
         before,
@@ -161,6 +163,7 @@ fn signed_row(
         at,
         shift,
         true,
+        slot.count,
         flagged,
         slot,
         before,

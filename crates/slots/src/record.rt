@@ -19,21 +19,21 @@ pub fn record_begin(i: usize, size: usize, n: usize, length: usize) -> usize
     i * size
 }
 
-// The word of an integer in a record, by a load of the eight bytes that hold it. Its kind stands beside the slot, where the compiler
-// knows it.
-pub fn integer_at(record: &[u8], at: usize, shift: u32, signed: bool, slot: Slot) -> u64
-    requires { ⌜ Within (length (now «record»)) slot × ShiftTold (length (now «record»)) slot at shift × (integerKind signed ≡ slot .number) ⌝ }
+// The word of an integer in a record, by a load of the eight bytes that hold it. Kind and width stand beside the slot, where the
+// compiler knows them.
+pub fn integer_at(record: &[u8], at: usize, shift: u32, signed: bool, count: u32, slot: Slot) -> u64
+    requires { ⌜ Within (length (now «record»)) slot × ShiftTold (length (now «record»)) slot at shift × (integerKind signed ≡ slot .number) × (count ≡ slot .count) ⌝ }
     ensures { λ r. ⌜ r ≡ slotWord slot (now («record» .entry)) ⌝ }
 {
     let word = read_u64_le(record, at);
-    let x = near_field(word, shift, slot.big_endian, slot.count);
+    let x = near_field(word, shift, slot.big_endian, count);
     if signed {
-        return signed_word(slot.count, x);
+        return signed_word(count, x);
     }
     x
 }
 
-// The same of a float, whose width stands beside the slot
+// The same of a float
 pub fn float_at(record: &[u8], at: usize, shift: u32, count: u32, slot: Slot) -> u64
     requires { ⌜ Within (length (now «record»)) slot × ShiftTold (length (now «record»)) slot at shift × (Float ≡ slot .number) × (count ≡ slot .count) ⌝ }
     ensures { λ r. ⌜ r ≡ slotWord slot (now («record» .entry)) ⌝ }

@@ -17,10 +17,10 @@ use Rattle.report.proofs.run.integer_row.Statement.{statement}
 use Rattle.report.proofs.run.integer_row.Tie as tie
 
 abbrev Inv-loop : tie.InvT-loop
-Inv-loop records size first n at shift signed flagged slot tally₀ i₀ tally i = (i ≤ n) × RowSo size slot tally₀ records first i tally × HasMarks tally
+Inv-loop records size first n at shift signed count flagged slot tally₀ i₀ tally i = (i ≤ n) × RowSo size slot tally₀ records first i tally × HasMarks tally
 
 abbrev μ-loop : tie.MeasureT-loop
-μ-loop records size first n at shift signed flagged slot tally₀ i₀ tally i = n - i
+μ-loop records size first n at shift signed count flagged slot tally₀ i₀ tally i = n - i
 
 loop-holds : tie.Need-loop-holds Inv-loop μ-loop
 loop-holds c =
@@ -60,7 +60,7 @@ integer-at-requires c κs =
     let begin = c .before .before .before in
     let start = begin .before .before .before .before in
     let a = start .args in
-    (subst (λ (m : ℕ). Within m (a .slot)) (sym (long begin)) (start .pre .0 .within), subst (λ (m : ℕ). ShiftTold m (a .slot) (a .at) (a .shift)) (sym (long begin)) (start .pre .0 .place), start .pre .2)
+    (subst (λ (m : ℕ). Within m (a .slot)) (sym (long begin)) (start .pre .0 .within), subst (λ (m : ℕ). ShiftTold m (a .slot) (a .at) (a .shift)) (sym (long begin)) (start .pre .0 .place), start .pre .2, start .pre .3)
 
 with-integer-requires : tie.Need-with-integer-requires Inv-loop μ-loop
 with-integer-requires c κs =

@@ -1,5 +1,6 @@
 -- The word that is loaded holds the field, of which either kind makes the slot's word.
 use mathlib.Core.Path.{_≡_, refl, sym, ap, _∙_}
+use native.Mathlib.Omega.{arith}
 use borrow.Author.Needs.{needs}
 use Rattle.fields.specs.declared.form.Number.{Number}
 use Rattle.fields.proofs.Fields.{same-number}
@@ -16,7 +17,7 @@ near-field-requires : tie.Need-near-field-requires
 near-field-requires c κs =
     let start = c .before .before in
     let a = start .args in
-    (place-low (a .at) (start .pre .0) (start .pre .1), start .pre .0 .some, start .pre .0 .few)
+    (place-low (a .at) (start .pre .0) (start .pre .1), omega (arith, start .pre .0 .some, start .pre .3), omega (arith, start .pre .0 .few, start .pre .3))
 
 signed-word-requires : tie.Need-signed-word-requires
 signed-word-requires c κs =
@@ -24,17 +25,17 @@ signed-word-requires c κs =
     let start = field .before .before .before in
     let a = start .args in
     same-number (sym (start .pre .2) ∙ ap integerKind (c .if1 .taken))
-    (place-fits (a .at) (start .pre .0) (start .pre .1) (field .before .read-u64-le .result) refl (field .near-field .ensures))
+    (place-fits (a .at) (start .pre .0) (start .pre .1) (field .before .read-u64-le .result) (start .pre .3) (field .near-field .ensures))
 
 -- what is made of the field by the kind
 word : (c : tie.After-near-field) (number : Number) →
     let a = c .before .before .before .args in
-    number ≡ a .slot .number → wordOf number (a .slot .count) (c .near-field .result) ≡ slotWord (a .slot) (a .«record» .now)
+    number ≡ a .slot .number → wordOf number (a .count) (c .near-field .result) ≡ slotWord (a .slot) (a .«record» .now)
 word c number kind =
     let shared = c .before .before in
     let start = shared .before in
     let a = start .args in
-    place-is-slot (a .at) (start .pre .0) (start .pre .1) (c .before .read-u64-le .result) refl (c .near-field .ensures)
+    place-is-slot (a .at) (start .pre .0) (start .pre .1) (c .before .read-u64-le .result) (start .pre .3) (c .near-field .ensures)
     (a .«record» .now) (λ i. shared .shared-slice-known .given i .fits) refl (c .before .read-u64-le .ensures) kind
 
 returns : tie.Need-returns
