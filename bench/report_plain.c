@@ -41,27 +41,26 @@ static inline void take_small(small *found, int is_first, uint64_t number, uint6
         found->largest = value, found->largest_at = number;
 }
 
-/* Four bytes at the place of u32, and two elsewhere. */
-static inline uint64_t one_small(const uint8_t *record, int at)
+static inline uint64_t one_small(const uint8_t *at, int bytes)
 {
     uint32_t four;
     uint16_t two;
-    if (at == U32_AT) {
-        memcpy(&four, record + at, sizeof four);
+    if (bytes == 4) {
+        memcpy(&four, at, sizeof four);
         return four;
     }
-    memcpy(&two, record + at, sizeof two);
+    memcpy(&two, at, sizeof two);
     return two;
 }
 
-/* Those bytes behind that many bits. Two million of them do not pass 64 bits as a sum. */
-static inline mf4_report_reply of_small(const uint8_t *records, uint64_t count, int at, int shift, int has_bit)
+/* Two bytes or four behind that many bits. Two million of them do not pass 64 bits as a sum. */
+static inline mf4_report_reply of_small(const uint8_t *records, uint64_t count, int at, int bytes, int shift, int has_bit)
 {
     mf4_report_reply line = { 0 };
     small found = { 0 };
     uint64_t sum = 0, number;
     for (number = 0; number < count; number++, records += RECORD) {
-        const uint64_t value = one_small(records, at) >> shift;
+        const uint64_t value = one_small(records + at, bytes) >> shift;
         if (has_bit && is_invalid(records)) {
             line.invalid++;
             continue;
@@ -123,15 +122,18 @@ static inline mf4_report_reply of_floats(const uint8_t *records, uint64_t count,
     return line;
 }
 
-mf4_report_reply plain_u16(const uint8_t *records, uint64_t count) { return of_small(records, count, U16_AT, 0, 0); }
-mf4_report_reply plain_u16_by_bit(const uint8_t *records, uint64_t count) { return of_small(records, count, U16_AT, 0, 1); }
-mf4_report_reply plain_twelve(const uint8_t *records, uint64_t count) { return of_small(records, count, TWELVE_AT, 4, 0); }
-mf4_report_reply plain_twelve_by_bit(const uint8_t *records, uint64_t count) { return of_small(records, count, TWELVE_AT, 4, 1); }
+mf4_report_reply plain_u16(const uint8_t *records, uint64_t count) { return of_small(records, count, U16_AT, 2, 0, 0); }
+mf4_report_reply plain_u16_by_bit(const uint8_t *records, uint64_t count) { return of_small(records, count, U16_AT, 2, 0, 1); }
+mf4_report_reply plain_twelve(const uint8_t *records, uint64_t count) { return of_small(records, count, TWELVE_AT, 2, 4, 0); }
+mf4_report_reply plain_twelve_by_bit(const uint8_t *records, uint64_t count)
+{
+    return of_small(records, count, TWELVE_AT, 2, 4, 1);
+}
 mf4_report_reply plain_i64(const uint8_t *records, uint64_t count) { return of_large(records, count, 1, 0); }
 mf4_report_reply plain_i64_by_bit(const uint8_t *records, uint64_t count) { return of_large(records, count, 1, 1); }
 mf4_report_reply plain_f32(const uint8_t *records, uint64_t count) { return of_floats(records, count, 0, 0); }
 mf4_report_reply plain_f32_by_bit(const uint8_t *records, uint64_t count) { return of_floats(records, count, 0, 1); }
 mf4_report_reply plain_f64(const uint8_t *records, uint64_t count) { return of_floats(records, count, 1, 0); }
 mf4_report_reply plain_f64_by_bit(const uint8_t *records, uint64_t count) { return of_floats(records, count, 1, 1); }
-mf4_report_reply plain_u32(const uint8_t *records, uint64_t count) { return of_small(records, count, U32_AT, 0, 0); }
+mf4_report_reply plain_u32(const uint8_t *records, uint64_t count) { return of_small(records, count, U32_AT, 4, 0, 0); }
 mf4_report_reply plain_u64(const uint8_t *records, uint64_t count) { return of_large(records, count, 0, 0); }

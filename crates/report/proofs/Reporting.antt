@@ -1,8 +1,8 @@
 -- The ways through a report.
 use mathlib.Core.Path.{_≡_, refl, sym, ap, _∙_}
-use mathlib.Core.Bool.{Bool, true, false, not}
+use mathlib.Core.Bool.{Bool, true, false}
 use mathlib.Core.List.{List, _++_}
-use Prim.Native.Nat.{ℕ, _/_, _≤_}
+use Prim.Native.Nat.{ℕ, _/_}
 use lib.ListN.{length, take, drop}
 use lib.Dec.{ltb}
 use Rattle.definitions.specs.Reply.{Outcome, answer, refusal, if_then_else_}

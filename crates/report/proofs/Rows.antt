@@ -1,8 +1,8 @@
 -- Records in a row, one more at a time.
-use mathlib.Core.Path.{_≡_, refl, sym, ap, subst, _∙_}
+use mathlib.Core.Path.{_≡_, sym, ap, subst, _∙_}
 use mathlib.Core.Bool.{Bool, true, false}
 use mathlib.Core.List.{List}
-use Prim.Native.Nat.{ℕ, _+_, _-_, _*_, _^_, _≤_, _<_}
+use Prim.Native.Nat.{ℕ, _+_, _-_, _*_, _^_, _<_}
 use native.Mathlib.Omega.{arith}
 use Rattle.definitions.specs.Reply.{if_then_else_}
 use Rattle.definitions.specs.Bytes.{span}
@@ -12,9 +12,8 @@ use Rattle.tally.specs.declared.tally.Tally.{Tally}
 use Rattle.tally.proofs.Tallying.{sane-skip, sane-count, marks-count}
 use Rattle.slots.specs.Slots.{slotWord, slotValid}
 use Rattle.slots.specs.declared.slot.Slot.{Slot}
-use Rattle.report.specs.Visits.{seen, visited, fewRecords}
+use Rattle.report.specs.Visits.{visited, fewRecords}
 use Rattle.report.specs.Rows.{RowSo, RowTo}
-use Rattle.report.specs.declared.run.Row.{Row}
 use Rattle.report.proofs.Seen.{seen-turn}
 use Rattle.report.proofs.Visiting.{visited-records}
 

@@ -3,7 +3,7 @@ use mathlib.Core.Path.{_≡_, refl, sym, ap, ap₂, _∙_}
 use mathlib.Core.List.{List, [], _++_, append-assoc, append-nil}
 use Prim.Native.Nat.{ℕ, zero, suc, _+_, _-_, _*_, _/_, _≤_, _<_}
 use native.Mathlib.Omega.{arith}
-use native.Mathlib.Nat.{suc-mul, add-mul, zero-mul, add-suc, mul-add-div-right, div-eq-of-lt, lt-div-mul-add, div-mul-le-self, mul-le-mul-right}
+use native.Mathlib.Nat.{suc-mul, add-mul, zero-mul, add-suc, mul-add-div-right, div-eq-of-lt, lt-div-mul-add, div-mul-le-self}
 use native.Mathlib.Numerals.{add-one}
 use lib.ListN.{length, take, drop, length-append, length-drop, take-append-drop, drop-of-length-le}
 use lib.Seq.{take-all, take-append-le, drop-append-le, drop-append-add, take-at, length-take-le}

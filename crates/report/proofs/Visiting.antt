@@ -1,17 +1,13 @@
 -- What one record makes of a tally, and what many of them do.
-use mathlib.Core.Path.{_≡_, refl, sym, ap, ap₂, subst, _∙_}
-use mathlib.Core.Bool.{Bool, true, false, not}
+use mathlib.Core.Path.{_≡_, refl, sym, ap, subst, _∙_}
+use mathlib.Core.Bool.{Bool, true, false}
 use mathlib.Core.List.{List}
-use Prim.Native.Nat.{ℕ, zero, suc, _+_, _-_, _*_, _^_, _≤_, _<_}
+use Prim.Native.Nat.{ℕ, zero, suc, _+_, _-_, _*_, _≤_, _<_}
 use native.Mathlib.Omega.{arith}
-use native.Mathlib.Nat.{suc-mul, mul-le-mul-right}
 use lib.ListN.{length, take, drop, length-take, length-drop}
-use lib.Seq.{length-take-le}
 use lib.Ieee.{isNan}
 use Rattle.definitions.specs.Reply.{if_then_else_}
 use Rattle.definitions.specs.Bytes.{span}
-use Rattle.words.proofs.Numbers.{Bytes}
-use Rattle.words.proofs.Spans.{bytes-span}
 use Rattle.fields.specs.declared.form.Number.{Number}
 use Rattle.tally.specs.Words.{valueAt}
 use Rattle.tally.specs.Tallies.{Sane, emptyTally, skippedTally, nanTally, markedTally, countedTally}

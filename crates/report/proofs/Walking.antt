@@ -1,10 +1,9 @@
 -- The records of a chain, as the walk along it meets them.
 use mathlib.Core.Path.{_≡_, refl, sym, ap, subst, _∙_}
 use mathlib.Core.List.{List, [], _∷_, _++_}
-use Prim.Native.Nat.{ℕ, _+_, _-_, _*_, _≤_, _<_}
+use Prim.Native.Nat.{ℕ, _+_, _-_, _≤_, _<_}
 use native.Mathlib.Omega.{arith}
-use lib.ListN.{length, take, drop, length-take, length-drop}
-use Rattle.definitions.specs.Bytes.{span}
+use lib.ListN.{length, take, drop, length-take}
 use Rattle.definitions.specs.Chain.{Block, dataOf, joined}
 use Rattle.chain.specs.Walk.{Walked}
 use Rattle.places.specs.declared.place.Place.{Place}

@@ -1,7 +1,7 @@
 -- Records that stand end to end, visited in turn.
 use mathlib.Core.Path.{_≡_}
 use mathlib.Core.List.{List}
-use Prim.Native.Nat.{ℕ, zero, suc, _+_, _*_, _/_, _^_, _<_}
+use Prim.Native.Nat.{ℕ, zero, suc, _+_, _*_, _^_, _<_}
 use lib.ListN.{length, take, drop}
 use Rattle.definitions.specs.Reply.{if_then_else_}
 use Rattle.definitions.specs.Bytes.{span}

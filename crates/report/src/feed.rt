@@ -1,7 +1,7 @@
 // The data of a fragment behind the bytes of a record that is not whole yet.
 ghost use mathlib.Core.Path.{_≡_};
 ghost use mathlib.Core.List.{_++_};
-ghost use Prim.Native.Nat.{_+_, _≤_, _<_};
+ghost use Prim.Native.Nat.{_+_, _<_};
 ghost use lib.ListN.{length, take};
 ghost use Rattle.tally.specs.Tallies.{Sane};
 ghost use Rattle.slots.specs.Slots.{Within};

@@ -1,7 +1,7 @@
 // The line of a channel over all records of a chain.
 ghost use mathlib.Core.Path.{_≡_};
 ghost use mathlib.Core.Bool.{true};
-ghost use Prim.Native.Nat.{_/_, _≤_, _<_};
+ghost use Prim.Native.Nat.{_/_};
 ghost use lib.ListN.{length};
 ghost use Rattle.definitions.specs.Reply.{answer};
 ghost use Rattle.definitions.specs.Channel.{isFixedNumber, areaOf};

@@ -4,7 +4,7 @@ ghost use Prim.Native.Nat.{_+_, _-_, _*_, _≤_, _<_};
 ghost use lib.ListN.{length};
 ghost use Rattle.fields.specs.declared.form.Number.the-variants.{Unsigned, Signed, Float};
 ghost use Rattle.tally.specs.Words.{integerKind};
-ghost use Rattle.tally.specs.Tallies.{Sane, HasMarks};
+ghost use Rattle.tally.specs.Tallies.{Sane};
 ghost use Rattle.slots.specs.Slots.{Within, PlaceTold};
 ghost use Rattle.report.specs.Visits.{seen, visited, fewRecords};
 ghost use Rattle.report.specs.Rows.{RowAsked, FlagTold, RowTo};

@@ -1,11 +1,11 @@
 -- Integers that doubles hold are in the order of their doubles, and so are those of which the first is not the smaller one.
 use mathlib.Core.Path.{_≡_, refl, sym, ap, ap₂, _∙_, subst}
-use mathlib.Core.Bool.{Bool, true, false, true≢false, false≢true}
+use mathlib.Core.Bool.{Bool, true, false}
 use mathlib.Core.List.{[], _∷_}
 use types.Run.{OneOf, hit}
 use denote.Enum.Declared.{tagOf}
 use Prim.Native.Nat.{ℕ, _+_, _-_, _*_, _^_, _≤_, _<_}
-use native.Mathlib.Nat.{mul-assoc, mul-right-comm, mul-one, mul-pos, add-mul, zero-mul, mul-lt-mul-of-pos-right}
+use native.Mathlib.Nat.{mul-assoc, mul-right-comm, mul-one, mul-pos, add-mul, mul-lt-mul-of-pos-right}
 use native.Mathlib.Omega.{arith}
 use borrow.Author.Tests.{ltb-true, ltb-false, lt-ltb, le-ltb}
 use lib.Dec.{ltb}
@@ -13,10 +13,9 @@ use lib.IntN.{pos}
 use lib.Ieee.{Float, nan, inf, fin, up, down, below, lt, binary64, ofBits}
 use lib.Ieee.Fits.{down-pos}
 use lib.Ieee.Exact.{HasValue}
-use Rattle.definitions.specs.Ieee754.{doubleOf, doubleOfSign}
+use Rattle.definitions.specs.Ieee754.{doubleOf}
 use Rattle.doubles.proofs.Whole.{of-positive}
 use Rattle.doubles.proofs.Exact.{exact}
-use Rattle.fields.specs.declared.form.Number.{Number}
 use Rattle.fields.specs.declared.form.Number.the-variants.{Unsigned, Signed}
 use Rattle.fields.proofs.form.Number.{the-type}
 use Rattle.tally.specs.Words.{signedZero, integerKind, valueAt, Exact}

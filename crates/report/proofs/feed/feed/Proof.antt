@@ -1,10 +1,8 @@
 -- What waits and the part behind it are read as one.
-use mathlib.Core.Path.{_≡_, sym, ap, subst, _∙_}
-use Prim.Native.Nat.{ℕ, _+_, _<_}
+use mathlib.Core.Path.{_≡_}
 use native.Mathlib.Omega.{arith}
 use borrow.Author.Needs.{needs}
-use lib.ListN.{length, length-drop}
-use Rattle.tally.specs.declared.tally.Tally.{Tally}
+use lib.ListN.{length}
 use Rattle.report.specs.Visits.{visited}
 use Rattle.report.proofs.Seen.{seen-one, none-waits, more-fed, cut-fed, rest-is}
 use Rattle.report.proofs.Visiting.{fewer-left}

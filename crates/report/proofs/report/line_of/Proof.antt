@@ -1,15 +1,10 @@
 -- By what all records of the size have in common.
-use mathlib.Core.Path.{_≡_, refl, sym, ap, subst, _∙_}
-use Prim.Native.Nat.{ℕ, _*_, _/_, _≤_}
-use native.Mathlib.Omega.{arith}
-use native.Mathlib.Nat.{div-mul-le-self}
+use mathlib.Core.Path.{refl, subst}
 use borrow.Author.Needs.{needs}
 use lib.ListN.{length}
 use Rattle.definitions.specs.Chain.{joined}
 use Rattle.fields.specs.Meaning.{channelMeant, groupMeant}
 use Rattle.slots.specs.Slots.{SlotTold, SlotOf}
-use Rattle.tally.specs.Tallies.{Tallied}
-use Rattle.tally.specs.declared.tally.Tally.{Tally}
 use Rattle.report.proofs.Walking.{joined-bytes}
 use Rattle.report.proofs.Lines.{readings-length, all-line, invalid-line, valueless-line, n-inside}
 use Rattle.report.proofs.report.line_of.Statement.{statement}

@@ -1,9 +1,8 @@
 -- After i records the tally is what these make of the first one: those of a row at once, and the one that ends it by itself.
-use mathlib.Core.Path.{_≡_, refl, sym, subst}
+use mathlib.Core.Path.{_≡_, sym, subst}
 use Prim.Native.Nat.{ℕ, _+_, _-_, _^_, _≤_, _<_}
 use native.Mathlib.Omega.{arith}
 use borrow.Author.Needs.{needs}
-use lib.ListN.{length, take, drop}
 use Rattle.tally.specs.Tallies.{Sane}
 use Rattle.slots.specs.Slots.{Within}
 use Rattle.slots.proofs.Rows.{part-is, part-long}

@@ -1,7 +1,6 @@
 -- The word that is loaded holds the field, of which the slot's word is made.
 use mathlib.Core.Path.{refl, sym, _∙_}
 use native.Mathlib.Omega.{arith}
-use borrow.Author.Needs.{needs}
 use Rattle.fields.proofs.Fields.{narrow}
 use Rattle.slots.proofs.Places.{place-low, place-fits, place-is-slot}
 use Rattle.slots.proofs.record.float_at.Statement.{statement}

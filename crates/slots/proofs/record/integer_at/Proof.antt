@@ -1,7 +1,6 @@
 -- The word that is loaded holds the field, of which either kind makes the slot's word.
 use mathlib.Core.Path.{_≡_, refl, sym, ap, _∙_}
 use native.Mathlib.Omega.{arith}
-use borrow.Author.Needs.{needs}
 use Rattle.fields.specs.declared.form.Number.{Number}
 use Rattle.fields.proofs.Fields.{same-number}
 use Rattle.tally.specs.Words.{integerKind}

@@ -1,4 +1,4 @@
-use mathlib.Core.Path.{_≡_, refl, _∙_}
+use mathlib.Core.Path.{refl, _∙_}
 use borrow.Author.Needs.{needs}
 use Rattle.fields.specs.declared.form.Number.the-variants.{Float as float}
 use Rattle.tally.proofs.Patterns.{float-between, float-below, float-nan}
