@@ -37,7 +37,7 @@ static const field random_fields[RANDOM] = {
 
 static const field growing_fields[GROWING] = {
     { "growing u32", { MF4_TYPE_UNSIGNED_LE, 0, 0, U32_AT, 32, 0, BIT, 0 }, plain_u32, NULL },
-    { "growing u64", { MF4_TYPE_UNSIGNED_LE, 0, 0, U64_AT, 64, 0, BIT, 0 }, plain_u64, NULL },
+    { "growing u64 beyond 2^53", { MF4_TYPE_UNSIGNED_LE, 0, 0, U64_AT, 64, 0, BIT, 0 }, plain_u64, NULL },
     { "growing f64", { MF4_TYPE_FLOAT_LE, 0, 0, F64_AT, 64, 0, BIT, 0 }, plain_f64, NULL },
 };
 
@@ -102,14 +102,14 @@ static void make_records(uint64_t count)
     memcpy(log_file.copy, log_file.joined, log_file.length);
 }
 
-/* A counter, its low half and a time, as operating hours grow: each record has a new largest value. */
+/* Hours, a clock that counts nanoseconds from far back, and a time: each record has a new largest value. */
 static void grow_record(uint8_t *record, uint64_t number)
 {
-    const uint64_t counter = 1000000 + number;
-    const uint32_t low = (uint32_t)counter;
+    const uint32_t hours = 1000000 + (uint32_t)number;
+    const uint64_t clock_count = 1700000000000000000 + 1000 * number;
     const double time = (double)number * 0.25;
-    memcpy(record + U32_AT, &low, sizeof low);
-    memcpy(record + U64_AT, &counter, sizeof counter);
+    memcpy(record + U32_AT, &hours, sizeof hours);
+    memcpy(record + U64_AT, &clock_count, sizeof clock_count);
     memcpy(record + F64_AT, &time, sizeof time);
 }
 
