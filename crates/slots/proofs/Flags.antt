@@ -24,6 +24,10 @@ no-ninth x h = let e : x / 256 ≡ 0 = omega arith in rw e
 pub no-flag : (w : Slot) (s : List ℕ) → getD s (w .«flag_at») 0 < 256 → w .«flag_bit» ≡ 8 → true ≡ slotValid w s
 no-flag w s h e = rw e (sym (eq-eqb (bit (getD s (w .«flag_at») 0) 8) 0 (no-ninth (getD s (w .«flag_at») 0) h)))
 
+-- and a program that asks for it is told
+pub no-flag-told : (w : Slot) {b : Bool} → b ≡ not (eqb (w .«flag_bit») 8) → b ≡ false → w .«flag_bit» ≡ 8
+no-flag-told w e h = eqb-true (w .«flag_bit») 8 (not-false _ (sym e ∙ h))
+
 module _ (g : Group) (c : Channel) (h : FlagAsked g c) {b : ℕ} (eb : b ≡ bit (c .flags) 1) where
   pub always : b ≡ 0 → FlagOf g c 0 8
   always z = record {

@@ -1,4 +1,4 @@
--- The laws over plain variables. Places and Small are for the crates above.
+-- The laws over plain variables. Flags, Rows and Small are for the crates above.
 pub mod Signs
 pub mod Numbers
 pub mod Flags

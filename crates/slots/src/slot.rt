@@ -1,8 +1,9 @@
 // A channel's number in records of one size: where its field lies, and which bit tells that it is invalid.
 ghost use mathlib.Core.Path.{_≡_};
-ghost use mathlib.Core.Bool.{true, false};
+ghost use mathlib.Core.Bool.{true, false, not};
 ghost use Prim.Native.Nat.{_≤_, _<_};
 ghost use lib.ListN.{length};
+ghost use lib.Dec.{eqb};
 ghost use Rattle.definitions.specs.Reply.{answer};
 ghost use Rattle.definitions.specs.Channel.{isFixedNumber, areaOf};
 ghost use Rattle.fields.specs.Meaning.{channelMeant, groupMeant};
@@ -107,7 +108,7 @@ pub fn is_valid_in(record: &[u8], slot: Slot) -> bool
 
 // Whether any record can be invalid
 pub fn has_flag(slot: Slot) -> bool
-    ensures { λ r. ⌜ (r ≡ false → slot .«flag_bit» ≡ 8) ⌝ }
+    ensures { λ r. ⌜ r ≡ not (eqb (slot .«flag_bit») 8) ⌝ }
 {
     slot.flag_bit != 8
 }

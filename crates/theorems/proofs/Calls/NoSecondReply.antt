@@ -148,6 +148,10 @@ use Rattle.payloads.proofs.read_payload.Kinds as record-payload-kinds
 use Rattle.payloads.proofs.read_payload.Reads as record-payload
 use Rattle.tally.proofs.empty_tally.Kinds as tally-empty-kinds
 use Rattle.tally.proofs.empty_tally.Reads as tally-empty
+use Rattle.tally.proofs.has_marks.Kinds as tally-marks-kinds
+use Rattle.tally.proofs.has_marks.Reads as tally-marks
+use Rattle.slots.proofs.has_flag.Kinds as slot-flag-kinds
+use Rattle.slots.proofs.has_flag.Reads as slot-flag
 use Rattle.slots.proofs.is_fixed_number.Kinds as fixed-number-kinds
 use Rattle.slots.proofs.is_fixed_number.Reads as fixed-number
 use Rattle.report.proofs.report_channel.Kinds as channel-report-kinds
@@ -348,6 +352,12 @@ record-payload-settled = settled (λ κs a y z b c p q. in-places (λ out room. 
 
 pub tally-empty-settled : Settled 0 tally-empty-kinds.ps tally-empty-kinds.r tally-empty.Asked tally-empty.ensures tally-empty.Learnt
 tally-empty-settled = settled (λ κs a y z b c p q. (p ∙ sym q, refl))
+
+pub tally-marks-settled : Settled 0 tally-marks-kinds.ps tally-marks-kinds.r tally-marks.Asked tally-marks.ensures tally-marks.Learnt
+tally-marks-settled = settled (λ κs a y z b c p q. (p ∙ sym q, refl))
+
+pub slot-flag-settled : Settled 0 slot-flag-kinds.ps slot-flag-kinds.r slot-flag.Asked slot-flag.ensures slot-flag.Learnt
+slot-flag-settled = settled (λ κs a y z b c p q. (p ∙ sym q, refl))
 
 pub fixed-number-settled : Settled 0 fixed-number-kinds.ps fixed-number-kinds.r fixed-number.Asked fixed-number.ensures fixed-number.Learnt
 fixed-number-settled = settled (λ κs a y z b c p q. (p ∙ sym q, refl))
