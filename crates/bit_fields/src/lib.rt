@@ -1,4 +1,6 @@
 // Bit fields of bytes: cut out, given a sign, and replaced, in either byte order.
+#![tactic(auto)]
+
 mod field;
 mod replace;
 mod signed;

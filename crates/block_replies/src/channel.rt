@@ -7,7 +7,7 @@ use data_types::DataType;
 use fields::Channel;
 
 #[repr(C)]
-#[derive(Drop)]
+#[derive(Clone, Copy)]
 pub struct Mf4Channel {
     pub data_type: u8,
     pub channel_type: u8,

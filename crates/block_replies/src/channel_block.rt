@@ -10,7 +10,7 @@ use channels::{ChannelBlock, ChannelRead};
 use fields::Channel;
 
 #[repr(C)]
-#[derive(Drop)]
+#[derive(Clone, Copy)]
 pub struct Mf4ChannelBlock {
     pub header: Mf4Header,
     pub next_ch_addr: u64,
@@ -37,7 +37,7 @@ pub struct Mf4ChannelBlock {
 }
 
 #[repr(C)]
-#[derive(Drop)]
+#[derive(Clone, Copy)]
 pub struct Mf4ChannelReply {
     pub reply: u32,
     pub told: u64,

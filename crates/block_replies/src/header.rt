@@ -6,7 +6,7 @@ ghost use Rattle.block_replies.specs.Replies.{no_header, header_fields, header_g
 use blocks::{BlockHeader, HeaderRead};
 
 #[repr(C)]
-#[derive(Drop)]
+#[derive(Clone, Copy)]
 pub struct Mf4Header {
     pub id: u32,
     pub reserved0: u32,
@@ -15,7 +15,7 @@ pub struct Mf4Header {
 }
 
 #[repr(C)]
-#[derive(Drop)]
+#[derive(Clone, Copy)]
 pub struct Mf4HeaderReply {
     pub reply: u32,
     pub told: u64,

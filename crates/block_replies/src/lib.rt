@@ -1,5 +1,7 @@
 // What C is told of blocks, and what it gives of them: each answer of the library as a struct, and each struct as what the library
 // takes.
+#![tactic(auto)]
+
 mod channel;
 mod channel_block;
 mod header;

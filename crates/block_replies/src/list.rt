@@ -7,7 +7,7 @@ use crate::header::{Mf4Header, header_told, no_header};
 use blocks::ListRead;
 
 #[repr(C)]
-#[derive(Drop)]
+#[derive(Clone, Copy)]
 pub struct Mf4ListReply {
     pub reply: u32,
     pub told: u64,

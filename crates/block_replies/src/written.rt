@@ -6,7 +6,7 @@ ghost use Rattle.block_replies.specs.Replies.{written_c};
 use blocks::Written;
 
 #[repr(C)]
-#[derive(Drop)]
+#[derive(Clone, Copy)]
 pub struct Mf4WrittenReply {
     // 0: the bytes were written; else the refusal's number
     pub reply: u32,

@@ -13,7 +13,7 @@ use words::{id_at, le_bytes, put_all_le, put_u32_le, put_u64_le, read_u32_le, re
 // a list that is written has at most so many data links
 const LINK_LIMIT: usize = 4096;
 
-#[derive(Drop)]
+#[derive(Clone, Copy)]
 pub struct DataListBlock {
     pub header: BlockHeader,
     // the next list's address
@@ -29,7 +29,7 @@ pub struct DataListBlock {
     pub rest: u64,
 }
 
-#[derive(Drop)]
+#[derive(Clone, Copy)]
 pub enum ListRead {
     List(DataListBlock),
     Refused(Refusal),

@@ -9,7 +9,7 @@ use crate::written::Written;
 use refusals::Refusal;
 use words::{put_u32_le, put_u64_le, read_u32_le, read_u64_le};
 
-#[derive(Drop)]
+#[derive(Clone, Copy)]
 pub struct BlockHeader {
     // the four raw bytes, the first the lowest
     pub id: u32,
@@ -18,7 +18,7 @@ pub struct BlockHeader {
     pub links_nr: u64,
 }
 
-#[derive(Drop)]
+#[derive(Clone, Copy)]
 pub enum HeaderRead {
     Header(BlockHeader),
     Refused(Refusal),

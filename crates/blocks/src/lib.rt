@@ -1,4 +1,6 @@
 // Blocks of a file: the header and the data list.
+#![tactic(auto)]
+
 mod data_list;
 mod header;
 mod written;

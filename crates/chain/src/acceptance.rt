@@ -8,14 +8,14 @@ use places::{BlockRead, DataBlock, DataPosition, FILE_LIMIT, FileAddress, Place}
 use refusals::Refusal;
 use steps::{NextRead, fragment_at, next_list};
 
-#[derive(Drop)]
+#[derive(Clone, Copy)]
 pub enum ChainRead {
     // the length of the joined data
     Whole(DataPosition),
     Refused(Refusal),
 }
 
-#[derive(Drop)]
+#[derive(Clone, Copy)]
 pub enum Located {
     // the length of the joined data, and a place on the way that is not behind the wanted position
     Whole(DataPosition, Place),

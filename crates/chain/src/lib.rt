@@ -1,5 +1,7 @@
 // A chain of data lists: whether it is accepted, and where a position of the joined data stands. Whoever walks along one names
 // this crate alone.
+#![tactic(auto)]
+
 mod acceptance;
 
 pub use acceptance::{ChainRead, Located, data_length, locate_data};

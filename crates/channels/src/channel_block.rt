@@ -13,7 +13,7 @@ use fields::Channel;
 use refusals::Refusal;
 use words::{id_at, put_all_le, put_u32_le, read_all_le, read_u16_le, read_u32_le};
 
-#[derive(Drop)]
+#[derive(Clone, Copy)]
 pub struct ChannelBlock {
     pub header: BlockHeader,
     pub next_ch_addr: u64,
@@ -47,7 +47,7 @@ pub struct ChannelBlock {
     pub upper_ext_limit: u64,
 }
 
-#[derive(Drop)]
+#[derive(Clone, Copy)]
 pub enum ChannelRead {
     Block(ChannelBlock),
     Refused(Refusal),

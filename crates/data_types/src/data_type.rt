@@ -3,7 +3,7 @@ ghost use Rattle.std.specs.Prelude.{◌≡◌};
 ghost use Rattle.definitions.specs.DataType.{type_of, code_of, default_bits};
 ghost use Rattle.data_types.specs.Meaning.{type_meant};
 
-#[derive(Drop)]
+#[derive(Clone, Copy)]
 pub enum DataType {
     UnsignedIntegerLE,
     UnsignedIntegerBE,

@@ -1,4 +1,6 @@
 // The data types of channels.
+#![tactic(auto)]
+
 mod data_type;
 
 pub use data_type::DataType;

@@ -1,4 +1,6 @@
 // A channel's value in a record, as a double too, and with its validity.
+#![tactic(auto)]
+
 mod alike;
 mod decode;
 mod double;

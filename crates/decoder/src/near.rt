@@ -9,7 +9,7 @@ use fields::{Form, Number, form_of, is_no_float_width};
 use words::{few_le_bytes, read_u64_le};
 
 // A word whose bytes, the lowest first, hold a field, and the bit of them at which it begins
-#[derive(Drop)]
+#[derive(Clone, Copy)]
 pub(crate) enum WordFound {
     Word(u64, u32),
     Nowhere,
@@ -57,7 +57,7 @@ pub(crate) fn find_word(
 }
 
 // A number of a width that has a value, and whether it is big-endian
-#[derive(Drop)]
+#[derive(Clone, Copy)]
 pub(crate) enum NumberForm {
     Number(Number, bool),
     Other,

@@ -1,4 +1,6 @@
 // Patterns of doubles, made with integers alone: of integers, and of 32-bit floats, which are made of them again.
+#![tactic(auto)]
+
 mod narrowing;
 mod patterns;
 mod round;

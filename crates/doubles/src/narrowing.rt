@@ -11,7 +11,7 @@ use crate::patterns::{
 use crate::widening::widen;
 
 // The pattern that widens to a double's, or none: the double is wider.
-#[derive(Drop)]
+#[derive(Clone, Copy)]
 pub enum Narrowed {
     Single(u32),
     Wider,

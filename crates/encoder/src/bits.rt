@@ -8,7 +8,7 @@ use doubles::{Narrowed, magnitude_less_one, narrow};
 use fields::Number;
 use refusals::Refusal;
 
-#[derive(Drop)]
+#[derive(Clone, Copy)]
 pub(crate) enum FieldBits {
     Bits(u64),
     Refused(Refusal),

@@ -15,7 +15,7 @@ use decoder::any_value;
 use fields::{Channel, Form, Number, ValueRead, ends_outside, form_of, is_well_described};
 use refusals::Refusal;
 
-#[derive(Drop)]
+#[derive(Clone, Copy)]
 pub enum ValueWritten {
     Done,
     Refused(Refusal),
@@ -35,7 +35,7 @@ impl ValueWritten {
 }
 
 // The field to write to, and its new bits
-#[derive(Drop)]
+#[derive(Clone, Copy)]
 pub(crate) enum FieldChosen {
     Field {
         at: usize,

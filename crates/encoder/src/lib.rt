@@ -1,4 +1,6 @@
 // Numbers written into the fields of a record.
+#![tactic(auto)]
+
 mod bits;
 mod encode;
 mod number;

@@ -1,7 +1,7 @@
 // What is given to be written.
 
 // A double by its pattern; `Other` is what is no number.
-#[derive(Drop)]
+#[derive(Clone, Copy)]
 pub enum NumberGiven {
     Unsigned(u64),
     Signed(i64),

@@ -1,5 +1,5 @@
 // The encodings of a text.
-#[derive(Drop)]
+#[derive(Clone, Copy)]
 pub enum Encoding {
     Latin1,
     Utf8,

@@ -1,4 +1,6 @@
 // The encodings of a text, and where a text in each of them stops.
+#![tactic(auto)]
+
 mod encoding;
 mod stop;
 

@@ -9,13 +9,13 @@ use crate::group::Group;
 use crate::validity::{bit_of, check_value_validity};
 use refusals::Refusal;
 
-#[derive(Drop)]
+#[derive(Clone, Copy)]
 pub enum AreaChecked {
     Inside,
     Refused(Refusal),
 }
 
-#[derive(Drop)]
+#[derive(Clone, Copy)]
 pub enum ValidityRead {
     Validity(bool),
     Refused(Refusal),

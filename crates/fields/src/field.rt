@@ -10,7 +10,7 @@ use crate::form::{Content, Form, Number};
 use crate::span::{bit_span, bytes_needed, content_span, ends_outside};
 use refusals::Refusal;
 
-#[derive(Drop)]
+#[derive(Clone, Copy)]
 pub enum FieldFound {
     Field { at: usize, length: usize },
     Refused(Refusal),

@@ -1,4 +1,6 @@
 // Where a channel's field lies in a record, what its bits or bytes stand for, and whether it is valid.
+#![tactic(auto)]
+
 mod area;
 mod channel;
 mod content;

@@ -4,7 +4,7 @@ ghost use Rattle.std.specs.Prelude.{◌≡◌};
 use refusals::Refusal;
 
 // `at` and `length` are a place in the slice; `bits` is the pattern of the double beside it, which tells NaNs apart.
-#[derive(Drop)]
+#[derive(Clone, Copy)]
 pub enum DecodedValue {
     UnsignedInteger(u64),
     SignedInteger(i64),
@@ -16,7 +16,7 @@ pub enum DecodedValue {
     Unknown,
 }
 
-#[derive(Drop)]
+#[derive(Clone, Copy)]
 pub enum ValueRead {
     Value(DecodedValue),
     Refused(Refusal),
@@ -35,13 +35,13 @@ impl ValueRead {
     }
 }
 
-#[derive(Drop)]
+#[derive(Clone, Copy)]
 pub struct DecodedChannelValue {
     pub value: DecodedValue,
     pub is_valid: bool,
 }
 
-#[derive(Drop)]
+#[derive(Clone, Copy)]
 pub enum ValidValueRead {
     Value(DecodedChannelValue),
     Refused(Refusal),

@@ -1,4 +1,6 @@
 // The calls for C, one thin function each; include/mf4.h says what they take, answer and refuse.
+#![tactic(auto)]
+
 mod channel_block;
 mod fetches;
 mod header;

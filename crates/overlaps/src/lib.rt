@@ -1,4 +1,6 @@
 // The first two channels of a list whose fields share a bit of the record.
+#![tactic(auto)]
+
 mod answer;
 mod entry;
 mod pair;

@@ -9,7 +9,7 @@ ghost use Rattle.overlaps.specs.Meaning.{field_meant, bare};
 use fields::{Channel, Form, form_of};
 
 // All that tells where the bits of a number stand
-#[derive(Drop)]
+#[derive(Clone, Copy)]
 pub struct FieldPlace {
     pub big_endian: bool,
     pub bit_offset: u8,

@@ -5,7 +5,7 @@ ghost use Rattle.overlaps.specs.Meaning.{InSpan, Covers, field_meant, bits_of_by
 use crate::place::{FieldPlace, byte_count};
 
 // The bits from `from` on, below `to`
-#[derive(Drop)]
+#[derive(Clone, Copy)]
 pub struct Run {
     pub from: u64,
     pub to: u64,

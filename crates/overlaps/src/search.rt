@@ -14,7 +14,7 @@ const CHANNEL_LIMIT: usize = 256;
 
 // While it is unfinished it stands at an entry, which is `first` and `second`, or at the pair of both. Every entry is
 // tested before the first pair.
-#[derive(Drop)]
+#[derive(Clone, Copy)]
 pub struct Search {
     pub unfinished: bool,
     pub in_pairs: bool,

@@ -1,4 +1,6 @@
 // Values that are kept outside their record, in a chain of payloads.
+#![tactic(auto)]
+
 mod payload;
 mod position;
 mod value;

@@ -15,20 +15,20 @@ use refusals::Refusal;
 use words::read_u32_le;
 
 // The length of a payload, and where the walk stopped that read it: the payload is read on from there
-#[derive(Drop)]
+#[derive(Clone, Copy)]
 pub(crate) struct LengthRead {
     pub length: u32,
     pub reached: Place,
 }
 
-#[derive(Drop)]
+#[derive(Clone, Copy)]
 pub(crate) enum PayloadFound {
     // a place on the way that is not behind it, its first byte, and its length
     Payload(Place, DataPosition, u32),
     Refused(Refusal),
 }
 
-#[derive(Drop)]
+#[derive(Clone, Copy)]
 pub(crate) enum PayloadStored {
     // so many bytes in the front of the buffer
     Bytes(usize),

@@ -11,7 +11,7 @@ use fields::{bytes_needed, ends_outside};
 use refusals::Refusal;
 use words::read_u64_le;
 
-#[derive(Drop)]
+#[derive(Clone, Copy)]
 pub(crate) enum PositionRead {
     Position(DataPosition),
     Refused(Refusal),

@@ -12,7 +12,7 @@ use records::{RecordRead, read_record};
 use refusals::Refusal;
 
 // Texts and bytes stand in the payload's buffer.
-#[derive(Drop)]
+#[derive(Clone, Copy)]
 pub struct DecodedPayload {
     pub value: DecodedValue,
     pub is_valid: bool,
@@ -20,7 +20,7 @@ pub struct DecodedPayload {
     pub length: u64,
 }
 
-#[derive(Drop)]
+#[derive(Clone, Copy)]
 pub enum PayloadRead {
     Value(DecodedPayload),
     Refused(Refusal),

@@ -8,14 +8,14 @@ use blocks::{BlockHeader, HeaderRead};
 use refusals::Refusal;
 use words::id_at;
 
-#[derive(Drop)]
+#[derive(Clone, Copy)]
 pub struct DataBlock {
     pub address: FileAddress,
     // the bytes of data behind the 24 of the header
     pub size: u64,
 }
 
-#[derive(Drop)]
+#[derive(Clone, Copy)]
 pub enum BlockRead {
     Block(DataBlock),
     Refused(Refusal),

@@ -1,4 +1,6 @@
 // Places of a walk along a chain of data lists, and what stands at an address of the file: a data block, or a list of the chain.
+#![tactic(auto)]
+
 mod block;
 mod limits;
 mod list;

@@ -1,4 +1,6 @@
 // Records of the joined data of a chain, and values in them.
+#![tactic(auto)]
+
 mod joined;
 mod record;
 mod value;

@@ -13,7 +13,7 @@ const RECORD_LIMIT: u64 = 16384;
 // the last position that a word can hold, behind all data
 const LAST_POSITION: u64 = 18446744073709551615;
 
-#[derive(Drop)]
+#[derive(Clone, Copy)]
 pub enum RecordRead {
     // it stands in the front of the buffer
     Record,

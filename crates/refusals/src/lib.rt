@@ -1,8 +1,10 @@
 // The numbered refusals, as one enum that every crate's answers share. 1 and 14 were given once, and are given no more.
+#![tactic(auto)]
+
 ghost use Rattle.std.specs.Prelude.{◌≡◌};
 ghost use Rattle.refusals.specs.Meaning.{refusal_number, told_of};
 
-#[derive(Drop)]
+#[derive(Clone, Copy)]
 pub enum Refusal {
     // 2, with the bytes that the block needs
     TooFewBytes(u64),

@@ -3,7 +3,7 @@ use crate::answers::{FILL, same_written};
 use crate::words::{number, numbers, room, sign, small};
 use mf4::{Mf4Header, mf4_write_header, mf4_write_list_equal, mf4_write_list_variable};
 
-#[derive(Drop)]
+#[derive(Clone, Copy)]
 pub(crate) struct HeaderWords {
     pub header: Mf4Header,
     pub next: usize,

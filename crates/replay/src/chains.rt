@@ -11,7 +11,7 @@ use mf4::{
 };
 
 // What a fetch is asked; `file_count` and `room` are the bytes of the file and of the lent buffer
-#[derive(Drop)]
+#[derive(Clone, Copy)]
 pub(crate) struct FetchWords {
     pub file_count: usize,
     pub start: u64,

@@ -90,7 +90,7 @@ pub(crate) fn replay_channel_read(line: &[u8], at: usize) -> usize {
     }
 }
 
-#[derive(Drop)]
+#[derive(Clone, Copy)]
 struct LinkWords {
     next_ch_addr: u64,
     component_addr: u64,
@@ -128,7 +128,7 @@ fn link_words(line: &[u8], at: usize) -> LinkWords {
     }
 }
 
-#[derive(Drop)]
+#[derive(Clone, Copy)]
 struct LimitWords {
     min_raw_value: u64,
     max_raw_value: u64,
@@ -157,7 +157,7 @@ fn limit_words(line: &[u8], at: usize) -> LimitWords {
     }
 }
 
-#[derive(Drop)]
+#[derive(Clone, Copy)]
 struct BlockWords {
     block: Mf4ChannelBlock,
     next: usize,

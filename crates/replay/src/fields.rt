@@ -9,20 +9,20 @@ use mf4::{
 };
 
 // A field's words behind its record; `next` is where the answer begins
-#[derive(Drop)]
+#[derive(Clone, Copy)]
 pub(crate) struct FieldWords {
     pub group: Mf4Group,
     pub channel: Mf4Channel,
     pub next: usize,
 }
 
-#[derive(Drop)]
+#[derive(Clone, Copy)]
 struct GroupWords {
     pub group: Mf4Group,
     pub next: usize,
 }
 
-#[derive(Drop)]
+#[derive(Clone, Copy)]
 pub(crate) struct ChannelWords {
     pub channel: Mf4Channel,
     pub next: usize,

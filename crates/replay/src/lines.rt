@@ -6,7 +6,7 @@ use libc::STDOUT_FILENO;
 // Enough to see what is wrong without drowning in it
 const MOST_SHOWN: u64 = 20;
 
-#[derive(Drop)]
+#[derive(Clone, Copy)]
 pub(crate) struct Run {
     // by kind, and last the lines of no known kind
     counts: [u64; 21],

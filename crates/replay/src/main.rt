@@ -27,6 +27,8 @@
 // one word, so that a program that overlooks something is found out.
 //
 // There is no kind for mf4_first_overlap: it takes a list of structs, and the kit does not check a loan of one yet.
+#![tactic(auto)]
+
 mod answers;
 mod blocks_read;
 mod blocks_written;

@@ -7,32 +7,32 @@ ghost use Rattle.io.specs.Counts.{IsPrefixLen};
 
 pub(crate) const WRONG: usize = usize::MAX;
 
-#[derive(Drop)]
+#[derive(Clone, Copy)]
 pub(crate) struct NumberRead {
     pub value: u64,
     pub next: usize,
 }
 
-#[derive(Drop)]
+#[derive(Clone, Copy)]
 pub(crate) struct SmallRead {
     pub value: u32,
     pub next: usize,
 }
 
-#[derive(Drop)]
+#[derive(Clone, Copy)]
 pub(crate) struct ShortRead {
     pub value: u16,
     pub next: usize,
 }
 
-#[derive(Drop)]
+#[derive(Clone, Copy)]
 pub(crate) struct ByteRead {
     pub value: u8,
     pub next: usize,
 }
 
 // how many bytes or numbers were read, or how many bytes are lent
-#[derive(Drop)]
+#[derive(Clone, Copy)]
 pub(crate) struct Counted {
     pub count: usize,
     pub next: usize,

@@ -6,7 +6,7 @@ ghost use Rattle.replies.specs.Replies.{done_c};
 use refusals::Refusal;
 
 #[repr(C)]
-#[derive(Drop)]
+#[derive(Clone, Copy)]
 pub struct Mf4DoneReply {
     pub reply: u32,
     pub told: u64,

@@ -10,7 +10,7 @@ use chain::ChainRead;
 use records::RecordRead;
 
 #[repr(C)]
-#[derive(Drop)]
+#[derive(Clone, Copy)]
 pub struct Mf4LengthReply {
     pub reply: u32,
     pub told: u64,

@@ -6,7 +6,7 @@ ghost use Rattle.replies.specs.Values.{group_given};
 use decoder::Group;
 
 #[repr(C)]
-#[derive(Drop)]
+#[derive(Clone, Copy)]
 pub struct Mf4Group {
     pub record_id_size: u64,
     pub data_bytes: u32,

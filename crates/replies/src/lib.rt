@@ -1,4 +1,6 @@
 // What C is told of values, texts, records, tables, overlaps and reports, and what it gives of them: as `block_replies` has it of blocks.
+#![tactic(auto)]
+
 mod done;
 mod fetches;
 mod group;

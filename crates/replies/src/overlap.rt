@@ -7,7 +7,7 @@ use overlaps::OverlapRead;
 
 // `found` tells a pair from none, since 0 is a place.
 #[repr(C)]
-#[derive(Drop)]
+#[derive(Clone, Copy)]
 pub struct Mf4OverlapReply {
     pub reply: u32,
     pub told: u64,

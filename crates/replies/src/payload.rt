@@ -8,7 +8,7 @@ use crate::values::decoded;
 use payloads::PayloadRead;
 
 #[repr(C)]
-#[derive(Drop)]
+#[derive(Clone, Copy)]
 pub struct Mf4PayloadReply {
     pub reply: u32,
     pub told: u64,

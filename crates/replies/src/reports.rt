@@ -11,7 +11,7 @@ use report::ReportRead;
 use tally::Point;
 
 #[repr(C)]
-#[derive(Drop)]
+#[derive(Clone, Copy)]
 pub struct Mf4Point {
     pub number: u64,
     pub value: f64,
@@ -19,7 +19,7 @@ pub struct Mf4Point {
 
 // `has_doubles` tells whether there is a first, since 0 is a record's number. The sum is sum_high * 2^64 + sum_low.
 #[repr(C)]
-#[derive(Drop)]
+#[derive(Clone, Copy)]
 pub struct Mf4ReportReply {
     pub reply: u32,
     pub told: u64,

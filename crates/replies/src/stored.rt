@@ -10,7 +10,7 @@ use encoder::{NumberGiven, ValueWritten};
 
 // The kind and the number as Mf4ValueReply has them
 #[repr(C)]
-#[derive(Drop)]
+#[derive(Clone, Copy)]
 pub struct Mf4Number {
     pub kind: u32,
     pub number: u64,

@@ -6,7 +6,7 @@ ghost use Rattle.replies.specs.Replies.{flag_c, text_c};
 use text::TextWrite;
 
 #[repr(C)]
-#[derive(Drop)]
+#[derive(Clone, Copy)]
 pub struct Mf4TextReply {
     pub reply: u32,
     pub told: u64,

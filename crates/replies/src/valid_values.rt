@@ -10,7 +10,7 @@ use decoder::ValidValueRead;
 use refusals::Refusal;
 
 #[repr(C)]
-#[derive(Drop)]
+#[derive(Clone, Copy)]
 pub struct Mf4ValidValueReply {
     pub reply: u32,
     pub told: u64,

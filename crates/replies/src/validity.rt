@@ -7,7 +7,7 @@ use crate::texts::flag;
 use decoder::ValidityRead;
 
 #[repr(C)]
-#[derive(Drop)]
+#[derive(Clone, Copy)]
 pub struct Mf4ValidityReply {
     pub reply: u32,
     pub told: u64,

@@ -7,7 +7,7 @@ use decoder::{DecodedValue, ValueRead};
 use doubles::magnitude_less_one;
 
 #[repr(C)]
-#[derive(Drop)]
+#[derive(Clone, Copy)]
 pub struct Mf4ValueReply {
     pub reply: u32,
     pub told: u64,
@@ -18,7 +18,7 @@ pub struct Mf4ValueReply {
 }
 
 // What C is told of a value
-#[derive(Drop)]
+#[derive(Clone, Copy)]
 pub(crate) struct Shown {
     pub(crate) kind: u32,
     pub(crate) number: u64,

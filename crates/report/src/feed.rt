@@ -10,7 +10,7 @@ use slots::Slot;
 use tally::Tally;
 
 // A tally, and how many bytes of a record that is not whole yet stand in the buffer
-#[derive(Drop)]
+#[derive(Clone, Copy)]
 pub(crate) struct Fed {
     pub tally: Tally,
     pub fill: usize,

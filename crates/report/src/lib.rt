@@ -1,4 +1,6 @@
 // One line of a channel over all records of a chain: each fragment is read once, and its whole records in their place.
+#![tactic(auto)]
+
 mod feed;
 mod report;
 mod run;

@@ -17,7 +17,7 @@ use refusals::Refusal;
 use slots::{SlotFound, find_slot, is_fixed_number};
 use tally::{Report, invalid_report, report_of, valueless_report};
 
-#[derive(Drop)]
+#[derive(Clone, Copy)]
 pub enum ReportRead {
     Report(Report),
     Refused(Refusal),

@@ -17,7 +17,7 @@ use tally::{
 };
 
 // The record that comes next, and the tally of those before it
-#[derive(Drop)]
+#[derive(Clone, Copy)]
 pub(crate) struct Row {
     pub next: usize,
     pub tally: Tally,

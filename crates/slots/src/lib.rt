@@ -1,4 +1,6 @@
 // Where in each record of one size a channel's number lies, found once for all of them.
+#![tactic(auto)]
+
 mod record;
 mod slot;
 mod word;

@@ -9,7 +9,7 @@ ghost use Rattle.slots.specs.Known.{FlagAsked, FlagOf};
 use bit_fields::cut;
 use fields::{Channel, FieldFound, Form, Group, Number, find_field, form_of};
 
-#[derive(Drop)]
+#[derive(Clone, Copy)]
 pub struct Slot {
     pub number: Number,
     pub big_endian: bool,
@@ -21,14 +21,14 @@ pub struct Slot {
     pub flag_bit: u32,
 }
 
-#[derive(Drop)]
+#[derive(Clone, Copy)]
 pub enum SlotFound {
     Found(Slot),
     AllInvalid,
     NoValue,
 }
 
-#[derive(Drop)]
+#[derive(Clone, Copy)]
 pub(crate) struct Flag {
     pub(crate) at: usize,
     pub(crate) bit: u32,

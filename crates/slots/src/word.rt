@@ -13,7 +13,7 @@ use fields::{Number, float_bits, number_at};
 use words::swapped;
 
 // The first byte of eight of a record that hold the field, and the bit of them at which it begins
-#[derive(Drop)]
+#[derive(Clone, Copy)]
 pub enum PlaceFound {
     Place(usize, u32),
     NoPlace,

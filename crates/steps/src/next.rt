@@ -9,7 +9,7 @@ use blocks::ListRead;
 use places::{DataPosition, LIST_LIMIT, OpenList, Place, bytes_from, list_at};
 use refusals::Refusal;
 
-#[derive(Drop)]
+#[derive(Clone, Copy)]
 pub enum NextRead {
     // before the first fragment of the next list
     List(Place),

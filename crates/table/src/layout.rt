@@ -13,7 +13,7 @@ pub type Table = [u64; 1026];
 pub(crate) const TABLE_LIMIT: u64 = 512;
 
 // what became of a table that was to change
-#[derive(Drop)]
+#[derive(Clone, Copy)]
 pub enum TableChanged {
     Done,
     Refused(Refusal),

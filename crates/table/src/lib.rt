@@ -1,4 +1,6 @@
 // A table of the fragments of a chain, lent by the caller: by it a record is found without a walk.
+#![tactic(auto)]
+
 mod extension;
 mod fetch;
 mod layout;

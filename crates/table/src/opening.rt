@@ -11,7 +11,7 @@ use chain::{BlockRead, DataBlock, FileAddress, NextRead, Place, fragment_at, nex
 use places::FILE_LIMIT;
 use refusals::Refusal;
 
-#[derive(Drop)]
+#[derive(Clone, Copy)]
 pub enum Listed {
     // so many fragments
     Whole(u64),

@@ -9,7 +9,7 @@ use chain::FileAddress;
 const HEADER_SIZE: u64 = 24;
 
 // where the file ends, if one is given
-#[derive(Drop)]
+#[derive(Clone, Copy)]
 pub enum FileEnd {
     Unknown,
     At(u64),

@@ -1,4 +1,6 @@
 // The numbers of one channel, met one after the other: how many, the outermost of their doubles, and their sum.
+#![tactic(auto)]
+
 mod order;
 mod report;
 mod sum;

@@ -12,14 +12,14 @@ use crate::tally::{Mark, Tally};
 use fields::Number;
 
 // A double, and the number of its record
-#[derive(Drop)]
+#[derive(Clone, Copy)]
 pub struct Point {
     pub number: u64,
     pub value: f64,
 }
 
 // The valid doubles that are no NaN. Without any, all is 0.
-#[derive(Drop)]
+#[derive(Clone, Copy)]
 pub struct Outermost {
     pub any: bool,
     pub first: Point,
@@ -28,7 +28,7 @@ pub struct Outermost {
     pub largest: Point,
 }
 
-#[derive(Drop)]
+#[derive(Clone, Copy)]
 pub struct Report {
     pub records: u64,
     pub valid: u64,

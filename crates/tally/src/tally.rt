@@ -9,13 +9,13 @@ use doubles::value_of;
 use fields::Number;
 
 // A number as a word, and the number of its record
-#[derive(Drop)]
+#[derive(Clone, Copy)]
 pub struct Mark {
     pub number: u64,
     pub word: u64,
 }
 
-#[derive(Drop)]
+#[derive(Clone, Copy)]
 pub struct Tally {
     // of all of which `valid` are valid, and of these `nan` are NaN
     pub records: u64,

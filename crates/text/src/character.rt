@@ -3,7 +3,7 @@ ghost use Rattle.std.specs.Prelude.{◌≡◌};
 ghost use Rattle.definitions.specs.Unicode.{inside};
 ghost use Rattle.text.specs.Meaning.{char_meant};
 
-#[derive(Drop)]
+#[derive(Clone, Copy)]
 pub enum Char {
     // a scalar value, and how many bytes after its first belong to it: a character takes at least one byte
     Scalar { value: u32, more: usize },

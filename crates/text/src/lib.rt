@@ -1,4 +1,6 @@
 // Texts in four encodings, written as UTF-8 into a lent buffer.
+#![tactic(auto)]
+
 mod answer;
 mod character;
 mod damaged;

@@ -73,7 +73,7 @@ fn char_at(text: &[u8], at: usize, big_endian: bool) -> Char
 }
 
 // what a text takes as UTF-8
-#[derive(Drop)]
+#[derive(Clone, Copy)]
 pub enum Size {
     Sound(usize),
     Damaged,

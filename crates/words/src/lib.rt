@@ -1,4 +1,6 @@
 // Numbers in bytes: read and written in either byte order, and block ids compared.
+#![tactic(auto)]
+
 mod id;
 mod read;
 mod write;
