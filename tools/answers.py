@@ -91,6 +91,11 @@ class Function:
             for var, label in known:
                 self.typed[canon(label)] = var
         self.loops = {canon(o): (n, vs, ch) for ((o, n), vs), ch in zip(names["loops"], names["changed"])}
+        # what an arm of a match is told: the old label and its path, the arm and its field
+        self.arms = {}
+        for it in names["arms"]:
+            for field, old, path in it[2] if it else []:
+                self.arms.setdefault(canon(old), []).append((path, it[0], field))
         self.variables = {v for _, vs, _ in self.loops.values() for v in vs}
         self.notes = []
 
@@ -109,10 +114,21 @@ class Function:
         def given(m):
             return ".type_inv." + self.typed[canon(m.group(1))] if canon(m.group(1)) in self.typed else m.group(0)
 
-        text = re.sub(r"\.before\b", "", text)
+        text = re.sub(r"\.before(?![\w'-])", "", text).replace(".type-inv", ".type_inv")
         text = re.sub(r"\.((?:shared[-_])?slice[-_]known[-\w]*)\.given", given, text)
+        text = re.sub(r"\.([A-Za-z_][\w'-]*)((?:\.[\w'-]+)*)", self.arm, text)
         text = re.sub(r"(\.(?:args|ranges|new|initial|fn|type_inv))?\.([A-Za-z_][\w'-]*)", self.step, text)
         return re.sub(r"λ c κs\.", "λ c.", text)
+
+    def arm(self, m):
+        label, path = m.group(1), [p for p in m.group(2).split(".") if p]
+        best = None
+        for want, arm, field in self.arms.get(canon(label), []):
+            if want and path[: len(want)] == want and not field.endswith("-own") and (best is None or len(want) > best[0]):
+                best = (len(want), arm, field)
+        if best:
+            return ".".join(["", best[1], best[2], *path[best[0]:]])
+        return m.group(0)
 
     def short(self, text):
         """Other names of c itself are written as c."""

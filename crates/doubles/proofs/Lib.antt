@@ -9,7 +9,7 @@ pub mod Nan
 pub mod Widened
 pub mod WidenedCases
 pub mod Candidate
-pub mod Narrowed
+pub mod NarrowedPatterns
 pub mod Nearest
 pub mod Exact
 pub mod Monotone

@@ -12,7 +12,7 @@ use Rattle.definitions.specs.Ieee754.{widened, narrowed, narrows}
 use Rattle.definitions.specs.Channel.{Value, unsigned, signed, double, text, bytes, sample, stream, unknown_value, double_value, float_bits, is_floating}
 use Rattle.definitions.specs.WrittenValue.{Given, given_unsigned, given_signed, given_double, given_other, fitting, complement_of}
 use Rattle.definitions.proofs.Replies.{answered, not_answered}
-use Rattle.doubles.proofs.Narrowed.{narrowed_back, narrowed_lt, widened_narrows, ComesBack, comes_back}
+use Rattle.doubles.proofs.NarrowedPatterns.{narrowed_back, narrowed_lt, widened_narrows, ComesBack, comes_back}
 use Rattle.fields.specs.Form.{number_kind, number_value}
 use Rattle.fields.specs.declared.form.Number.{Number}
 use Rattle.fields.specs.declared.form.Number.TheVariants.{Unsigned, Signed, Float}

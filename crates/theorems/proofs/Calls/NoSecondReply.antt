@@ -16,7 +16,7 @@ use Rattle.blocks.specs.Meaning.{written_reply}
 use Rattle.text.specs.Meaning.{text_reply}
 use Rattle.fields.specs.Meaning.{valid_value_reply}
 use Rattle.records.specs.Meaning.{record_reply}
-use Rattle.doubles.proofs.Narrowed.{narrow_one}
+use Rattle.doubles.proofs.NarrowedPatterns.{narrow_one}
 use Rattle.data_types.proofs.Back.{type_one}
 use Rattle.blocks.proofs.Back.{written_one, header_one, list_one}
 use Rattle.channels.proofs.Back.{channel_one}

@@ -20,7 +20,7 @@ use Rattle.definitions.proofs.Shared.{Within, apart}
 use Rattle.words.proofs.Numbers.{Bytes}
 use Rattle.bit_fields.proofs.Bits.{field_below}
 use Rattle.bit_fields.proofs.StoredFields.{place_of, bit_there, there, length_stored, bytes_stored, reads_back, untouched, stored_same}
-use Rattle.doubles.proofs.Narrowed.{narrowed_lt, ComesBack}
+use Rattle.doubles.proofs.NarrowedPatterns.{narrowed_lt, ComesBack}
 use Rattle.fields.specs.Form.{order_meant, form_of, number_kind, content_kind, form_kind, number_value, content_value, form_value}
 use Rattle.fields.specs.Known.{FieldBounds}
 use Rattle.fields.specs.declared.form.Number as numbers

@@ -11,7 +11,7 @@ use Rattle.definitions.specs.Overlap.{share_a_bit}
 use Rattle.definitions.specs.WrittenValue.{value_written}
 use Rattle.definitions.proofs.Shared.{Within}
 use Rattle.words.proofs.Numbers.{Bytes}
-use Rattle.doubles.proofs.Narrowed.{ComesBack}
+use Rattle.doubles.proofs.NarrowedPatterns.{ComesBack}
 use Rattle.fields.specs.Meaning.{channel_meant, group_meant, value_reply}
 use Rattle.fields.specs.declared.channel.Channel.{Channel}
 use Rattle.fields.specs.declared.group.Group.{Group}

@@ -16,7 +16,7 @@ use Rattle.definitions.specs.WrittenValue.{given_unsigned, given_signed, given_d
 use Rattle.definitions.specs.Overlap.{share_a_bit}
 use Rattle.definitions.proofs.Shared.{Within}
 use Rattle.words.proofs.Numbers.{Bytes}
-use Rattle.doubles.proofs.Narrowed.{ComesBack}
+use Rattle.doubles.proofs.NarrowedPatterns.{ComesBack}
 use Rattle.encoder.specs.Meaning.{value_given}
 use Rattle.block_replies.specs.Replies.{Returned, returned, returned_by}
 use Rattle.replies.specs.Replies.{flag_c, done_c}

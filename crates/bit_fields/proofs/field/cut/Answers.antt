@@ -1,0 +1,8 @@
+-- A shift up and down again leaves the count low bits.
+use Prim.Native.Nat.{◌/◌, ◌^◌}
+use borrow.Author.Rules.{rules}
+use Rattle.words.proofs.Shifts.{keep}
+use Rattle.bit_fields.proofs.field.cut.Goals as goal
+
+pub returns : goal.returns
+returns c = keep (c.args.word / 2 ^ c.args.offset) c.args.count c.requires.2

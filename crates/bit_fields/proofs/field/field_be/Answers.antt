@@ -1,0 +1,11 @@
+-- Nine bytes have a way of their own.
+use mathlib.Core.Path.{ap, ◌∙◌}
+use Prim.Native.Nat.{ℕ}
+use borrow.Author.Rules.{rules}
+use Rattle.definitions.specs.Bytes.{bits}
+use Rattle.bit_fields.proofs.field.field_be.Goals as goal
+
+pub returns : goal.returns
+returns c =
+    let a = c.args in
+    c.cut.ensures ∙ ap (λ (x : ℕ). bits x a.offset a.count) c.be_bytes.ensures

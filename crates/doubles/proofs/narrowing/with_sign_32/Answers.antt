@@ -1,0 +1,15 @@
+-- `narrowing::with_sign_32` meets its contract.
+use borrow.Author.Rules.{rules}
+use mathlib.Core.Path.{sym, ap, ◌∙◌}
+use mathlib.Core.Bool.{Bool, cond}
+use Prim.Native.Nat.{◌+◌, ◌^◌}
+use native.Mathlib.Nat.{zero-add}
+use Rattle.doubles.proofs.narrowing.with_sign_32.Goals as goal
+
+pub returns-then-negative : goal.returns-then-negative
+returns-then-negative c = let p = c.args.pattern in ap (λ (s : Bool). cond s (2 ^ 31) 0 + p) (sym c.if-negative.true)
+
+pub returns-else-negative : goal.returns-else-negative
+returns-else-negative c =
+    let p = c.args.pattern in
+    sym (zero-add p) ∙ ap (λ (s : Bool). cond s (2 ^ 31) 0 + p) (sym c.if-negative.false)
