@@ -1,6 +1,5 @@
 -- A shift up and down again leaves the count low bits.
 use Prim.Native.Nat.{◌/◌, ◌^◌}
-use borrow.Author.Rules.{rules}
 use Rattle.words.proofs.Shifts.{keep}
 use Rattle.bit_fields.proofs.field.cut.Goals as goal
 

@@ -1,5 +1,4 @@
 -- The word that begins at the offset is put together of the word and the byte, and cut.
-use borrow.Author.Rules.{rules}
 use Rattle.words.proofs.Shifts.{cut_window}
 use Rattle.bit_fields.proofs.field.cut_nine.Goals as goal
 

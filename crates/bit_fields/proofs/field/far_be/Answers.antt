@@ -1,6 +1,5 @@
 -- A word, and the first byte above it.
 use mathlib.Core.Path.{refl}
-use borrow.Author.Rules.{rules}
 use Rattle.definitions.specs.Bytes.{big}
 use Rattle.bit_fields.proofs.Ways.{far}
 use Rattle.bit_fields.proofs.field.far_be.Goals as goal

@@ -1,6 +1,5 @@
 -- A word, and the last byte above it.
 use mathlib.Core.Path.{refl}
-use borrow.Author.Rules.{rules}
 use Rattle.definitions.specs.Bytes.{little}
 use Rattle.bit_fields.proofs.Ways.{far}
 use Rattle.bit_fields.proofs.field.far_le.Goals as goal

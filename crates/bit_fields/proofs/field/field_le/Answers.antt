@@ -1,7 +1,6 @@
 -- Nine bytes have a way of their own.
 use mathlib.Core.Path.{ap, ◌∙◌}
 use Prim.Native.Nat.{ℕ}
-use borrow.Author.Rules.{rules}
 use Rattle.definitions.specs.Bytes.{bits}
 use Rattle.bit_fields.proofs.field.field_le.Goals as goal
 

@@ -1,5 +1,4 @@
 -- The bytes after the field stand below it in the swapped word, and those before it above.
-use borrow.Author.Rules.{rules}
 use mathlib.Core.Path.{ap, ◌∙◌}
 use Prim.Native.Nat.{ℕ}
 use Rattle.definitions.specs.Bytes.{big, bits}

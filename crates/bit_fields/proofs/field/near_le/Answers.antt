@@ -1,5 +1,4 @@
 -- The bytes before the field stand below it in the word, and those after it above.
-use borrow.Author.Rules.{rules}
 use mathlib.Core.Path.{ap, sym, ◌∙◌}
 use native.Mathlib.Nat.{mod-eq_of_lt}
 use Prim.Native.Nat.{ℕ}

@@ -2,7 +2,6 @@
 use mathlib.Core.Path.{refl, sym, ◌∙◌}
 use Rattle.definitions.specs.Bytes.{little}
 use Rattle.bit_fields.proofs.WaysBack.{far_bytes, far_le}
-use borrow.Author.Rules.{rules}
 use Rattle.bit_fields.proofs.replace.put_far_le.Goals as goal
 
 pub returns : goal.returns

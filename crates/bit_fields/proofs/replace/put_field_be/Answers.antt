@@ -2,7 +2,6 @@
 use native.Mathlib.Omega.{arith}
 use Rattle.definitions.specs.Bytes.{big}
 use Rattle.bit_fields.proofs.WaysBack.{near, near_below}
-use borrow.Author.Rules.{rules}
 use Rattle.bit_fields.proofs.replace.put_field_be.Goals as goal
 
 pub put_few_be-requires : goal.put_few_be-requires
@@ -11,7 +10,7 @@ put_few_be-requires c =
       omega arith,
       omega arith,
       omega arith,
-      near_below big a.s.now a.at a.offset a.count a.x (λ i. (c.type_inv.s i).fits) c.requires.3 c.requires.4 c.be_bytes.ensures
+      near_below big a.s.now a.at a.offset a.count a.x (λ i. (c.slice_known-1.given i).fits) c.requires.3 c.requires.4 c.be_bytes.ensures
           c.with_bits-word.ensures,
     )
 

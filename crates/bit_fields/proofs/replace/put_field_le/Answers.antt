@@ -1,7 +1,6 @@
 -- Nine bytes have a way of their own.
 use Rattle.definitions.specs.Bytes.{little}
 use Rattle.bit_fields.proofs.WaysBack.{near}
-use borrow.Author.Rules.{rules}
 use Rattle.bit_fields.proofs.replace.put_field_le.Goals as goal
 
 pub returns : goal.returns

@@ -1,5 +1,4 @@
 -- The field is there to be taken off, and the word with x in it fits.
-use borrow.Author.Rules.{rules}
 use Rattle.bit_fields.proofs.Replaced.{machine}
 use Rattle.bit_fields.proofs.replace.with_bits.Goals as goal
 

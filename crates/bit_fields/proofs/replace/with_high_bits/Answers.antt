@@ -1,7 +1,6 @@
 -- The field has at most seven bits above the word.
 use native.Mathlib.Omega.{arith}
 use Rattle.bit_fields.proofs.WaysBack.{high_fits, high_byte}
-use borrow.Author.Rules.{rules}
 use Rattle.bit_fields.proofs.replace.with_high_bits.Goals as goal
 
 pub with_bits-requires : goal.with_bits-requires

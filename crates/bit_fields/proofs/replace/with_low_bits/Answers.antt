@@ -5,7 +5,6 @@ use native.Mathlib.Omega.{arith}
 use Rattle.definitions.specs.Bytes.{with_bits}
 use Rattle.bit_fields.proofs.Bits.{field_below}
 use Rattle.bit_fields.proofs.WaysBack.{low_cut}
-use borrow.Author.Rules.{rules}
 use Rattle.bit_fields.proofs.replace.with_low_bits.Goals as goal
 
 pub with_bits-requires : goal.with_bits-requires

@@ -1,7 +1,6 @@
 -- Below 2^63 the pattern is the number.
 use mir.Syntax.{w64}
 use mir.ValLaws.{to_z_pos}
-use borrow.Author.Rules.{rules}
 use Rattle.bit_fields.proofs.signed.positive.Goals as goal
 
 pub returns : goal.returns

@@ -1,5 +1,5 @@
 -- The bits go to the top of a word and down again.
-use mathlib.Core.Path.{◌≡◌, ap, ◌∙◌}
+use mathlib.Core.Path.{ap, ◌∙◌}
 use Prim.Native.Nat.{ℕ, ◌-◌, ◌^◌}
 use lib.IntN.{ℤ}
 use lib.Signed.{shr_z, mag_shr}
@@ -7,7 +7,6 @@ use mir.Syntax.{w64}
 use mir.Val.{to_z, of_z, SFits}
 use mir.ValLaws.{sfits_le}
 use mir.Facts.{to_z-of_z}
-use borrow.Author.Rules.{rules}
 use Rattle.bit_fields.proofs.Signs.{from_the_top}
 use Rattle.bit_fields.proofs.signed.signed_of.Goals as goal
 

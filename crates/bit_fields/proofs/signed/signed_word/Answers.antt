@@ -2,7 +2,6 @@
 use mathlib.Core.Path.{◌∙◌}
 use mir.Syntax.{w64}
 use mir.Facts.{to_z-of_z}
-use borrow.Author.Rules.{rules}
 use Rattle.bit_fields.proofs.Signs.{not_negative, negative}
 use Rattle.bit_fields.proofs.signed.signed_word.Goals as goal
 
