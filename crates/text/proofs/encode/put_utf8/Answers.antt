@@ -1,4 +1,3 @@
-use borrow.Author.Rules.{rules}
 use native.Mathlib.Omega.{arith}
 use Rattle.text.proofs.Widths.{utf8_1, width_1, width_2, width_3, width_4}
 use Rattle.text.proofs.encode.put_utf8.Goals as goal

@@ -1,9 +1,5 @@
-use borrow.Author.Rules.{rules}
 use native.Mathlib.Omega.{arith}
-use Prim.Native.Nat.{◌-◌}
-use lib.ListN.{length}
-use Rattle.definitions.specs.Unicode.{latin1}
-use Rattle.text.proofs.Walk.{Wrote, wrote_start, wrote_room, wrote_end}
+use Rattle.text.proofs.Walk.{wrote_start, wrote_room, wrote_end}
 use Rattle.text.proofs.Bytewise.{byte_turn, byte_wrote}
 use Rattle.text.proofs.latin1.put_latin1.Goals as goal
 
@@ -18,9 +14,6 @@ put_utf8-end-requires c =
 pub loop-at-preserved : goal.loop-at-preserved
 loop-at-preserved c =
     byte_wrote _ _ _ _ _ _ _ (λ i. omega (arith, c.type_inv.text i)) c.loop-at.invariant c.loop-at-test.true c.put_utf8-end.ensures.0 c.put_utf8-end.ensures.1
-
-pub shape_of-out : goal.shape_of-out
-shape_of-out c = c.loop-at.invariant.long
 
 pub returns : goal.returns
 returns c = wrote_end _ _ _ _ _ _ c.loop-at.invariant c.loop-at-test.false

@@ -1,10 +1,7 @@
-use borrow.Author.Rules.{rules}
-use native.Mathlib.Omega.{arith}
 use Prim.Native.Nat.{◌-◌}
 use lib.ListN.{length}
 use Rattle.definitions.specs.Unicode.{latin1}
-use Rattle.text.proofs.Walk.{Wrote, wrote_start, wrote_room, wrote_end}
-use Rattle.text.proofs.Bytewise.{byte_turn, byte_wrote}
+use Rattle.text.proofs.Walk.{Wrote}
 use Rattle.text.proofs.latin1.put_latin1.Given as goal
 
 abbrev pub invariant-loop-at : goal.invariant-loop-at

@@ -1,4 +1,3 @@
-use borrow.Author.Rules.{rules}
 use native.Mathlib.Omega.{arith}
 use Rattle.text.proofs.Result.{ascii_written, latin1_fits, latin1_small}
 use Rattle.text.proofs.latin1.write_latin1.Goals as goal

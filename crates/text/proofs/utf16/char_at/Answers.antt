@@ -1,4 +1,3 @@
-use borrow.Author.Rules.{rules}
 use native.Mathlib.Omega.{arith}
 use Rattle.encodings.specs.Meaning.{order_meant}
 use Rattle.text.proofs.FirstChar.{read_short, read_pair}

@@ -1,11 +1,8 @@
-use borrow.Author.Rules.{rules}
-use native.Mathlib.Omega.{arith}
 use Prim.Native.Nat.{◌-◌}
 use lib.ListN.{length}
 use Rattle.definitions.specs.Unicode.{utf16}
 use Rattle.encodings.specs.Meaning.{order_meant}
-use Rattle.text.proofs.Walk.{Measured, measured_start, measured_turn, measured_sound, measured_damage}
-use Rattle.text.proofs.Units.{unit_turn, low_turn, low_measured, unit_damage, half_left}
+use Rattle.text.proofs.Walk.{Measured}
 use Rattle.text.proofs.utf16.measure.Given as goal
 
 abbrev pub invariant-loop-at : goal.invariant-loop-at

@@ -1,10 +1,5 @@
-use borrow.Author.Rules.{rules}
 use native.Mathlib.Omega.{arith}
-use Prim.Native.Nat.{◌-◌}
-use lib.ListN.{length}
-use Rattle.definitions.specs.Unicode.{utf16}
-use Rattle.encodings.specs.Meaning.{order_meant}
-use Rattle.text.proofs.Walk.{Wrote, wrote_start, wrote_room, wrote_turn, wrote_damage}
+use Rattle.text.proofs.Walk.{wrote_start, wrote_room, wrote_turn, wrote_damage}
 use Rattle.text.proofs.Units.{unit_turn, low_turn, low_wrote, unit_damage, units_end}
 use Rattle.text.proofs.utf16.put_utf16.Goals as goal
 
@@ -41,9 +36,6 @@ loop-at-preserved-in-Scalar c =
 pub loop-at-preserved : goal.loop-at-preserved
 loop-at-preserved c =
     wrote_damage _ _ _ _ _ _ c.loop-at.invariant (omega arith) (unit_damage _ _ _ _ c.loop-at-test.true c.in-Damage.is c.char_at-read.ensures)
-
-pub shape_of-out : goal.shape_of-out
-shape_of-out c = c.loop-at.invariant.long
 
 pub returns : goal.returns
 returns c = units_end _ _ _ _ _ _ c.loop-at.invariant c.loop-at-test.false

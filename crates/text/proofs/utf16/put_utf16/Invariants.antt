@@ -1,11 +1,8 @@
-use borrow.Author.Rules.{rules}
-use native.Mathlib.Omega.{arith}
 use Prim.Native.Nat.{◌-◌}
 use lib.ListN.{length}
 use Rattle.definitions.specs.Unicode.{utf16}
 use Rattle.encodings.specs.Meaning.{order_meant}
-use Rattle.text.proofs.Walk.{Wrote, wrote_start, wrote_room, wrote_turn, wrote_damage}
-use Rattle.text.proofs.Units.{unit_turn, low_turn, low_wrote, unit_damage, units_end}
+use Rattle.text.proofs.Walk.{Wrote}
 use Rattle.text.proofs.utf16.put_utf16.Given as goal
 
 abbrev pub invariant-loop-at : goal.invariant-loop-at

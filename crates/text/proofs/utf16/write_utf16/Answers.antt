@@ -1,4 +1,3 @@
-use borrow.Author.Rules.{rules}
 use native.Mathlib.Omega.{arith}
 use Rattle.text.proofs.Result.{found_room, out_damaged, out_fits, out_small}
 use mathlib.Core.Path.{sym, ◌∙◌}

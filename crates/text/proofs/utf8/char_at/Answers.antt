@@ -1,4 +1,3 @@
-use borrow.Author.Rules.{rules}
 use Rattle.text.proofs.FirstChar.{read_utf8}
 use Rattle.text.proofs.utf8.char_at.Goals as goal
 

@@ -1,9 +1,5 @@
-use borrow.Author.Rules.{rules}
 use native.Mathlib.Omega.{arith}
-use Prim.Native.Nat.{◌-◌}
-use lib.ListN.{length}
-use Rattle.definitions.specs.Unicode.{utf8}
-use Rattle.text.proofs.Walk.{turn, damage_here, Checked, checked_start, checked_turn, checked_sound, checked_damage}
+use Rattle.text.proofs.Walk.{turn, damage_here, checked_start, checked_turn, checked_sound, checked_damage}
 use Rattle.text.proofs.Bytewise.{ascii_checked}
 use Rattle.text.proofs.utf8.is_sound.Goals as goal
 

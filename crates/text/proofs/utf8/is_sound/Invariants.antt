@@ -1,10 +1,7 @@
-use borrow.Author.Rules.{rules}
-use native.Mathlib.Omega.{arith}
 use Prim.Native.Nat.{◌-◌}
 use lib.ListN.{length}
 use Rattle.definitions.specs.Unicode.{utf8}
-use Rattle.text.proofs.Walk.{turn, damage_here, Checked, checked_start, checked_turn, checked_sound, checked_damage}
-use Rattle.text.proofs.Bytewise.{ascii_checked}
+use Rattle.text.proofs.Walk.{Checked}
 use Rattle.text.proofs.utf8.is_sound.Given as goal
 
 abbrev pub invariant-loop-at : goal.invariant-loop-at

@@ -1,4 +1,3 @@
-use borrow.Author.Rules.{rules}
 use mathlib.Core.Path.{sym, ◌∙◌}
 use Rattle.text.proofs.Result.{utf8_written, broken_written}
 use Rattle.text.proofs.utf8.write_utf8.Goals as goal
