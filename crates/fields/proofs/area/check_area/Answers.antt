@@ -1,6 +1,4 @@
 -- The length, then the bit.
-use borrow.Author.Rules.{rules}
-use borrow.Author.Tests.{not-true, not-false}
 use Rattle.fields.proofs.InArea.{other_length, bit_outside, inside}
 use Rattle.fields.proofs.area.check_area.Goals as goal
 

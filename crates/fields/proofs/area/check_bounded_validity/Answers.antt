@@ -1,5 +1,4 @@
 -- The area's refusal is handed on.
-use borrow.Author.Rules.{rules}
 use Rattle.fields.proofs.InArea.{not_told, told_inside}
 use Rattle.fields.proofs.area.check_bounded_validity.Goals as goal
 

@@ -1,5 +1,4 @@
 -- The flags first, then the position.
-use borrow.Author.Rules.{rules}
 use mathlib.Core.Path.{◌∙◌}
 use Prim.Native.Nat.{◌*◌}
 use Rattle.fields.specs.Meaning.{channel_meant}

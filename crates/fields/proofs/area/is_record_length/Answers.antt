@@ -1,5 +1,4 @@
 -- By what is left behind the id.
-use borrow.Author.Rules.{rules}
 use native.Mathlib.Omega.{arith}
 use Rattle.fields.specs.Meaning.{group_meant}
 use Rattle.fields.proofs.InArea.{too_short, behind_id_law}

@@ -1,5 +1,4 @@
 -- Each content by itself.
-use borrow.Author.Rules.{rules}
 use Rattle.fields.proofs.content.content_at.Goals as goal
 
 pub returns-in-Text : goal.returns-in-Text

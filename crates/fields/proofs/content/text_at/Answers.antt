@@ -1,5 +1,4 @@
 -- The part of the slice is the span, and the text ends where it stops.
-use borrow.Author.Rules.{rules}
 use Rattle.fields.proofs.Values.{text_in}
 use Rattle.fields.proofs.content.text_at.Goals as goal
 

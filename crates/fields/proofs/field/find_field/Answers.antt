@@ -1,5 +1,4 @@
 -- By its form.
-use borrow.Author.Rules.{rules}
 use Rattle.fields.proofs.Fields.{number_placed}
 use Rattle.fields.proofs.field.find_field.Goals as goal
 

@@ -1,5 +1,4 @@
 -- Only a float has such widths.
-use borrow.Author.Rules.{rules}
 use mathlib.Core.Path.{ap}
 use mathlib.Core.Bool.{not}
 use Rattle.fields.proofs.field.is_no_float_width.Goals as goal

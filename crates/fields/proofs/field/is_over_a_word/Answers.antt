@@ -1,5 +1,4 @@
 -- Only an integer has to fit a word.
-use borrow.Author.Rules.{rules}
 use Rattle.fields.proofs.field.is_over_a_word.Goals as goal
 
 pub returns-in-Unsigned : goal.returns-in-Unsigned

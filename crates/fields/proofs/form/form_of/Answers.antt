@@ -1,5 +1,4 @@
 -- Each type has its form.
-use borrow.Author.Rules.{rules}
 use mathlib.Core.Path.{◌≡◌, sym, ap}
 use Rattle.data_types.specs.Meaning.{type_meant}
 use Rattle.data_types.specs.declared.data_type.DataType.{DataType}

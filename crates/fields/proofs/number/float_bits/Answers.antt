@@ -1,5 +1,4 @@
 -- Only a field of 32 bits is widened.
-use borrow.Author.Rules.{rules}
 use Rattle.fields.proofs.Floats.{wide_float, narrow_float}
 use Rattle.fields.proofs.number.float_bits.Goals as goal
 

@@ -1,5 +1,4 @@
 -- Either order has its reader.
-use borrow.Author.Rules.{rules}
 use Rattle.fields.proofs.number.number_at.Goals as goal
 
 pub returns-then-big_endian : goal.returns-then-big_endian

@@ -1,5 +1,4 @@
 -- A payload is taken whole, and in a record whole bytes are.
-use borrow.Author.Rules.{rules}
 use Rattle.fields.proofs.Forms.{whole_payload}
 use Rattle.fields.proofs.span.content_span.Goals as goal
 

@@ -1,5 +1,4 @@
 -- What lies past the end reads 0.
-use borrow.Author.Rules.{rules}
 use native.Mathlib.Omega.{arith}
 use Prim.Native.Nat.{◌+◌}
 use Rattle.fields.proofs.Invalidation.{past_start, past_data, past_place}

@@ -1,5 +1,4 @@
 -- The flags first, then the bit.
-use borrow.Author.Rules.{rules}
 use Rattle.fields.proofs.Invalidation.{all_invalid, all_valid, by_bit}
 use Rattle.fields.proofs.validity.check_value_validity.Goals as goal
 
