@@ -135,6 +135,8 @@ class Function:
     def step(self, m):
         kept, old = m.group(1) or "", m.group(2)
         spelt = old.replace("-", "_")
+        if spelt.endswith("_law"):
+            old = spelt = spelt[:-4]
         if kept or old in self.variables:
             return f"{kept}.{spelt if spelt in RUST else old}"
         return "." + self.labels.get(canon(old), spelt if spelt in RUST else old)
@@ -145,6 +147,7 @@ class Function:
             return ".type_inv." + self.typed[canon(m.group(1))] if canon(m.group(1)) in self.typed else m.group(0)
 
         text = re.sub(r"\.before(?![\w'-])", "", text).replace(".type-inv", ".type_inv")
+        text = re.sub(r"not-(?:true|false) _ (?=\(*c\.[\w.'-]*if)", "", text)
         text = re.sub(r"\.((?:shared[-_])?slice[-_]known[-\w]*)\.given", given, text)
         text = re.sub(r"\.([A-Za-z_][\w'-]*)((?:\.[\w'-]+)*)", self.arm, text)
         text = re.sub(r"(\.(?:args|ranges|new|initial|fn|type_inv))?\.([A-Za-z_][\w'-]*)", self.step, text)
@@ -204,6 +207,13 @@ class Function:
         return f"abbrev pub {made} : goal.{made}\n{before}{made} l ={rest}"
 
 
+def inlined(text, helper, body):
+    word = r"(?<![\w.'-])" + re.escape(helper) + r" [a-z]+(?:\.[\w.'-]*)?(?![\w'-])"
+    put = " ".join(l.strip() for l in body.split("\n"))
+    text = re.sub(r"\(" + word + r"\)", lambda m: "(" + put + ")", text)
+    return re.sub(word, lambda m: "(" + put + ")", text)
+
+
 def imports(head, drop):
     keep = []
     for l in head:
@@ -222,7 +232,7 @@ def convert(crate, key, names, path, old):
     uses = [l for l in imports(head, (".Tie as tie", ".Statement.{statement}")) if l.startswith("use ")]
     inv, ans = [], []
     spec = next((ls for n, ls in parts if n.endswith("-spec") or n.endswith("_spec")), None)
-    done = set()
+    done, helpers = set(), []
     fn.place(spec)
     for name, lines in parts:
         if name.endswith("-spec") or name.endswith("_spec"):
@@ -239,6 +249,11 @@ def convert(crate, key, names, path, old):
                 new = "TODO-" + said
             done.add(new)
             ans.append("\n".join(notes + [f"pub {new} : goal.{new}"] + fn.body(name, new, rest)))
+        elif re.match(r"\((\w+) : tie\.[^)]*\)", typ):
+            # a helper over a state of the walk: its term goes where it is used
+            body = "\n".join(rest)
+            m = re.match(r"(?s)" + re.escape(name) + r" (\w+) =(.*)$", body)
+            helpers.append((name, fn.short(fn.term(m.group(2).replace(m.group(1) + ".", "c.")))) if m else (name, "TODO"))
         else:
             ans.append(fn.term("\n".join(l for l in lines)).rstrip())
     # what stands inline in the walk
@@ -250,6 +265,9 @@ def convert(crate, key, names, path, old):
                 ans.append(f"pub {n} : goal.{n}\n{n} c = {fn.term(b.group(2))}")
     elif args:
         fn.notes.append(f"{len(args)} parts of the walk, {len(fn.order)} goals: " + " | ".join(a for a in args if "search rules" not in a))
+    for helper, body in reversed(helpers):
+        ans = [inlined(a, helper, body) for a in ans]
+        helpers = [(n, inlined(b, helper, body)) for n, b in helpers]
     folder = os.path.dirname(path)
     module = f"Rattle.{crate}.proofs.{stem}"
     if inv:
