@@ -252,8 +252,9 @@ def convert(crate, key, names, path, old):
         elif re.match(r"\((\w+) : tie\.[^)]*\)", typ):
             # a helper over a state of the walk: its term goes where it is used
             body = "\n".join(rest)
-            m = re.match(r"(?s)" + re.escape(name) + r" (\w+) =(.*)$", body)
-            helpers.append((name, fn.short(fn.term(m.group(2).replace(m.group(1) + ".", "c.")))) if m else (name, "TODO"))
+            m = re.match(r"(?s)" + re.escape(name) + r" (\w+)((?: \w+)*) =(.*)$", body)
+            term = fn.short(fn.term(m.group(3).replace(m.group(1) + ".", "c."))) if m else "TODO"
+            helpers.append((name, f"λ{m.group(2)}. {term}" if m and m.group(2) else term))
         else:
             ans.append(fn.term("\n".join(l for l in lines)).rstrip())
     # what stands inline in the walk
