@@ -1,12 +1,10 @@
 use mathlib.Core.Path.{ap}
 use Rattle.definitions.specs.DataType.{DataType}
-use borrow.Author.Rules.{rules}
-use Rattle.block_replies.proofs.channel.channel_of.Statement.{statement}
-use Rattle.block_replies.proofs.channel.channel_of.Tie as tie
+use Rattle.block_replies.proofs.channel.channel_of.Goals as goal
 
-returns : tie.Need-returns
+pub returns : goal.returns
 returns c =
-    let g = c.before.args.given in
+    let g = c.args.given in
     ap
     (λ (t : DataType).
     record {
@@ -19,7 +17,4 @@ returns c =
       invalidation_bit = g.pos_invalidation_bit;
       data_link = g.data_addr;
     })
-    c.from-u8.ensures
-
-pub channel-of-spec : {M : Type 1} → statement M
-channel-of-spec = tie.close (tie.spec (λ c κs. search rules) returns)
+    c.from_u8-data_type.ensures

@@ -1,15 +1,13 @@
 use mathlib.Core.Path.{ap, ◌∙◌}
 use Rattle.block_replies.specs.Channels.{description_c}
-use borrow.Author.Rules.{rules}
-use Rattle.block_replies.proofs.channel_block.block_told.Statement.{statement}
-use Rattle.block_replies.proofs.channel_block.block_told.Tie as tie
+use Rattle.block_replies.proofs.channel_block.block_told.Goals as goal
 
-returns : tie.Need-returns
+pub returns : goal.returns
 returns c =
-    let b = c.before.before.before.args.b in
+    let b = c.args.b in
     λ i.
     record {
-      header = c.before.before.header_told.ensures i;
+      header = c.header_told.ensures i;
       next_ch_addr = b.next_ch_addr;
       component_addr = b.component_addr;
       name_addr = b.name_addr;
@@ -19,7 +17,7 @@ returns c =
       comment_addr = b.comment_addr;
       more_links_at = b.more_links_at;
       more_link_count = b.more_links;
-      channel = (c.description-told.ensures ∙ ap description_c c.before.channel.ensures) i;
+      channel = (c.description_told.ensures ∙ ap description_c c.channel.ensures) i;
       sync_type = b.sync_type;
       precision = b.precision;
       reserved1 = b.reserved1;
@@ -31,7 +29,3 @@ returns c =
       lower_ext_limit = b.lower_ext_limit;
       upper_ext_limit = b.upper_ext_limit;
     }
-
-pub block-told-spec : {M : Type 1} → statement M
-block-told-spec =
-    tie.close (tie.spec (λ c κs. search rules) (λ c κs. search rules) (λ c κs. search rules) returns)

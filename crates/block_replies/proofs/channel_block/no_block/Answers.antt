@@ -1,12 +1,10 @@
-use borrow.Author.Rules.{rules}
-use Rattle.block_replies.proofs.channel_block.no_block.Statement.{statement}
-use Rattle.block_replies.proofs.channel_block.no_block.Tie as tie
+use Rattle.block_replies.proofs.channel_block.no_block.Goals as goal
 
-returns : tie.Need-returns
+pub returns : goal.returns
 returns c =
     λ i.
     record {
-      header = c.before.no_Header.ensures i;
+      header = c.no_header.ensures i;
       next_ch_addr = 0;
       component_addr = 0;
       name_addr = 0;
@@ -16,7 +14,7 @@ returns c =
       comment_addr = 0;
       more_links_at = 0;
       more_link_count = 0;
-      channel = c.no-description.ensures i;
+      channel = c.no_description.ensures i;
       sync_type = 0;
       precision = 0;
       reserved1 = 0;
@@ -28,6 +26,3 @@ returns c =
       lower_ext_limit = 0;
       upper_ext_limit = 0;
     }
-
-pub no-block-spec : {M : Type 1} → statement M
-no-block-spec = tie.close (tie.spec (λ c κs. search rules) (λ c κs. search rules) returns)
