@@ -13,6 +13,19 @@ import sys
 WORD = r"[^\s(){}\[\],;.\"|`]+"
 
 
+def identifiers():
+    """The names with an underscore in the sources: a walk of the older form spells them with hyphens."""
+    names = set()
+    for folder, _, files in os.walk("crates"):
+        for f in files:
+            if f.endswith(".rt"):
+                names |= set(re.findall(r"[a-z]\w*_\w*", open(os.path.join(folder, f), encoding="utf-8").read()))
+    return names
+
+
+RUST = identifiers()
+
+
 def canon(s):
     s = s.replace("_", "-").lower()
     return re.sub(r"-(?=\d+$)", "", s)
@@ -71,6 +84,15 @@ def balanced(s):
     return out
 
 
+def parts_of(spec):
+    """What the walk gives for each goal, in the order of the goals."""
+    if not spec:
+        return []
+    flat = " ".join(l.strip() for l in spec[next(i for i, l in enumerate(spec) if " =" in l):])
+    m = re.search(r"\(tie\.spec\b(.*)\)\s*$", flat)
+    return [a for a in balanced(m.group(1)) if not re.match(r"(invariant|decreases)", a)] if m else []
+
+
 class Function:
     def __init__(self, names, path):
         self.needs = {}
@@ -90,6 +112,7 @@ class Function:
         for place, known in zip(names["places"], names["typed"]):
             for var, label in known:
                 self.typed[canon(label)] = var
+        self.at = {}
         self.loops = {canon(o): (n, vs, ch) for ((o, n), vs), ch in zip(names["loops"], names["changed"])}
         # what an arm of a match is told: the old label and its path, the arm and its field
         self.arms = {}
@@ -99,15 +122,24 @@ class Function:
         self.variables = {v for _, vs, _ in self.loops.values() for v in vs}
         self.notes = []
 
-    def need(self, typ):
+    def place(self, spec):
+        """Where the walk has as many parts as there are goals, a part is the answer of the goal at its place."""
+        args = parts_of(spec)
+        if len(args) == len(self.order):
+            self.at = {a: n for a, n in zip(args, self.order) if not a.startswith("(")}
+
+    def need(self, typ, name):
         m = re.match(r"tie\.Need-(" + WORD + ")", typ)
-        return self.needs.get(canon(m.group(1))), m.group(1)
+        return self.at.get(name) or self.needs.get(canon(m.group(1))), m.group(1)
 
     def step(self, m):
         kept, old = m.group(1) or "", m.group(2)
+        spelt = old.replace("-", "_")
+        if spelt.endswith("_law"):
+            old = spelt = spelt[:-4]
         if kept or old in self.variables:
-            return m.group(0)
-        return "." + self.labels.get(canon(old), old)
+            return f"{kept}.{spelt if spelt in RUST else old}"
+        return "." + self.labels.get(canon(old), spelt if spelt in RUST else old)
 
     def term(self, text):
         # what a reference points to is legal
@@ -115,6 +147,7 @@ class Function:
             return ".type_inv." + self.typed[canon(m.group(1))] if canon(m.group(1)) in self.typed else m.group(0)
 
         text = re.sub(r"\.before(?![\w'-])", "", text).replace(".type-inv", ".type_inv")
+        text = re.sub(r"not-(?:true|false) _ (?=\(*c\.[\w.'-]*if)", "", text)
         text = re.sub(r"\.((?:shared[-_])?slice[-_]known[-\w]*)\.given", given, text)
         text = re.sub(r"\.([A-Za-z_][\w'-]*)((?:\.[\w'-]+)*)", self.arm, text)
         text = re.sub(r"(\.(?:args|ranges|new|initial|fn|type_inv))?\.([A-Za-z_][\w'-]*)", self.step, text)
@@ -174,6 +207,13 @@ class Function:
         return f"abbrev pub {made} : goal.{made}\n{before}{made} l ={rest}"
 
 
+def inlined(text, helper, body):
+    word = r"(?<![\w.'-])" + re.escape(helper) + r" [a-z]+(?:\.[\w.'-]*)?(?![\w'-])"
+    put = " ".join(l.strip() for l in body.split("\n"))
+    text = re.sub(r"\(" + word + r"\)", lambda m: "(" + put + ")", text)
+    return re.sub(word, lambda m: "(" + put + ")", text)
+
+
 def imports(head, drop):
     keep = []
     for l in head:
@@ -192,7 +232,8 @@ def convert(crate, key, names, path, old):
     uses = [l for l in imports(head, (".Tie as tie", ".Statement.{statement}")) if l.startswith("use ")]
     inv, ans = [], []
     spec = next((ls for n, ls in parts if n.endswith("-spec") or n.endswith("_spec")), None)
-    done = set()
+    done, helpers = set(), []
+    fn.place(spec)
     for name, lines in parts:
         if name.endswith("-spec") or name.endswith("_spec"):
             continue
@@ -203,28 +244,31 @@ def convert(crate, key, names, path, old):
             it = fn.invariant(re.match(r"tie\.(invariant|decreases)", typ).group(1), name, typ, rest)
             inv.append("\n".join(notes + [it]) if it else "\n".join("-- TODO " + l for l in lines))
         elif typ.startswith("tie.Need-"):
-            new, said = fn.need(typ)
+            new, said = fn.need(typ, name)
             if not new:
                 new = "TODO-" + said
             done.add(new)
             ans.append("\n".join(notes + [f"pub {new} : goal.{new}"] + fn.body(name, new, rest)))
+        elif re.match(r"\((\w+) : tie\.[^)]*\)", typ):
+            # a helper over a state of the walk: its term goes where it is used
+            body = "\n".join(rest)
+            m = re.match(r"(?s)" + re.escape(name) + r" (\w+)((?: \w+)*) =(.*)$", body)
+            term = fn.short(fn.term(m.group(3).replace(m.group(1) + ".", "c."))) if m else "TODO"
+            helpers.append((name, f"λ{m.group(2)}. {term}" if m and m.group(2) else term))
         else:
             ans.append(fn.term("\n".join(l for l in lines)).rstrip())
     # what stands inline in the walk
-    if spec:
-        flat = " ".join(l.strip() for l in spec[next(i for i, l in enumerate(spec) if " =" in l):])
-        m = re.search(r"\(tie\.spec\b(.*)\)\s*$", flat)
-        if m:
-            args = balanced(m.group(1))
-            args = [a for a in args if not re.match(r"(invariant|decreases)", a)]
-            if len(args) == len(fn.order):
-                for a, n in zip(args, fn.order):
-                    if n in done or not a.startswith("(λ") or re.match(r"\(λ [^.]*\. search rules\)$", a):
-                        continue
-                    b = re.match(r"\(λ ([^.]*)\. (.*)\)$", a)
-                    ans.append(f"pub {n} : goal.{n}\n{n} c = {fn.term(b.group(2))}")
-            else:
-                fn.notes.append(f"{len(args)} parts of the walk, {len(fn.order)} goals: " + " | ".join(a for a in args if "search rules" not in a))
+    args = parts_of(spec)
+    if len(args) == len(fn.order):
+        for a, n in zip(args, fn.order):
+            b = re.match(r"\(λ ([^.]*)\. (.*)\)$", a)
+            if n not in done and b and b.group(2) != "search rules":
+                ans.append(f"pub {n} : goal.{n}\n{n} c = {fn.term(b.group(2))}")
+    elif args:
+        fn.notes.append(f"{len(args)} parts of the walk, {len(fn.order)} goals: " + " | ".join(a for a in args if "search rules" not in a))
+    for helper, body in reversed(helpers):
+        ans = [inlined(a, helper, body) for a in ans]
+        helpers = [(n, inlined(b, helper, body)) for n, b in helpers]
     folder = os.path.dirname(path)
     module = f"Rattle.{crate}.proofs.{stem}"
     if inv:

@@ -11,16 +11,16 @@ use Rattle.definitions.specs.Ieee754.{double_of, double_of_sign}
 use Rattle.doubles.proofs.Whole.{of_positive, of_negative, read_back}
 use Rattle.doubles.proofs.SignBit.{Plain, round_opposite}
 
-pub is_nan : (x : Float) → is_nan x ≡ true → x ≡ nan
+pub is_nan_law : (x : Float) → is_nan x ≡ true → x ≡ nan
 unfolding is_nan
-is_nan nan e = refl
-is_nan (inf s) e = absurd (true≢false (sym e))
-is_nan (fin s m d) e = absurd (true≢false (sym e))
+is_nan_law nan e = refl
+is_nan_law (inf s) e = absurd (true≢false (sym e))
+is_nan_law (fin s m d) e = absurd (true≢false (sym e))
 
 pub nan_above : (f : Format) (b : ℕ) → ones f * hid f < b % top f → of_bits f b ≡ nan
 nan_above f b h =
     let t : T (nan_bits f b) = subst T (sym (nan_bits_above f b)) (lt→ltb (ones f * hid f) (b % top f) h) in
-    is_nan (of_bits f b) (sym (nan_bits_is f b) ∙ is_true (nan_bits f b) t)
+    is_nan_law (of_bits f b) (sym (nan_bits_is f b) ∙ is_true (nan_bits f b) t)
 
 pub no_nan_below : (f : Format) (b : ℕ) → b % top f ≤ ones f * hid f → T (not (nan_bits f b))
 no_nan_below f b h = subst (λ (x : Bool). T (not x)) (sym (nan_bits_above f b)) (le→nltb (ones f * hid f) (b % top f) h)

@@ -16,7 +16,7 @@ use lib.Ieee.Bits.{is_true, is_false, of_bits-to_bits, of_bits-fits, to_bits-lt}
 use Rattle.definitions.specs.Ieee754.{nan_pattern, widened}
 use Rattle.doubles.proofs.Pattern.{sign_bit}
 use Rattle.doubles.proofs.SignBit.{sign_bit_law, without_sign_bit, fields_opposite}
-use Rattle.doubles.proofs.Nan.{is_nan, nan_above, no_nan_below}
+use Rattle.doubles.proofs.Nan.{is_nan_law, nan_above, no_nan_below}
 
 -- ---- nothing is lost
 held : (b : ℕ) → T (fits binary64 (of_bits binary32 b))
@@ -30,7 +30,7 @@ unfolding to_bits
 nan_pattern_law = refl
 
 pub nan_widened : (b : ℕ) → is_nan (of_bits binary32 b) ≡ true → widened b ≡ nan_pattern
-nan_widened b h = ap (to_bits binary64) (is_nan (of_bits binary32 b) h) ∙ nan_pattern_law
+nan_widened b h = ap (to_bits binary64) (is_nan_law (of_bits binary32 b) h) ∙ nan_pattern_law
 
 -- ---- the sign
 fields_of_law : (b : ℕ) → of_bits binary32 b ≡ of_fields binary32 (leb (2 ^ 31) b) (b % 2 ^ 31 / 2 ^ 23) (b % 2 ^ 23)

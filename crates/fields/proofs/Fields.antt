@@ -160,6 +160,13 @@ pub record Asked (number : Number) (at n : ℕ) (s : List ℕ) (c : Channel) (a 
   pub end : e ≡ ltb (length s) (at + n)
   pub width : f ≡ is_floating (number_kind number) && not (eqb c.bit_count 32 || eqb c.bit_count 64)
 
+-- the five tests as they were made
+pub asked : (number : Number) (at n : ℕ) (s : List ℕ) (m : Channel) {word end width : Bool} → n ≡ bit_span m
+    → word ≡ is_integer (number_kind number) && ltb 64 m.bit_count → end ≡ ltb (length s) (at + n)
+    → width ≡ is_floating (number_kind number) && not (eqb m.bit_count 32 || eqb m.bit_count 64)
+    → Asked number at n s m (eqb m.bit_count 0) (ltb 7 m.bit_offset) word end width
+asked number at n s m es ew ee ef = record { span = es; bits = refl; offset = refl; word = ew; end = ee; width = ef }
+
 module _ {number : Number} {at n : ℕ} {s : List ℕ} {c : Channel} {a b d e f : Bool} (t : Asked number at n s c a b d e f) where
   abbrev k : Kind
   k = number_kind number

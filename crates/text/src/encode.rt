@@ -4,6 +4,7 @@ ghost use Rattle.std.proofs.lemmas.List.Edits.{sets};
 ghost use Rattle.definitions.specs.Unicode.{utf8_of};
 
 // how many bytes it takes
+#[tactic(auto, unfolding(definitions::specs::Unicode::utf8_of))]
 pub fn utf8_width(value: u32) -> usize
     ensures { result ≡ length (utf8_of value) }
 {

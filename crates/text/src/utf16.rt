@@ -12,6 +12,7 @@ use crate::damaged::write_damaged_utf16;
 use crate::encode::{put_utf8, utf8_width};
 use refusals::Refusal;
 
+#[tactic(auto, unfolding(definitions::specs::Unicode::utf16_char))]
 fn utf16_char(unit: u32, next: u32) -> Char
     ensures { char_meant result ≡ utf16_char unit next }
 {

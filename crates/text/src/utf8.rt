@@ -10,6 +10,7 @@ use crate::damaged::write_damaged_utf8;
 use crate::unchanged::write_unchanged;
 
 // 64 for a byte that continues nothing, so that no sum below wants a guard
+#[tactic(auto, unfolding(definitions::specs::Unicode::six_bits))]
 fn six_bits(byte: u32) -> u32
     ensures { (result ≡ six_bits byte) × (result ≤ 64) }
 {
@@ -22,6 +23,7 @@ fn six_bits(byte: u32) -> u32
     }
 }
 
+#[tactic(auto, unfolding(definitions::specs::Unicode::is_scalar))]
 fn is_scalar(value: u32) -> bool
     ensures { result ≡ is_scalar value }
 {
@@ -34,6 +36,7 @@ fn is_scalar(value: u32) -> bool
     }
 }
 
+#[tactic(auto, unfolding(definitions::specs::Unicode::utf8_two))]
 fn two_bytes(a: u32, b: u32) -> Char
     requires { (0xC0 ≤ a) × (a < 0xE0) }
     ensures { char_meant result ≡ utf8_two a b }
@@ -49,6 +52,7 @@ fn two_bytes(a: u32, b: u32) -> Char
     Char::Scalar { value, more: 1 }
 }
 
+#[tactic(auto, unfolding(definitions::specs::Unicode::utf8_three))]
 fn three_bytes(a: u32, b: u32, c: u32) -> Char
     requires { (0xE0 ≤ a) × (a < 0xF0) }
     ensures { char_meant result ≡ utf8_three a b c }
@@ -72,6 +76,7 @@ fn three_bytes(a: u32, b: u32, c: u32) -> Char
     }
 }
 
+#[tactic(auto, unfolding(definitions::specs::Unicode::utf8_four))]
 fn four_bytes(a: u32, b: u32, c: u32, d: u32) -> Char
     requires { (0xF0 ≤ a) × (a < 0xF8) }
     ensures { char_meant result ≡ utf8_four a b c d }
@@ -99,6 +104,7 @@ fn four_bytes(a: u32, b: u32, c: u32, d: u32) -> Char
     }
 }
 
+#[tactic(auto, unfolding(definitions::specs::Unicode::utf8_char))]
 fn utf8_char(a: u32, b: u32, c: u32, d: u32) -> Char
     ensures { char_meant result ≡ utf8_char a b c d }
 {

@@ -1,5 +1,4 @@
 -- `narrowing::narrow` meets its contract: the only pattern that can widen to the double's is tried.
-use borrow.Author.Rules.{rules}
 use mathlib.Core.Path.{sym, ap, ◌∙◌, subst}
 use Prim.Native.Nat.{ℕ}
 use lib.Bits.{and_mask, mask_lt}
@@ -17,7 +16,7 @@ narrow_magnitude-magnitude-requires c = mask_lt c.args.bits 63
 
 pub returns-then-widen-bits : goal.returns-then-widen-bits
 returns-then-widen-bits c =
-    single_way c.args.bits c.with_sign_32-single.result c.if-bits-eq-NAN.false c.with_sign_32-single.type-inv
+    single_way c.args.bits c.with_sign_32-single.result c.if-bits-eq-NAN.false c.with_sign_32-single.type_inv
     (sym c.widen.ensures ∙ c.if-widen-bits.true)
 
 pub returns : goal.returns

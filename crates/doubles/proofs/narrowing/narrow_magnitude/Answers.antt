@@ -1,5 +1,4 @@
 -- `narrowing::narrow_magnitude` meets its contract: laws of `Candidate`.
-use borrow.Author.Rules.{rules}
 use native.Mathlib.Omega.{arith}
 use Rattle.doubles.proofs.Candidate.{only_normal, only_infinity}
 use Rattle.doubles.proofs.narrowing.narrow_magnitude.Goals as goal

@@ -1,5 +1,4 @@
 -- `narrowing::narrow_subnormal` meets its contract: laws of `Candidate`.
-use borrow.Author.Rules.{rules}
 use native.Mathlib.Nat.{lt_of_lt_of_le}
 use native.Mathlib.Omega.{arith}
 use Rattle.doubles.proofs.Candidate.{only_zero, only_subnormal, few_units}

@@ -1,5 +1,4 @@
 -- `narrowing::with_sign_32` meets its contract.
-use borrow.Author.Rules.{rules}
 use mathlib.Core.Path.{sym, ap, ◌∙◌}
 use mathlib.Core.Bool.{Bool, cond}
 use Prim.Native.Nat.{◌+◌, ◌^◌}

@@ -1,5 +1,4 @@
 -- `round::double_of` meets its contract: `double_aligned`.
-use borrow.Author.Rules.{rules}
 use mathlib.Core.Path.{sym, ap, ◌∙◌}
 use Prim.Native.Nat.{ℕ}
 use native.Mathlib.Omega.{arith}

@@ -1,5 +1,4 @@
 -- `sign::double_of_sign` meets its contract: `integer_with_sign`.
-use borrow.Author.Rules.{rules}
 use native.Mathlib.Omega.{arith}
 use Rattle.doubles.proofs.SignBit.{integer_with_sign, sign_clear}
 use Rattle.doubles.proofs.sign.double_of_sign.Goals as goal

@@ -7,7 +7,6 @@ use lib.IntN.{ℤ, pos, negsuc, nat_abs}
 use lib.Signed.{lt_z}
 use mir.Syntax.{w64}
 use mir.ValLaws.{to_z-of_z}
-use borrow.Author.Rules.{rules}
 use borrow.Author.Tests.{le-ltb}
 use Rattle.definitions.specs.Ieee754.{double_of, double_of_sign}
 use Rattle.doubles.proofs.Whole.{of_positive, of_negative}

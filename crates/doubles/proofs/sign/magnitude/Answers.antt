@@ -8,7 +8,6 @@ use lib.Signed.{non_neg}
 use mir.Syntax.{w64}
 use mir.Val.{Fits}
 use mir.ValLaws.{to_z-of_z}
-use borrow.Author.Rules.{rules}
 use Rattle.doubles.proofs.Negative.{not_negative}
 use Rattle.doubles.proofs.sign.magnitude.Goals as goal
 

@@ -1,5 +1,4 @@
 -- `value::value_of` meets its contract: above an infinity's pattern stand the NaNs'.
-use borrow.Author.Rules.{rules}
 use mathlib.Core.Path.{sym, ◌∙◌}
 use lib.Bits.{and_mask}
 use lib.Ieee.{binary64}

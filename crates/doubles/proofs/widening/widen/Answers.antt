@@ -1,5 +1,4 @@
 -- `widening::widen` meets its contract: the sign and the pattern without it, or a NaN's pattern.
-use borrow.Author.Rules.{rules}
 use mathlib.Core.Path.{sym, ap, ◌∙◌}
 use native.Mathlib.Omega.{arith}
 use lib.Bits.{bit_and}

@@ -1,5 +1,4 @@
 -- `widening::widen_number` meets its contract: `normal_widened`.
-use borrow.Author.Rules.{rules}
 use native.Mathlib.Omega.{arith}
 use Rattle.doubles.proofs.WidenedCases.{normal_widened}
 use Rattle.doubles.proofs.widening.widen_number.Goals as goal

@@ -1,5 +1,4 @@
 -- `widening::widen_subnormal` meets its contract: a law of `WidenedCases` in each case.
-use borrow.Author.Rules.{rules}
 use mathlib.Core.Path.{sym, ap, ◌∙◌}
 use native.Mathlib.Omega.{arith}
 use Rattle.definitions.specs.Ieee754.{widened}

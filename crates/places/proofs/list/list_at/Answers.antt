@@ -1,0 +1,63 @@
+use mathlib.Core.Path.{◌≡◌, sym, ap, ◌∙◌}
+use mathlib.Core.List.{List}
+use Prim.Native.Nat.{ℕ}
+use native.Mathlib.Omega.{arith}
+use lib.ListN.{drop, length-drop}
+use Rattle.definitions.specs.Reply.{answer}
+use Rattle.definitions.specs.DataList.{list_of}
+use Rattle.blocks.specs.declared.data_list.DataListBlock.{DataListBlock}
+use Rattle.blocks.specs.declared.data_list.ListRead.{ListRead}
+use Rattle.blocks.specs.declared.data_list.ListRead.TheVariants.{List as AList}
+use Rattle.blocks.specs.Meaning.{list_meant, list_reply}
+use Rattle.places.proofs.Addresses.{header_inside}
+use Rattle.places.proofs.Lists.{list_nowhere, list_refused_law, list_disagrees, list_many, list_admitted, list_lies}
+use Rattle.places.proofs.list.list_at.Goals as goal
+
+pub returns-then-not-has_header : goal.returns-then-not-has_header
+returns-then-not-has_header c = list_nowhere _ _ _ (sym c.has_header.ensures ∙ c.if-not-has_header.true)
+
+pub bytes_from-requires : goal.bytes_from-requires
+bytes_from-requires c =
+    header_inside c.args.file.now c.args.address.0 (sym c.has_header.ensures ∙ c.if-not-has_header.false)
+
+-- a refused list is handed on
+pub returns-in_default : goal.returns-in_default
+returns-in_default c =
+    list_refused_law _ _ _ (sym c.has_header.ensures ∙ c.if-not-has_header.false) _ _
+    (sym (c.from_bytes-read.ensures ∙ ap list_of c.bytes_from.ensures) ∙ ap list_reply c.refusal.ensures)
+
+-- what was read stands at the address
+listed : (f : List ℕ) (a : ℕ) (s : List ℕ) (r : ListRead) (d : DataListBlock) → s ≡ drop a f → list_reply r ≡ list_of s → r ≡ AList d
+    → list_of (drop a f) ≡ answer (list_meant d)
+listed f a s r d from read is = sym (read ∙ ap list_of from) ∙ ap list_reply is
+
+-- it lies in the file, so no sum of its fields wraps
+pub agrees_with_itself-requires : goal.agrees_with_itself-requires
+agrees_with_itself-requires c =
+    let a = c.args in
+    omega (
+      arith,
+      (list_lies _ _ (listed a.file.now a.address.0 _ _ _ c.bytes_from.ensures c.from_bytes-read.ensures c.in-List.is)).rest,
+      length-drop a.address.0 a.file.now,
+    )
+
+pub returns-then-not-agrees_with_itself : goal.returns-then-not-agrees_with_itself
+returns-then-not-agrees_with_itself c =
+    let a = c.args in
+    list_disagrees _ _ _ (sym c.has_header.ensures ∙ c.if-not-has_header.false) _
+    (listed a.file.now a.address.0 _ _ _ c.bytes_from.ensures c.from_bytes-read.ensures c.in-List.is)
+    (sym c.agrees_with_itself.ensures ∙ c.if-not-agrees_with_itself.true)
+
+pub returns-then-sum_passes : goal.returns-then-sum_passes
+returns-then-sum_passes c =
+    let a = c.args in
+    list_many _ _ _ (sym c.has_header.ensures ∙ c.if-not-has_header.false) _
+    (listed a.file.now a.address.0 _ _ _ c.bytes_from.ensures c.from_bytes-read.ensures c.in-List.is)
+    (sym c.agrees_with_itself.ensures ∙ c.if-not-agrees_with_itself.false) (sym c.sum_passes.ensures ∙ c.if-sum_passes.true)
+
+pub returns : goal.returns
+returns c =
+    let a = c.args in
+    list_admitted _ _ _ (sym c.has_header.ensures ∙ c.if-not-has_header.false) _
+    (listed a.file.now a.address.0 _ _ _ c.bytes_from.ensures c.from_bytes-read.ensures c.in-List.is)
+    (sym c.agrees_with_itself.ensures ∙ c.if-not-agrees_with_itself.false) (sym c.sum_passes.ensures ∙ c.if-sum_passes.false)

@@ -1,0 +1,6 @@
+use borrow.Author.Rules.{rules}
+use Rattle.records.proofs.Records.{ends_is}
+use Rattle.records.proofs.record.ends_behind.Goals as goal
+
+pub returns : goal.returns
+returns c = ends_is _ _ _ c.requires
