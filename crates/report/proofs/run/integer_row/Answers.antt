@@ -23,17 +23,21 @@ record_begin-begin-requires c = (c.loop-i-test.true, c.requires.0.fits)
 
 pub is_valid_by-requires : goal.is_valid_by-requires
 is_valid_by-requires c =
+    let a = c.args in
     let within = c.requires.0.within in
-    (omega (arith, (let a = c.args in part_long a.records.now a.size a.n c.loop-i.i _ c.record_begin-begin.ensures.0 c.record_begin-begin.ensures.1), within.flag), within.flag_bit, c.requires.1)
+    (omega (arith, part_long a.records.now a.size a.n c.loop-i.i _ c.record_begin-begin.ensures.0 c.record_begin-begin.ensures.1, within.flag), within.flag_bit, c.requires.1)
 
 pub integer_at-word-requires : goal.integer_at-word-requires
 integer_at-word-requires c =
     let a = c.args in
-    (subst (λ (m : ℕ). Within m a.slot) (sym (let a = c.args in part_long a.records.now a.size a.n c.loop-i.i _ c.record_begin-begin.ensures.0 c.record_begin-begin.ensures.1)) c.requires.0.within, subst (λ (m : ℕ). ShiftTold m a.slot a.at a.shift) (sym (let a = c.args in part_long a.records.now a.size a.n c.loop-i.i _ c.record_begin-begin.ensures.0 c.record_begin-begin.ensures.1)) c.requires.0.place, c.requires.2, c.requires.3)
+    let long = part_long a.records.now a.size a.n c.loop-i.i _ c.record_begin-begin.ensures.0 c.record_begin-begin.ensures.1 in
+    (subst (λ (m : ℕ). Within m a.slot) (sym long) c.requires.0.within, subst (λ (m : ℕ). ShiftTold m a.slot a.at a.shift) (sym long) c.requires.0.place, c.requires.2, c.requires.3)
 
 pub with_integer-tally-requires : goal.with_integer-tally-requires
 with_integer-tally-requires c =
-    ((let l = c.loop-i in let a = c.args in row_few a.size a.slot a.before a.records.now a.first l.i l.tally l.invariant.1 a.n c.loop-i-test.true c.requires.0.few), c.loop-i.invariant.1.sane)
+    let a = c.args in
+    let l = c.loop-i in
+    (row_few a.size a.slot a.before a.records.now a.first l.i l.tally l.invariant.1 a.n c.loop-i-test.true c.requires.0.few, l.invariant.1.sane)
 
 -- the row ends where words do not tell
 pub returns-then-not-is_clear : goal.returns-then-not-is_clear
@@ -43,11 +47,15 @@ returns-then-not-is_clear c =
 
 pub with_clear-tally-requires : goal.with_clear-tally-requires
 with_clear-tally-requires c =
+    let a = c.args in
     let l = c.loop-i in
-    ((let l = c.loop-i in let a = c.args in row_few a.size a.slot a.before a.records.now a.first l.i l.tally l.invariant.1 a.n c.loop-i-test.true c.requires.0.few), l.invariant.1.sane, l.invariant.2, c.is_clear.ensures (c.if-not-is_clear.false))
+    (row_few a.size a.slot a.before a.records.now a.first l.i l.tally l.invariant.1 a.n c.loop-i-test.true c.requires.0.few, l.invariant.1.sane, l.invariant.2, c.is_clear.ensures c.if-not-is_clear.false)
 
 pub skipped-tally-requires : goal.skipped-tally-requires
-skipped-tally-requires c = (let l = c.loop-i in let a = c.args in row_few a.size a.slot a.before a.records.now a.first l.i l.tally l.invariant.1 a.n c.loop-i-test.true c.requires.0.few)
+skipped-tally-requires c =
+    let a = c.args in
+    let l = c.loop-i in
+    row_few a.size a.slot a.before a.records.now a.first l.i l.tally l.invariant.1 a.n c.loop-i-test.true c.requires.0.few
 
 pub overflow_add-i : goal.overflow_add-i
 overflow_add-i c =
