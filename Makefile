@@ -3,12 +3,12 @@
 # Nothing else is needed: the library allocates nothing and calls nothing outside itself.
 
 # The kit that the proofs were last run with; `rt version` prints the kit at hand.
-KIT := rattle-kit-5b-plain logic 097e4c862dff5811
+KIT := rattle-kit-13f logic dac8208d650f15bf
 
-# The library is x86-64 code. On another processor a cross-compiler links it, and the kit's emulator runs what was linked.
+# The library is x86-64 code. On another processor a cross-compiler links it, and Debian's emulator runs what was linked.
 ifneq ($(shell uname -m),x86_64)
 CROSS := x86_64-linux-gnu-
-RUN := $(abspath $(dir $(shell rt doc 2>/dev/null))../on/$(shell uname -m)/toolchain/bin/qemu-x86_64) -L /usr/x86_64-linux-gnu
+RUN := qemu-x86_64 -L /usr/x86_64-linux-gnu
 endif
 export CROSS RUN
 
@@ -27,7 +27,7 @@ CASES := 20000
 VERSION := $(shell sed -n 's/^#define MF4_VERSION "\(.*\)"$$/\1/p' include/mf4.h)
 SONAME := libmf4.so.$(basename $(VERSION))
 SHARED := build/libmf4.so.$(VERSION)
-SOURCES := crates.txt $(shell find crates -name '*.rt' -o -name '*.antt')
+SOURCES := crates.txt $(shell find crates -name out -prune -o \( -name '*.rt' -o -name '*.antt' \) -print)
 
 .PHONY: demo test quick archive shared install clean demotest ctest installed check compare fuzz bench fmt kit tools
 
@@ -37,7 +37,8 @@ demo: build/make_log build/loader build/refusals
 	@$(RUN) build/loader build/pump.mf4
 	@$(RUN) build/refusals build/pump.mf4
 
-# The gate: everything is proved from nothing, each wrong program is tried, each program is run; then the C side.
+# The gate: everything is proved from nothing, or was so on this machine before, each wrong program is tried, each program is
+# run; then the C side.
 test: kit
 	@tests/run
 
@@ -45,17 +46,18 @@ test: kit
 quick: CASES := 2000
 quick: demo demotest ctest check installed
 
-# The library, kept outside target/, which the gate removes. Only what has changed is proved again.
+# The library, whose crate is mf4_c. Only what has changed is proved again; the gate builds it by tests/archive.
 archive: build/libmf4.a
 
 build/libmf4.a: $(SOURCES)
 	@$(MAKE) --no-print-directory kit
 	@mkdir -p build
 	@echo "proving the library and building it; build/archive.log has all that is said"
-	@{ rt staticlib mf4 2>&1; echo $$? >build/archive.status; } | tee build/archive.log \
-	    | sed -un 's/^rt: target.*/rt: mf4 proved and built/; s/^rt: /  /p'
-	@[ "$$(cat build/archive.status)" = 0 ] || { grep -m 1 ': error: ' build/archive.log >&2; echo "not built" >&2; exit 1; }
-	@cp target/staticlib/libmf4.a $@
+	@{ (cd crates/mf4_c && rt lib) 2>&1; echo $$? >build/archive.status; } | tee build/archive.log \
+	    | sed -un '/^crate /h; /^logic=proved/ { x; s/^crate \([a-z0-9_]*\): .*/  \1 proved/p }'
+	@[ "$$(cat build/archive.status)" = 0 ] \
+	    || { grep -m 1 -E ': error|: no proof|: not proved' build/archive.log >&2; echo "not built" >&2; exit 1; }
+	@cp crates/mf4_c/out/libmf4_c.a $@
 
 # The archive as a shared object: it imports nothing, not even the C library, and exports the calls of mf4.h alone.
 shared: $(SHARED)
@@ -86,9 +88,10 @@ install: build/libmf4.a $(SHARED)
 	@sed 's|@PREFIX@|$(FINAL)|; s|@VERSION@|$(VERSION)|' mf4.pc.in >$(TO)/lib/pkgconfig/mf4.pc
 	@install -m 644 LICENSE NOTICE CHANGELOG.md $(TO)/share/doc/mf4/
 
-# Everything that was made, the proofs in target/ too: the next archive is proved from nothing.
+# Everything that was made here, the proofs in each out/ too: the next archive is proved from nothing. What the gate passed is
+# kept beside the kit, and stays.
 clean:
-	@rm -rf build target
+	@rm -rf build crates/*/out
 	@find tests -name __pycache__ -prune -exec rm -r {} +
 
 # The example programs: the log is legal, they print what they should, and the loader ends in order on that log damaged anywhere.
@@ -123,12 +126,12 @@ bench: archive
 	@bench/run
 
 fmt:
-	@rt fmt
+	@for crate in crates/*/; do (cd "$$crate" && rt fmt) || exit 1; done
 
 # What links and looks at x86-64 code on another processor
 tools:
 ifdef CROSS
-	@tests/install "to link x86-64 code on this processor" gcc-x86-64-linux-gnu g++-x86-64-linux-gnu
+	@tests/install "to link and run x86-64 code on this processor" gcc-x86-64-linux-gnu g++-x86-64-linux-gnu qemu-user
 endif
 
 kit:

@@ -1,14 +1,15 @@
-"""Compares mf4.h with the library's source, both with the theorems that pin the order of fields and arguments, and mf4.h
-with its own scheme of names.
+"""Compares mf4.h with the source of the library for C, both with the theorems that pin the order of fields and arguments, that
+source with the library that it hands on to, and mf4.h with its own scheme of names.
 
     compare.py BUILD_DIR [COMPILER]    from the repository's root
 
 The version, replies, structs and calls of the source, in the words of C, must be those of the header, one by one: replies
 by name and number; fields and arguments by name, type and order; sizes and offsets as a C compiler lays them out. A table,
 which the source has as an array, must have each of its words where the struct of C has it. Each struct NAME of the source
-must have its theorem NAME-fields and each call NAME its theorem NAME-arguments, with the fields and arguments in that
-order. The code in the header's comments must stand in the C tests, which run it. Exit status: 0 if all agree, 1 if
-not.
+must have its theorem NAME_fields and each call NAME its theorem NAME_arguments, with the fields and arguments in that
+order. A call of the library for C must have the parameters and the clauses, word for word, of the function of that name in
+the library that it hands on to. The code in the header's comments must stand in the C tests, which run it. Exit status: 0 if
+all agree, 1 if not.
 """
 
 import sys
@@ -24,8 +25,9 @@ VERSION = "crates/mf4/src/version.rt"
 TESTS = "tests/c"
 REFUSALS = "crates/refusals/src/lib.rt"
 TABLE = "crates/table/src/layout.rt"
-SOURCE = ["crates/block_replies/src", "crates/replies/src", "crates/mf4/src"]
-THEOREMS = ["crates/block_replies/proofs/Structs.antt", "crates/replies/proofs/Structs.antt", "crates/mf4/proofs/Border.antt"]
+STRUCTS = ["crates/block_replies/src", "crates/replies/src"]
+CALLS, HANDED_ON_TO = "crates/mf4_c", "crates/mf4"
+FIELDS = ["crates/block_replies/proofs/Structs.antt", "crates/replies/proofs/Structs.antt"]
 INCLUDE, HEADER = "include", "include/mf4.h"
 
 
@@ -64,14 +66,19 @@ def untried(examples):
 
 
 def differences(compiler, build):
-    source, table, header = Source(SOURCE), Words(TABLE), Header(HEADER)
+    source, table, header = Source([*STRUCTS, f"{CALLS}/src"]), Words(TABLE), Header(HEADER)
+    handed_on_to = Source([f"{HANDED_ON_TO}/src"])
     structs, layout = source.structs | table.structs(), expected_layout(source) | table.layout()
     yield from one_by_one("version", version(VERSION), HEADER, header.version)
     yield from one_by_one("reply", replies(REFUSALS), HEADER, header.replies)
     yield from one_by_one("struct", declarations(structs), HEADER, declarations(header.structs))
     yield from one_by_one("the layout of", layout, HEADER, header.measured(compiler, INCLUDE, build))
     yield from one_by_one("call", source.calls, HEADER, header.calls)
-    yield from one_by_one("theorem", theorems.expected(source), " and ".join(THEOREMS), theorems.stated(THEOREMS))
+    for crate in CALLS, HANDED_ON_TO:
+        paths = [*FIELDS, f"{crate}/proofs/Border.antt"]
+        yield from one_by_one("theorem", theorems.expected(source), " and ".join(paths), theorems.stated(paths))
+    yield from one_by_one("call", source.calls, HANDED_ON_TO, handed_on_to.calls)
+    yield from one_by_one("the clauses of", source.clauses, HANDED_ON_TO, handed_on_to.clauses)
     yield from scheme.broken(header)
     yield from untried(header.examples)
     counts = f"{len(header.replies)} replies, {len(header.structs)} structs and {len(header.calls)} calls"

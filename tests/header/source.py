@@ -9,9 +9,9 @@ NUMBERS = {"u8": "uint8_t", "u16": "uint16_t", "u32": "uint32_t", "u64": "uint64
            "f64": "double"}
 SIZES = {"uint8_t": 1, "uint16_t": 2, "uint32_t": 4, "uint64_t": 8, "int64_t": 8, "double": 8}
 
-STRUCT = re.compile(r"#\[repr\(C\)\]\s*pub struct (\w+) \{(.*?)\}", re.S)
-CALL = re.compile(r'#\[no_mangle\]\s*pub extern "C" fn (\w+)\((.*?)\) -> (\w+)', re.S)
-MARKED = re.compile(r"#\[(?:repr\(C\)|no_mangle)\]")
+STRUCT = re.compile(r"#\[repr\(C\)\]\s*#\[derive\(Clone, Copy\)\]\s*pub struct (\w+) \{(.*?)\}", re.S)
+CALL = re.compile(r'#\[unsafe\(no_mangle\)\]\s*pub extern "C" fn (\w+)\((.*?)\) -> (\w+)(.*?)\n\{\n', re.S)
+MARKED = re.compile(r"#\[(?:repr\(C\)|unsafe\(no_mangle\))\]")
 NUMBERED = re.compile(r"pub fn number\(self\) -> u32.*?\n    \}\n", re.S)
 VERSION = re.compile(r"^const (MAJOR|MINOR|PATCH): u32 = (\d+);", re.M)
 REFUSAL = re.compile(r"Refusal::(\w+)(?:\(_\))? => (\d+),")
@@ -67,18 +67,20 @@ def version(path):
 
 
 class Source:
-    """structs: for each its fields as (name, type). calls: for each its prototype; arguments: their names in the source."""
+    """structs: for each its fields as (name, type). calls: for each its prototype; arguments: their names in the source; clauses:
+    what the source promises of it."""
 
     def __init__(self, folders):
-        self.structs, self.calls, self.arguments = {}, {}, {}
+        self.structs, self.calls, self.arguments, self.clauses = {}, {}, {}, {}
         for path in [path for folder in folders for path in sorted(Path(folder).glob("**/*.rt"))]:
             text = re.sub(r"//[^\n]*", "", path.read_text(encoding="utf-8"))
             structs, calls = STRUCT.findall(text), CALL.findall(text)
             if len(MARKED.findall(text)) != len(structs) + len(calls):
                 raise Unreadable(f"{path}: a struct or a call is written in another way than this test knows")
             self.structs.update((snake(name), self.fields(body)) for name, body in structs)
-            self.calls.update((name, self.prototype(name, given, answer)) for name, given, answer in calls)
-            self.arguments.update((name, [argument for argument, _ in named(given)]) for name, given, _ in calls)
+            self.calls.update((name, self.prototype(name, given, answer)) for name, given, answer, _ in calls)
+            self.arguments.update((name, [argument for argument, _ in named(given)]) for name, given, _, _ in calls)
+            self.clauses.update((name, " ".join(clauses.split())) for name, _, _, clauses in calls)
 
     @staticmethod
     def fields(body):

@@ -3,18 +3,14 @@
 import re
 from pathlib import Path
 
-THEOREM = re.compile(r"^pub ([\w-]+-(?:fields|arguments)) : (.*?)\n\1 ", re.M | re.S)
-FIELDS = re.compile(r"\(s : \w+\) → ([\w-]+)\.struct \.as-values s ≡ (.*)")
-ARGUMENTS = re.compile(r".* → Allows \d+ ([\w-]+)-kinds\.ps \1-kinds\.r \1\.Learnt κs (.*) y (?:tt|\(.*\)) ≡ \(.*\)")
+THEOREM = re.compile(r"^pub (\w+_(?:fields|arguments)) : (.*?)\n\1 ", re.M | re.S)
+FIELDS = re.compile(r"\(s : \w+\) → \((\w+)\.struct\)\.as_values s ≡ (.*)")
+ARGUMENTS = re.compile(r".* → Allows \d+ (\w+)_kinds\.ps \1_kinds\.r \1\.Learnt κs (.*) y (?:tt|\(.*\)) ≡ \(.*\)")
 # The same of a call that is proved by hand.
-BY_HAND = re.compile(r".* → Says ([\w-]+)\.ended \1-clauses κs (.*) y \(.*\) \(y ≡ .*\)")
+BY_HAND = re.compile(r".* → Says (\w+)\.ended \1_clauses κs (.*) y \(.*\) \(y ≡ .*\)")
 
 # A word of the proof language cannot name an argument there.
 NAMED_OTHERWISE = {"record": "bytes"}
-
-
-def kebab(name):
-    return name.replace("_", "-")
 
 
 def nested(names):
@@ -31,9 +27,9 @@ def camel(name):
 
 def expected(source):
     """For each theorem what it is about, a struct or a call, and the order that it pins."""
-    fields = {f"{kebab(name)}-fields": f"{kebab(name)} {nested([field for field, _ in fields])}"
+    fields = {f"{name}_fields": f"{name} {nested([field for field, _ in fields])}"
               for name, fields in source.structs.items()}
-    arguments = {f"{kebab(name)}-arguments": f"{kebab(name)} {nested(map(camel, names))}"
+    arguments = {f"{name}_arguments": f"{name} {nested(map(camel, names))}"
                  for name, names in source.arguments.items()}
     return fields | arguments
 
@@ -44,7 +40,7 @@ def stated(paths):
     text = "\n".join(Path(path).read_text(encoding="utf-8") for path in paths)
     for name, statement in THEOREM.findall(text):
         statement = " ".join(statement.split())
-        patterns = [FIELDS] if name.endswith("-fields") else [ARGUMENTS, BY_HAND]
+        patterns = [FIELDS] if name.endswith("_fields") else [ARGUMENTS, BY_HAND]
         found = next(filter(None, (pattern.fullmatch(statement) for pattern in patterns)), None)
-        theorems[name] = re.sub(r"s \.«?(\w+)»?", r"\1", f"{found[1]} {found[2]}") if found else statement
+        theorems[name] = re.sub(r"\bs\.«?(\w+)»?", r"\1", f"{found[1]} {found[2]}") if found else statement
     return theorems

@@ -18,7 +18,7 @@ use Rattle.definitions.specs.Table.{opened, extended, shortened, table_fetched, 
 use Rattle.definitions.specs.Report.{reported}
 use Rattle.definitions.specs.Payload.{payload_fetched}
 use Rattle.definitions.specs.Overlap.{overlap_of}
-use Rattle.mf4.specs.Clauses.{Slice, Allows}
+use Rattle.mf4.specs.Clauses.{Slice, Room, Allows}
 use Rattle.mf4.specs.ByHand.{ClausesIn, Says}
 use Rattle.mf4.specs.Version.{version}
 use Rattle.replies.specs.Replies.{flag_c, text_c, done_c}
@@ -115,7 +115,7 @@ pub mf4_read_header_arguments : (κs : Lfts 1) (bytes : Slice) (y : Mf4HeaderRep
     ≡ (y ≡ header_c (header_of bytes.now))
 mf4_read_header_arguments κs bytes y = refl
 
-pub mf4_write_header_arguments : (κs : Lfts 1) (header : Mf4Header) (out : Slice) (y : Mf4WrittenReply) (after : List ℕ)
+pub mf4_write_header_arguments : (κs : Lfts 1) (header : Mf4Header) (out : Room) (y : Mf4WrittenReply) (after : List ℕ)
     → Allows 1 mf4_write_header_kinds.ps mf4_write_header_kinds.r mf4_write_header.Learnt κs (header, (out, tt)) y (tt, (after, tt))
     ≡ (returned y after ≡ returned_by written_c (header_written out.now (header_given header)))
 mf4_write_header_arguments κs header out y after = refl
@@ -135,12 +135,12 @@ pub mf4_read_list_arguments : (κs : Lfts 1) (bytes : Slice) (y : Mf4ListReply)
     ≡ (y ≡ list_c (list_of bytes.now))
 mf4_read_list_arguments κs bytes y = refl
 
-pub mf4_write_list_equal_arguments : (κs : Lfts 2) (nextAddr : ℕ) (links : Slice) (length : ℕ) (out : Slice) (y : Mf4WrittenReply) (after : List ℕ)
+pub mf4_write_list_equal_arguments : (κs : Lfts 2) (nextAddr : ℕ) (links : Slice) (length : ℕ) (out : Room) (y : Mf4WrittenReply) (after : List ℕ)
     → Allows 2 mf4_write_list_equal_kinds.ps mf4_write_list_equal_kinds.r mf4_write_list_equal.Learnt κs (nextAddr, (links, (length, (out, tt)))) y (tt, (tt, (tt, (after, tt))))
     ≡ (returned y after ≡ returned_by written_c (list_written out.now nextAddr links.now (equal length)))
 mf4_write_list_equal_arguments κs nextAddr links length out y after = refl
 
-pub mf4_write_list_variable_arguments : (κs : Lfts 3) (nextAddr : ℕ) (links offsets out : Slice) (y : Mf4WrittenReply) (after : List ℕ)
+pub mf4_write_list_variable_arguments : (κs : Lfts 3) (nextAddr : ℕ) (links offsets : Slice) (out : Room) (y : Mf4WrittenReply) (after : List ℕ)
     → Allows 3 mf4_write_list_variable_kinds.ps mf4_write_list_variable_kinds.r mf4_write_list_variable.Learnt κs (nextAddr, (links, (offsets, (out, tt)))) y (tt, (tt, (tt, (after, tt))))
     ≡ (returned y after ≡ returned_by written_c (list_written out.now nextAddr links.now (variable offsets.now)))
 mf4_write_list_variable_arguments κs nextAddr links offsets out y after = refl
@@ -150,7 +150,7 @@ pub mf4_read_channel_arguments : (κs : Lfts 1) (bytes : Slice) (y : Mf4ChannelR
     ≡ (y ≡ channel_c (channel_block_of bytes.now))
 mf4_read_channel_arguments κs bytes y = refl
 
-pub mf4_write_channel_arguments : (κs : Lfts 1) (block : Mf4ChannelBlock) (out : Slice) (y : Mf4WrittenReply) (after : List ℕ)
+pub mf4_write_channel_arguments : (κs : Lfts 1) (block : Mf4ChannelBlock) (out : Room) (y : Mf4WrittenReply) (after : List ℕ)
     → Allows 1 mf4_write_channel_kinds.ps mf4_write_channel_kinds.r mf4_write_channel.Learnt κs (block, (out, tt)) y (tt, (after, tt))
     ≡ (returned y after ≡ returned_by written_c (channel_written out.now (block_given block)))
 mf4_write_channel_arguments κs block out y after = refl
@@ -185,22 +185,22 @@ pub mf4_decode_double_bits_arguments : (κs : Lfts 1) (bytes : Slice) (recordIdS
     ≡ (y ≡ record_double bytes.now recordIdSize (channel_given channel))
 mf4_decode_double_bits_arguments κs bytes recordIdSize channel y = refl
 
-pub mf4_text_latin1_arguments : (κs : Lfts 2) (bytes out : Slice) (y : Mf4TextReply) (after : List ℕ)
+pub mf4_text_latin1_arguments : (κs : Lfts 2) (bytes : Slice) (out : Room) (y : Mf4TextReply) (after : List ℕ)
     → Allows 2 mf4_text_latin1_kinds.ps mf4_text_latin1_kinds.r mf4_text_latin1.Learnt κs (bytes, (out, tt)) y (tt, (after, tt))
     ≡ (returned y after ≡ returned_by text_c (text_written out.now latin1 bytes.now))
 mf4_text_latin1_arguments κs bytes out y after = refl
 
-pub mf4_text_utf8_arguments : (κs : Lfts 2) (bytes out : Slice) (y : Mf4TextReply) (after : List ℕ)
+pub mf4_text_utf8_arguments : (κs : Lfts 2) (bytes : Slice) (out : Room) (y : Mf4TextReply) (after : List ℕ)
     → Allows 2 mf4_text_utf8_kinds.ps mf4_text_utf8_kinds.r mf4_text_utf8.Learnt κs (bytes, (out, tt)) y (tt, (after, tt))
     ≡ (returned y after ≡ returned_by text_c (text_written out.now utf8 bytes.now))
 mf4_text_utf8_arguments κs bytes out y after = refl
 
-pub mf4_text_utf16_le_arguments : (κs : Lfts 2) (bytes out : Slice) (y : Mf4TextReply) (after : List ℕ)
+pub mf4_text_utf16_le_arguments : (κs : Lfts 2) (bytes : Slice) (out : Room) (y : Mf4TextReply) (after : List ℕ)
     → Allows 2 mf4_text_utf16_le_kinds.ps mf4_text_utf16_le_kinds.r mf4_text_utf16_le.Learnt κs (bytes, (out, tt)) y (tt, (after, tt))
     ≡ (returned y after ≡ returned_by text_c (text_written out.now (utf16 little) bytes.now))
 mf4_text_utf16_le_arguments κs bytes out y after = refl
 
-pub mf4_text_utf16_be_arguments : (κs : Lfts 2) (bytes out : Slice) (y : Mf4TextReply) (after : List ℕ)
+pub mf4_text_utf16_be_arguments : (κs : Lfts 2) (bytes : Slice) (out : Room) (y : Mf4TextReply) (after : List ℕ)
     → Allows 2 mf4_text_utf16_be_kinds.ps mf4_text_utf16_be_kinds.r mf4_text_utf16_be.Learnt κs (bytes, (out, tt)) y (tt, (after, tt))
     ≡ (returned y after ≡ returned_by text_c (text_written out.now (utf16 big) bytes.now))
 mf4_text_utf16_be_arguments κs bytes out y after = refl
@@ -210,52 +210,52 @@ pub mf4_data_length_arguments : (κs : Lfts 1) (file : Slice) (start : ℕ) (y :
     ≡ (y ≡ length_c (data_length file.now start))
 mf4_data_length_arguments κs file start y = refl
 
-pub mf4_read_record_arguments : (κs : Lfts 2) (file : Slice) (start number recordSize : ℕ) (buffer : Slice) (y : Mf4DoneReply) (after : List ℕ)
+pub mf4_read_record_arguments : (κs : Lfts 2) (file : Slice) (start number recordSize : ℕ) (buffer : Room) (y : Mf4DoneReply) (after : List ℕ)
     → Allows 2 mf4_read_record_kinds.ps mf4_read_record_kinds.r mf4_read_record.Learnt κs (file, (start, (number, (recordSize, (buffer, tt))))) y (tt, (tt, (tt, (tt, (after, tt)))))
     ≡ (returned y after ≡ returned_by done_c (fetched file.now start number recordSize buffer.now))
 mf4_read_record_arguments κs file start number recordSize buffer y after = refl
 
-pub mf4_record_value_arguments : (κs : Lfts 2) (file : Slice) (start number recordSize : ℕ) (group : Mf4Group) (channel : Mf4Channel) (buffer : Slice) (y : Mf4ValidValueReply) (after : List ℕ)
+pub mf4_record_value_arguments : (κs : Lfts 2) (file : Slice) (start number recordSize : ℕ) (group : Mf4Group) (channel : Mf4Channel) (buffer : Room) (y : Mf4ValidValueReply) (after : List ℕ)
     → Allows 2 mf4_record_value_kinds.ps mf4_record_value_kinds.r mf4_record_value.Learnt κs (file, (start, (number, (recordSize, (group, (channel, (buffer, tt))))))) y (tt, (tt, (tt, (tt, (tt, (tt, (after, tt)))))))
     ≡ (returned y after ≡ returned_by valid_value_c (value_fetched file.now start number recordSize (group_given group) (channel_given channel) buffer.now))
 mf4_record_value_arguments κs file start number recordSize group channel buffer y after = refl
 
-pub mf4_record_payload_arguments : (κs : Lfts 3) (file : Slice) (start number recordSize : ℕ) (group : Mf4Group) (channel : Mf4Channel) (bytes payload : Slice) (y : Mf4PayloadReply) (recordAfter payloadAfter : List ℕ)
+pub mf4_record_payload_arguments : (κs : Lfts 3) (file : Slice) (start number recordSize : ℕ) (group : Mf4Group) (channel : Mf4Channel) (bytes payload : Room) (y : Mf4PayloadReply) (recordAfter payloadAfter : List ℕ)
     → Allows 3 mf4_record_payload_kinds.ps mf4_record_payload_kinds.r mf4_record_payload.Learnt κs (file, (start, (number, (recordSize, (group, (channel, (bytes, (payload, tt)))))))) y (tt, (tt, (tt, (tt, (tt, (tt, (recordAfter, (payloadAfter, tt))))))))
     ≡ (returned_both y recordAfter payloadAfter ≡ returned_both_by payload_c (payload_fetched file.now start number recordSize (group_given group) (channel_given channel) bytes.now payload.now))
 mf4_record_payload_arguments κs file start number recordSize group channel bytes payload y recordAfter payloadAfter = refl
 
-pub mf4_write_value_arguments : (κs : Lfts 1) (recordIdSize : ℕ) (channel : Mf4Channel) (value : Mf4Number) (bytes : Slice) (y : Mf4DoneReply) (after : List ℕ)
+pub mf4_write_value_arguments : (κs : Lfts 1) (recordIdSize : ℕ) (channel : Mf4Channel) (value : Mf4Number) (bytes : Room) (y : Mf4DoneReply) (after : List ℕ)
     → Allows 1 mf4_write_value_kinds.ps mf4_write_value_kinds.r mf4_write_value.Learnt κs (recordIdSize, (channel, (value, (bytes, tt)))) y (tt, (tt, (tt, (after, tt))))
     ≡ (returned y after ≡ returned_by done_c (value_written bytes.now recordIdSize (channel_given channel) (number_given value)))
 mf4_write_value_arguments κs recordIdSize channel value bytes y after = refl
 
-pub mf4_open_table_arguments : (κs : Lfts 2) (file : Slice) (start : ℕ) (table : Slice) (y : Mf4DoneReply) (after : List ℕ)
+pub mf4_open_table_arguments : (κs : Lfts 2) (file : Slice) (start : ℕ) (table : Room) (y : Mf4DoneReply) (after : List ℕ)
     → Allows 2 mf4_open_table_kinds.ps mf4_open_table_kinds.r mf4_open_table.Learnt κs (file, (start, (table, tt))) y (tt, (tt, (after, tt)))
     ≡ (returned y after ≡ returned_by done_c (opened file.now start table.now))
 mf4_open_table_arguments κs file start table y after = refl
 
-pub mf4_extend_table_arguments : (κs : Lfts 2) (file : Slice) (blockAddr : ℕ) (table : Slice) (y : Mf4DoneReply) (after : List ℕ)
+pub mf4_extend_table_arguments : (κs : Lfts 2) (file : Slice) (blockAddr : ℕ) (table : Room) (y : Mf4DoneReply) (after : List ℕ)
     → Allows 2 mf4_extend_table_kinds.ps mf4_extend_table_kinds.r mf4_extend_table.Learnt κs (file, (blockAddr, (table, tt))) y (tt, (tt, (after, tt)))
     ≡ (returned y after ≡ returned_by done_c (extended file.now blockAddr table.now))
 mf4_extend_table_arguments κs file blockAddr table y after = refl
 
-pub mf4_shorten_table_arguments : (κs : Lfts 1) (table : Slice) (y : Mf4DoneReply) (after : List ℕ)
+pub mf4_shorten_table_arguments : (κs : Lfts 1) (table : Room) (y : Mf4DoneReply) (after : List ℕ)
     → Allows 1 mf4_shorten_table_kinds.ps mf4_shorten_table_kinds.r mf4_shorten_table.Learnt κs (table, tt) y (after, tt)
     ≡ (returned y after ≡ returned_by done_c (shortened table.now))
 mf4_shorten_table_arguments κs table y after = refl
 
-pub mf4_table_record_arguments : (κs : Lfts 3) (file table : Slice) (number recordSize : ℕ) (buffer : Slice) (y : Mf4DoneReply) (after : List ℕ)
+pub mf4_table_record_arguments : (κs : Lfts 3) (file table : Slice) (number recordSize : ℕ) (buffer : Room) (y : Mf4DoneReply) (after : List ℕ)
     → Allows 3 mf4_table_record_kinds.ps mf4_table_record_kinds.r mf4_table_record.Learnt κs (file, (table, (number, (recordSize, (buffer, tt))))) y (tt, (tt, (tt, (tt, (after, tt)))))
     ≡ (returned y after ≡ returned_by done_c (table_fetched file.now table.now number recordSize buffer.now))
 mf4_table_record_arguments κs file table number recordSize buffer y after = refl
 
-pub mf4_table_value_arguments : (κs : Lfts 3) (file table : Slice) (number recordSize : ℕ) (group : Mf4Group) (channel : Mf4Channel) (buffer : Slice) (y : Mf4ValidValueReply) (after : List ℕ)
+pub mf4_table_value_arguments : (κs : Lfts 3) (file table : Slice) (number recordSize : ℕ) (group : Mf4Group) (channel : Mf4Channel) (buffer : Room) (y : Mf4ValidValueReply) (after : List ℕ)
     → Allows 3 mf4_table_value_kinds.ps mf4_table_value_kinds.r mf4_table_value.Learnt κs (file, (table, (number, (recordSize, (group, (channel, (buffer, tt))))))) y (tt, (tt, (tt, (tt, (tt, (tt, (after, tt)))))))
     ≡ (returned y after ≡ returned_by valid_value_c (table_value_fetched file.now table.now number recordSize (group_given group) (channel_given channel) buffer.now))
 mf4_table_value_arguments κs file table number recordSize group channel buffer y after = refl
 
-pub mf4_report_arguments : (κs : Lfts 2) (file : Slice) (start recordSize : ℕ) (group : Mf4Group) (channel : Mf4Channel) (buffer : Slice) (y : Mf4ReportReply) (after : List ℕ)
+pub mf4_report_arguments : (κs : Lfts 2) (file : Slice) (start recordSize : ℕ) (group : Mf4Group) (channel : Mf4Channel) (buffer : Room) (y : Mf4ReportReply) (after : List ℕ)
     → Allows 2 mf4_report_kinds.ps mf4_report_kinds.r mf4_report.Learnt κs (file, (start, (recordSize, (group, (channel, (buffer, tt)))))) y (tt, (tt, (tt, (tt, (tt, (after, tt))))))
     ≡ (returned y after ≡ returned_by report_c (reported file.now start recordSize (group_given group) (channel_given channel) buffer.now))
 mf4_report_arguments κs file start recordSize group channel buffer y after = refl

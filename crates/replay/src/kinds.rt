@@ -11,7 +11,7 @@ use crate::texts::replay_text;
 use crate::types::replay_type;
 use crate::words::{WRONG, byte_at, past_blank};
 use crate::written::replay_write;
-use libc::STDOUT_FILENO;
+use std::io;
 
 pub(crate) const TYPE: usize = 0;
 
@@ -103,25 +103,26 @@ fn name_place(kind: usize, names: &[u8]) -> usize {
     from
 }
 
-fn print_byte(byte: u8) -> bool {
+fn print_byte(rt: &impl Print, byte: u8) -> io::Result<()> {
     let one = [byte];
-    io::write_all(STDOUT_FILENO, &one)
+    rt.write_all(&one)
 }
 
-fn print_word(words: &[u8], from: usize) {
+fn print_word(rt: &impl Print, words: &[u8], from: usize) -> io::Result<()> {
     let mut at = from;
     while at < words.len() {
-        print_byte(words[at]);
+        print_byte(rt, words[at])?;
         if words[at] == b' ' {
-            return;
+            return Ok(());
         }
         at += 1;
     }
+    Ok(())
 }
 
 // The kind's name and a blank
-pub(crate) fn print_kind(kind: usize) {
-    print_word(&NAMES, name_place(kind, &NAMES));
+pub(crate) fn print_kind(rt: &impl Print, kind: usize) -> io::Result<()> {
+    print_word(rt, &NAMES, name_place(kind, &NAMES))
 }
 
 // The place behind the line's last word if the library answers as the line says, else another

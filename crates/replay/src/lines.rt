@@ -1,7 +1,9 @@
 // A file taken line by line, and what came of its lines.
 use crate::kinds::{UNKNOWN, kind_of, print_kind, replay};
 use crate::words::{WRONG, is_end, past_blank};
-use libc::STDOUT_FILENO;
+use std::io::Read;
+use std::rt::Files;
+use std::{fs, io};
 
 // Enough to see what is wrong without drowning in it
 const MOST_SHOWN: u64 = 20;
@@ -46,15 +48,13 @@ impl Run {
         self
     }
 
-    fn differing(mut self, path: &[u8]) -> Self {
+    fn differing(mut self, rt: &impl Print, path: &str) -> io::Result<Self> {
         self.different = one_more(self.different);
         if self.different <= MOST_SHOWN {
-            io::write_all(STDOUT_FILENO, path);
-            io::write_all(STDOUT_FILENO, b": line ");
-            io::print_decimal(STDOUT_FILENO, self.line);
-            io::write_all(STDOUT_FILENO, b" is different\n");
+            let line = self.line;
+            println!(rt; "{path}: line {line} is different")?;
         }
-        self
+        Ok(self)
     }
 }
 
@@ -66,32 +66,32 @@ fn is_remark(line: &[u8]) -> bool {
     }
 }
 
-fn take_line(line: &[u8], path: &[u8], run: Run) -> Run {
+fn take_line(rt: &impl Print, line: &[u8], path: &str, run: Run) -> io::Result<Run> {
     if is_remark(line) {
-        return run;
+        return Ok(run);
     }
     let kind = kind_of(line);
     let run = run.counted(kind);
     if is_end(line, replay(line, kind, past_blank(line, 0))) {
-        run
+        Ok(run)
     } else {
-        run.differing(path)
+        run.differing(rt, path)
     }
 }
 
 // A line that did not fit, or that the file's end cut off
-fn lost_line(path: &[u8], run: Run) -> Run {
-    run.counted(UNKNOWN).differing(path)
+fn lost_line(rt: &impl Print, path: &str, run: Run) -> io::Result<Run> {
+    run.counted(UNKNOWN).differing(rt, path)
 }
 
-fn end_line(line: &[u8], path: &[u8], mut run: Run) -> Run {
+fn end_line(rt: &impl Print, line: &[u8], path: &str, mut run: Run) -> io::Result<Run> {
     let fill = run.fill;
     run.fill = 0;
     run.line = one_more(run.line);
     if fill <= line.len() {
-        take_line(&line[..fill], path, run)
+        take_line(rt, &line[..fill], path, run)
     } else {
-        lost_line(path, run)
+        lost_line(rt, path, run)
     }
 }
 
@@ -106,99 +106,95 @@ fn keep_byte(byte: u8, line: &mut [u8], mut run: Run) -> Run {
     run
 }
 
-fn take_byte(byte: u8, line: &mut [u8], path: &[u8], run: Run) -> Run {
+fn take_byte(rt: &impl Print, byte: u8, line: &mut [u8], path: &str, run: Run) -> io::Result<Run> {
     if byte == b'\n' {
-        end_line(line, path, run)
+        end_line(rt, line, path, run)
     } else {
-        keep_byte(byte, line, run)
+        Ok(keep_byte(byte, line, run))
     }
 }
 
-fn take_piece(piece: &[u8], line: &mut [u8], path: &[u8], run: Run) -> Run {
+fn take_piece(
+    rt: &impl Print,
+    piece: &[u8],
+    line: &mut [u8],
+    path: &str,
+    run: Run,
+) -> io::Result<Run> {
     let mut run = run;
     let mut i: usize = 0;
     while i < piece.len() {
-        run = take_byte(piece[i], line, path, run);
+        run = take_byte(rt, piece[i], line, path, run)?;
         i += 1;
     }
-    run
+    Ok(run)
 }
 
-fn end_file(path: &[u8], mut run: Run) -> Run {
+fn end_file(rt: &impl Print, path: &str, mut run: Run) -> io::Result<Run> {
     run.is_more = false;
     if run.fill == 0 {
-        return run;
+        return Ok(run);
     }
     run.line = one_more(run.line);
-    lost_line(path, run)
+    lost_line(rt, path, run)
 }
 
 // Reads once. Keeping the loop out of it leaves nothing here to prove by hand.
-fn take_some(fd: i32, line: &mut [u8], path: &[u8], run: Run) -> Run {
-    let mut piece = io::large_buffer();
-    let got = libc::read(fd, &mut piece);
-    if got < 0 {
-        os::fail(path);
-        return end_file(path, run.differing(path));
+fn take_some(
+    rt: &impl Print,
+    file: &mut impl Read,
+    line: &mut [u8],
+    path: &str,
+    run: Run,
+) -> io::Result<Run> {
+    let mut piece = [0u8; 65536];
+    let count = file.read(&mut piece)?;
+    if count == 0 {
+        return end_file(rt, path, run);
     }
-    if got == 0 {
-        return end_file(path, run);
-    }
-    let count = io::count(got, &piece);
-    take_piece(&piece[..count], line, path, run)
+    take_piece(rt, &piece[..count], line, path, run)
 }
 
 // Nothing says that a file ends, so the turns are counted down, from a number that no run uses up
-fn take_all(fd: i32, path: &[u8], run: Run) -> Run {
+fn take_all(rt: &impl Print, file: &mut impl Read, path: &str, run: Run) -> io::Result<Run> {
     let mut space = [0u8; 1024];
     let line: &mut [u8] = &mut space;
     let mut run = run;
     let mut turns = u64::MAX;
     while turns > 0 && run.is_more {
-        run = take_some(fd, line, path, run);
+        run = take_some(rt, file, line, path, run)?;
         turns -= 1;
     }
-    run
+    Ok(run)
 }
 
-pub(crate) fn replay_file(path: &[u8], run: Run) -> Run {
-    let run = run.opened();
-    let fd = os::open_read(path);
-    if fd < 0 {
-        os::fail(path);
-        return run.differing(path);
-    }
-    let run = take_all(fd, path, run);
-    libc::close(fd);
-    run
+pub(crate) fn replay_file(rt: &(impl Files + Print), path: &str, run: Run) -> io::Result<Run> {
+    let mut file = fs::open(rt, path)?;
+    take_all(rt, &mut file, path, run.opened())
 }
 
-fn print_count(kind: usize, count: u64) {
-    print_kind(kind);
-    io::print_decimal(STDOUT_FILENO, count);
-    io::write_all(STDOUT_FILENO, b"\n");
+fn print_count(rt: &impl Print, kind: usize, count: u64) -> io::Result<()> {
+    print_kind(rt, kind)?;
+    println!(rt; "{count}")
 }
 
 // Lines of no known kind are told only where there are some
-fn print_counts(counts: [u64; 21]) -> u64 {
+fn print_counts(rt: &impl Print, counts: [u64; 21]) -> io::Result<u64> {
     let mut total: u64 = 0;
     let mut kind: usize = 0;
     while kind < 21 {
         let count = counts[kind];
         if kind < UNKNOWN || count > 0 {
-            print_count(kind, count);
+            print_count(rt, kind, count)?;
         }
         total = std::num::wrapping_add_u64(total, count);
         kind += 1;
     }
-    total
+    Ok(total)
 }
 
-pub(crate) fn report(run: Run) {
-    let counts = run.counts;
-    let total = print_counts(counts);
-    io::print_decimal(STDOUT_FILENO, total);
-    io::write_all(STDOUT_FILENO, b" replayed, ");
-    io::print_decimal(STDOUT_FILENO, run.different);
-    io::write_all(STDOUT_FILENO, b" different\n");
+pub(crate) fn report(rt: &impl Print, run: Run) -> io::Result<()> {
+    let total = print_counts(rt, run.counts)?;
+    let different = run.different;
+    println!(rt; "{total} replayed, {different} different")
 }

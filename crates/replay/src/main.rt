@@ -7,10 +7,10 @@
 // where the group's invalidation bytes have an end:
 //
 //     record FILE START NUMBER SIZE ROOM = REPLY TOLD LEFT
-//     record_value FILE START NUMBER SIZE ROOM FIELD = REPLY TOLD [VALUE VALID] LEFT
-//     record_payload FILE START NUMBER SIZE ROOM ROOM FIELD = REPLY TOLD [VALUE VALID COUNT] LEFT LEFT
+//     record-value FILE START NUMBER SIZE ROOM FIELD = REPLY TOLD [VALUE VALID] LEFT
+//     record-payload FILE START NUMBER SIZE ROOM ROOM FIELD = REPLY TOLD [VALUE VALID COUNT] LEFT LEFT
 //     write RECORD ID_SIZE CHANNEL KIND NUMBER = REPLY TOLD LEFT
-//     bounded_validity RECORD FIELD = REPLY TOLD [VALID]
+//     bounded-validity RECORD FIELD = REPLY TOLD [VALID]
 //     bounded-both RECORD FIELD = REPLY TOLD [VALUE VALID]
 //     bounded-record-value FILE START NUMBER SIZE ROOM FIELD = REPLY TOLD [VALUE VALID] LEFT
 //
@@ -19,8 +19,8 @@
 // fetched or stands in front; in the bounded kinds its group has three numbers, INVALIDATION_BYTES behind DATA_BYTES. KIND and
 // NUMBER are those of mf4_number, and LEFT is then the record afterwards.
 //
-// The kinds `validity`, `both` and `record_value` are for the reading without an end, which is the crate's: they go to the
-// calls whose names end in _unbounded, the last of them behind mf4_read_record. `record_payload` has that reading too.
+// The kinds `validity`, `both` and `record-value` are for the reading without an end, which is the crate's: they go to the
+// calls whose names end in _unbounded, the last of them behind mf4_read_record. `record-payload` has that reading too.
 //
 // A line that is empty or begins with `#` is a remark. Every other line counts: one of an unknown kind, with a word too many
 // or too few or with a word that cannot be read is a different one. data/wrong.txt holds nothing but such lines, each wrong in
@@ -44,11 +44,12 @@ mod words;
 mod written;
 
 use lines::{Run, replay_file, report};
+use std::io;
 
-fn main() {
-    let run = replay_file(b"sample.txt", Run::new());
-    let run = replay_file(b"vectors.txt", run);
-    report(run);
+fn main(rt: HostRuntime) -> io::Result<()> {
+    let run = replay_file(&rt, "sample.txt", Run::new())?;
+    let run = replay_file(&rt, "vectors.txt", run)?;
+    report(&rt, run)?;
     // wrong on purpose: all of them must be told
-    report(replay_file(b"wrong.txt", Run::new()));
+    report(&rt, replay_file(&rt, "wrong.txt", Run::new())?)
 }

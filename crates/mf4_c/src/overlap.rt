@@ -1,0 +1,14 @@
+// The first two channels of a lent list whose fields share a bit of the record.
+ghost use Rattle.std.specs.Prelude.{◌≡◌, map};
+ghost use Rattle.definitions.specs.Overlap.{overlap_of};
+ghost use Rattle.block_replies.specs.Channels.{channel_given};
+ghost use Rattle.replies.specs.Overlaps.{overlap_c};
+
+use mf4::{Mf4Channel, Mf4OverlapReply};
+
+#[unsafe(no_mangle)]
+pub extern "C" fn mf4_first_overlap(list: &[Mf4Channel]) -> Mf4OverlapReply
+    ensures { result ≡ overlap_c (overlap_of (map channel_given list.now)) }
+{
+    mf4::mf4_first_overlap(list)
+}

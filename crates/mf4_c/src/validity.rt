@@ -1,0 +1,18 @@
+// Whether a channel's value is valid, in a record of its group.
+ghost use Rattle.std.specs.Prelude.{◌≡◌};
+ghost use Rattle.definitions.specs.Channel.{bounded_valid_of};
+ghost use Rattle.block_replies.specs.Channels.{channel_given};
+ghost use Rattle.replies.specs.Values.{group_given, validity_c};
+
+use mf4::{Mf4Channel, Mf4Group, Mf4ValidityReply};
+
+#[unsafe(no_mangle)]
+pub extern "C" fn mf4_check_validity(
+    record: &[u8],
+    group: Mf4Group,
+    channel: Mf4Channel,
+) -> Mf4ValidityReply
+    ensures { result ≡ validity_c (bounded_valid_of «record».now (group_given group) (channel_given channel)) }
+{
+    mf4::mf4_check_validity(record, group, channel)
+}

@@ -1,0 +1,6 @@
+-- The loop ends with the line.
+use Rattle.std.proofs.Common.{◌-◌, length}
+use Rattle.replay.proofs.words.number.Given as goal
+
+abbrev pub decreases-loop-end : goal.decreases-loop-end
+decreases-loop-end l = length l.line - l.end
