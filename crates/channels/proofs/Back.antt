@@ -1,6 +1,5 @@
 -- The meaning is one-to-one: from what it means the answer comes back.
 use mathlib.Core.Path.{◌≡◌, ap}
-use Prim.Native.Nat.{ℕ}
 use Rattle.definitions.specs.Reply.{Reply, answer, refusal}
 use Rattle.definitions.specs.ChannelBlock as blocks
 use Rattle.definitions.proofs.Replies.{one_by}

@@ -123,6 +123,10 @@ module _ (s : List ℕ) (id_size : ℕ) (c : Channel) where
         subst (λ (r : Reply Value). Valued k r s at (bit_span c) c) value_is
         (number_there asked some (not-true _ o.1) (not-true _ d.1) (same_end some ∙ not-true _ a.1) (not-true _ f.1))
 
+    -- the field lies in the record
+    pub in_bounds : is_readable (length s) id_size number c ≡ true → FieldBounds s at c.bit_offset c.bit_count
+    in_bounds e = bounded number s at (bit_span c) c (reads e).sound
+
     pub reads_none : is_readable (length s) id_size number c ≡ false → TakesNone s id_size c
     reads_none e v old there =
         let t =

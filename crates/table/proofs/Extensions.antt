@@ -1,11 +1,11 @@
 -- A table that is extended, and one that gives its last fragment up.
 use mathlib.Core.Path.{◌≡◌, refl, sym, ap, ◌∙◌}
-use mathlib.Core.Bool.{Bool, true, false, not}
+use mathlib.Core.Bool.{Bool, true, false}
 use mathlib.Core.List.{List}
 use Prim.Native.Nat.{ℕ, zero, suc, ◌+◌, ◌-◌, ◌*◌, ◌≤◌, ◌<◌}
 use native.Mathlib.Omega.{arith}
 use lib.ListN.{length, set}
-use borrow.Author.Tests.{lt-ltb, le-ltb, lt-leb, le-leb, eq-eqb, ne_eqb, not-true, not-false}
+use borrow.Author.Tests.{lt-ltb, le-ltb, lt-leb, le-leb, eq-eqb, ne_eqb}
 use Rattle.definitions.specs.Reply.{answer}
 use Rattle.definitions.specs.Chain.{Block, file_limit, id_dt, total, block_at}
 use Rattle.definitions.specs.Table.{table_limit, count_of, total_in, position_at, blocks_in, ordered, sound, with_block, extended, without_last, shortened}
@@ -39,14 +39,14 @@ module _ (w : List ℕ) (t : Bool) (passed : t ≡ passes Unknown w) where
   h : t ≡ ordered w
   h = passed ∙ without_file w
 
-  pub up_unordered : not t ≡ true → changed_by (Refused BadTable) w ≡ shortened w
+  pub up_unordered : t ≡ false → changed_by (Refused BadTable) w ≡ shortened w
   unfolding shortened
-  up_unordered n = sym (rw (sym h ∙ not-true t n) refl)
+  up_unordered n = sym (rw (sym h ∙ n) refl)
 
-  module _ (s : not t ≡ false) (n : ℕ) (k : n ≡ count_of w) where
+  module _ (s : t ≡ true) (n : ℕ) (k : n ≡ count_of w) where
     pub up_empty : n ≡ 0 → changed_by (Refused TableEmpty) w ≡ shortened w
     unfolding shortened
-    up_empty z = sym (rw (sym h ∙ not-false t s, eq-eqb _ _ (sym k ∙ z)) refl)
+    up_empty z = sym (rw (sym h ∙ s, eq-eqb _ _ (sym k ∙ z)) refl)
 
     module _ (z : n ≡ 0 → ⊥) where
       some : (m : ℕ) → (m ≡ 0 → ⊥) → 0 < m
@@ -54,11 +54,11 @@ module _ (w : List ℕ) (t : Bool) (passed : t ≡ passes Unknown w) where
       some (suc m) y = omega arith
 
       pub up_asks : (0 < count_of w) × (count_of w ≤ table_limit)
-      up_asks = (some (count_of w) (λ y. z (k ∙ y)), (in_order w (sym h ∙ not-false t s)).few)
+      up_asks = (some (count_of w) (λ y. z (k ∙ y)), (in_order w (sym h ∙ s)).few)
 
       pub up_done : (v : List ℕ) → v ≡ without_last w → changed_by Done v ≡ shortened w
       unfolding shortened
-      up_done v q = sym (rw (sym h ∙ not-false t s, ne_eqb _ _ (λ y. z (k ∙ y)), q) refl)
+      up_done v q = sym (rw (sym h ∙ s, ne_eqb _ _ (λ y. z (k ∙ y)), q) refl)
 
 -- ---- one block more
 
@@ -78,27 +78,27 @@ module _ (f w : List ℕ) (a : ℕ) where
     e : t ≡ sound f w
     e = passed ∙ with_file f w
 
-    pub extend_unsound : not t ≡ true → changed_by (Refused BadTable) w ≡ extended f a w
+    pub extend_unsound : t ≡ false → changed_by (Refused BadTable) w ≡ extended f a w
     unfolding extended
-    extend_unsound n = rw (le-ltb _ _ l, sym e ∙ not-true t n) refl
+    extend_unsound n = rw (le-ltb _ _ l, sym e ∙ n) refl
 
-    module _ (n : not t ≡ false) where
+    module _ (n : t ≡ true) where
       pub extend_refused_law : (r : Refusal) → block_at id_dt f a ≡ refused r → changed_by (Refused r) w ≡ extended f a w
       unfolding extended
-      extend_refused_law r h = sym (rw (le-ltb _ _ l, sym e ∙ not-false t n, h) refl)
+      extend_refused_law r h = sym (rw (le-ltb _ _ l, sym e ∙ n, h) refl)
 
       module _ (b : Block) (h : block_at id_dt f a ≡ answer b) (c : ℕ) (q : c ≡ count_of w) where
         pub extend_full : table_limit ≤ c → changed_by (Refused TableFull) w ≡ extended f a w
         unfolding extended
-        extend_full m = let k : table_limit ≤ count_of w = omega arith in sym (rw (le-ltb _ _ l, sym e ∙ not-false t n, h, le-leb _ _ k) refl)
+        extend_full m = let k : table_limit ≤ count_of w = omega arith in sym (rw (le-ltb _ _ l, sym e ∙ n, h, le-leb _ _ k) refl)
 
         pub extend_asks : c < table_limit → (count_of w < table_limit) × (total_in w + b.size < 18446744073709551616)
         extend_asks m =
-            let s : sound f w ≡ true = sym e ∙ not-false t n in
+            let s : sound f w ≡ true = sym e ∙ n in
             (omega arith, omega (arith, room f w l s, (block_stands id_dt f a b h).1.inside))
 
         pub extend_done : c < table_limit → (v : List ℕ) → v ≡ with_block w b → changed_by Done v ≡ extended f a w
         unfolding extended
         extend_done m v y =
             let k : count_of w < table_limit = omega arith in
-            ap (changed_by Done) y ∙ sym (rw (le-ltb _ _ l, sym e ∙ not-false t n, h, lt-leb _ _ k) refl)
+            ap (changed_by Done) y ∙ sym (rw (le-ltb _ _ l, sym e ∙ n, h, lt-leb _ _ k) refl)

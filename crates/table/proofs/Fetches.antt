@@ -1,13 +1,13 @@
 -- The ways through a fetch by a table.
 use mathlib.Core.Path.{◌≡◌, refl, sym, ap, ◌∙◌}
-use mathlib.Core.Bool.{Bool, true, false, not}
+use mathlib.Core.Bool.{Bool, true, false}
 use mathlib.Core.List.{List, ◌++◌}
 use Prim.Native.Nat.{ℕ, ◌+◌, ◌*◌, ◌≤◌, ◌<◌}
 use native.Mathlib.Omega.{arith}
 use lib.ListN.{length, take, drop}
 use lib.Seq.{length-take-le}
 use lib.Dec.{ltb}
-use borrow.Author.Tests.{lt-ltb, le-ltb, ltb-false, not-true}
+use borrow.Author.Tests.{lt-ltb, le-ltb, ltb-false}
 use Rattle.definitions.specs.Reply.{answer, refusal}
 use Rattle.definitions.specs.Bytes.{span}
 use Rattle.definitions.specs.Chain.{file_limit, joined, bad_size, record_of}
@@ -40,9 +40,9 @@ module _ (f w : List ℕ) (k size : ℕ) (out : List ℕ) where
     table_long l = rw (good, lt-ltb _ _ l) refl
 
     module _ (l : length f ≤ file_limit) where
-      pub table_unsound : (t : Bool) → t ≡ passes (At (length f)) w → not t ≡ true → record { reply = refusal 32 0; buffer = out } ≡ table_fetched f w k size out
+      pub table_unsound : (t : Bool) → t ≡ passes (At (length f)) w → t ≡ false → record { reply = refusal 32 0; buffer = out } ≡ table_fetched f w k size out
       unfolding table_fetched
-      table_unsound t e n = rw (good, le-ltb _ _ l, sym (e ∙ with_file f w) ∙ not-true t n) refl
+      table_unsound t e n = rw (good, le-ltb _ _ l, sym (e ∙ with_file f w) ∙ n) refl
 
       module _ (s : sound f w ≡ true) (end : ℕ) (e : end ≡ total_in w) where
         pub table_behind : ltb end (k * size + size) ≡ true → record { reply = refusal 16 0; buffer = out } ≡ table_fetched f w k size out

@@ -1,13 +1,13 @@
 -- The one pass over a table's fragments, from the last to the first: what is left of the test after each.
 use mathlib.Core.Path.{◌≡◌, refl, sym, ap, ap₂, ◌∙◌}
-use mathlib.Core.Bool.{Bool, true, false, not, ◌&&◌}
+use mathlib.Core.Bool.{Bool, true, false, ◌&&◌}
 use mathlib.Core.List.{List, [], ◌∷◌, ◌++◌}
 use Prim.Native.Nat.{ℕ, zero, suc, ◌+◌, ◌-◌, ◌≤◌, ◌<◌}
 use native.Mathlib.Omega.{arith}
 use native.Mathlib.Numerals.{add-one}
 use lib.ListN.{length}
 use lib.Dec.{leb, eqb}
-use borrow.Author.Tests.{lt-ltb, le-ltb, lt-leb, le-leb, leb-true, leb-false, not-true, not-false}
+use borrow.Author.Tests.{lt-ltb, le-ltb, lt-leb, le-leb, leb-true, leb-false}
 use Rattle.definitions.specs.Chain.{Block}
 use Rattle.definitions.specs.Table.{table_limit, count_of, total_in, address_at, position_at, begin_of, fragment_in, fragments_in, rising, ordered, in_file, sound}
 use Rattle.table.specs.Passed.{ends_by, all_end, passes}
@@ -120,15 +120,15 @@ module _ (end : FileEnd) (w : List ℕ) where
           ∙ ap₂ (λ (x y : ℕ). all_end end (fragments_in w j) && ends_by end (x + 24 + y)) (sym ha) (sym size)
           ∙ ap (λ (x : Bool). all_end end (fragments_in w j) && x) (sym ht)
 
-      pub outside : not t ≡ true → false ≡ passes_up_to i
+      pub outside : t ≡ false → false ≡ passes_up_to i
       outside n =
-          sym (ap (λ (x : Bool). (eqb (begin_of w 0) 0 && rising w i) && x) (its_end ∙ ap (λ (x : Bool). all_end end (fragments_in w j) && x) (not-true t n) ∙ and_false (all_end end (fragments_in w j)))
+          sym (ap (λ (x : Bool). (eqb (begin_of w 0) 0 && rising w i) && x) (its_end ∙ ap (λ (x : Bool). all_end end (fragments_in w j) && x) n ∙ and_false (all_end end (fragments_in w j)))
           ∙ and_false (eqb (begin_of w 0) 0 && rising w i))
 
-      pub inside : not t ≡ false → passes_up_to i ≡ passes_up_to j
+      pub inside : t ≡ true → passes_up_to i ≡ passes_up_to j
       inside n =
           ap₂ (λ (x y : Bool). (eqb (begin_of w 0) 0 && x) && y) (rising_one ∙ rw (le-leb _ _ ok) refl)
-          (its_end ∙ ap (λ (x : Bool). all_end end (fragments_in w j) && x) (not-false t n) ∙ and_true (all_end end (fragments_in w j)))
+          (its_end ∙ ap (λ (x : Bool). all_end end (fragments_in w j) && x) n ∙ and_true (all_end end (fragments_in w j)))
 
 -- ---- the two ways in which it is asked
 

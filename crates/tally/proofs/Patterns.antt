@@ -1,10 +1,10 @@
 -- The doubles of words, and their order.
 use Rattle.std.proofs.Common.{◌≡◌, ℕ, suc, ◌-◌, ◌<◌, ◌≤◌, Bool, true, false, cond, not, T, ltb, [], ◌∷◌, ℤ, pos, negsuc, ◌-ℤ◌, ◌≤ℤ◌, sym, refl, ap, ◌∙◌, subst, true≢false, arith, le→leb, ltb-false, ltb-true, le-ltb, lt-ltb}
-use types.Run.{OneOf, miss}
+use types.Run.{OneOf, hit, miss}
 use denote.Enum.Declared.{tag_of}
 use borrow.Author.Tests.{not-true}
 use lib.Signed.{le_z}
-use lib.Ieee.{Float, nan, inf, fin, binary64, of_bits, lt, le, ne, is_nan}
+use lib.Ieee.{Float, nan, inf, fin, binary64, of_bits, lt, ne, is_nan}
 use lib.Ieee.Compare.{differs_from_itself, nan_differs}
 use Rattle.definitions.specs.Ieee754.{double_of, double_of_sign}
 use Rattle.doubles.proofs.Whole.{of_negative}
@@ -63,6 +63,12 @@ not_above_law x y h = go (lt v w) refl
     go : (t : Bool) → lt v w ≡ t → false ≡ t
     go false e = refl
     go true e = absurd (lt_not_le v w e (le→LE w v (subst T (sym (monotone y x h)) tt)))
+
+-- what is no float is an integer
+pub tag_of_integer : (n : Number) → (n ≡ float → ⊥) → OneOf (0 ∷ 1 ∷ []) (tag_of the_type n)
+tag_of_integer Unsigned h = hit (0 ∷ 1 ∷ []) 0 tt
+tag_of_integer Signed h = hit (0 ∷ 1 ∷ []) 1 tt
+tag_of_integer float h = absurd (h refl)
 
 -- of two integers the larger has no smaller double
 pub not_below_law : (n : Number) (a b : ℕ) → OneOf (0 ∷ 1 ∷ []) (tag_of the_type n) → b ≤ a → false ≡ lt (value_at n a) (value_at n b)

@@ -1,6 +1,5 @@
 use mathlib.Core.Path.{sym, ◌∙◌}
 use native.Mathlib.Omega.{arith}
-use borrow.Author.Rules.{rules}
 use Rattle.records.proofs.Laying.{laid_before, laid_after, laid_part}
 use Rattle.records.proofs.joined.lay.Goals as goal
 

@@ -1,21 +1,18 @@
 -- On whichever accepted chain the walk began, the loop is on its way there, and has laid the data of the blocks so far into
 -- the window, which it has not passed.
 use mathlib.Core.Path.{◌≡◌, refl, sym, ap, ◌∙◌}
-use mathlib.Core.List.{List, ◌∷◌, [], ◌++◌}
-use Prim.Native.Nat.{◌+◌, ◌≤◌}
+use mathlib.Core.List.{List}
+use Prim.Native.Nat.{◌+◌}
 use native.Mathlib.Omega.{arith}
 use lib.ListN.{length}
-use borrow.Author.Rules.{rules}
 use borrow.Author.Tests.{leb-true, leb-false}
-use Rattle.definitions.specs.Reply.{answer}
 use Rattle.definitions.specs.Chain.{Block, joined}
-use Rattle.places.specs.Meaning.{block_meant, block_reply}
-use Rattle.steps.specs.Steps.{fragment_at, a_list, next_of, next_reply}
-use Rattle.chain.specs.Walk.{Walked}
+use Rattle.places.specs.Meaning.{block_reply}
+use Rattle.steps.specs.Steps.{next_reply}
 use Rattle.records.specs.Window.{laid}
 use Rattle.steps.proofs.Steps.{list_stays}
-use Rattle.chain.proofs.Walks.{turns_left, taken_here}
-use Rattle.chain.proofs.Readers.{On, blocks_begin, not_refused_here, on_behind, not_refused_next, all_met, on_list}
+use Rattle.chain.proofs.Walks.{taken_here}
+use Rattle.chain.proofs.Readers.{blocks_begin, not_refused_here, on_behind, not_refused_next, all_met, on_list}
 use Rattle.records.proofs.Laying.{lay_start, lay_turn, lay_full}
 use Rattle.records.proofs.joined.window.Goals as goal
 
@@ -55,7 +52,7 @@ returns-then-is_behind c = λ w.
     let v = so.0 in
     let there = on_behind _ _ _ v c.if-place.true _ (sym c.fragment_at-read.ensures ∙ ap block_reply c.in-Block.is) _ c.behind-behind.ensures in
     let laid_more = lay_turn _ _ _ _ _ v.at.stand.inside v.at.size _ so.2 _ _ _ c.data_of-data.ensures c.lay.ensures
-        ∙ ap (λ (bs : List Block). laid a.out.now a.from.0 0 (joined a.file.now bs)) (sym there.2) in
+    ∙ ap (λ (bs : List Block). laid a.out.now a.from.0 0 (joined a.file.now bs)) (sym there.2) in
     let here = there.0 in
     let begins = blocks_begin _ _ _ here in
     let same : length now ≡ length a.out.now = omega (arith, c.lay.auto.out, c.loop-place.invariant.0) in

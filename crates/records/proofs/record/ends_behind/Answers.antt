@@ -1,4 +1,3 @@
-use borrow.Author.Rules.{rules}
 use Rattle.records.proofs.Records.{ends_is}
 use Rattle.records.proofs.record.ends_behind.Goals as goal
 

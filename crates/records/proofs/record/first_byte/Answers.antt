@@ -1,6 +1,5 @@
 use mathlib.Core.Path.{refl}
 use native.Mathlib.Omega.{arith}
-use borrow.Author.Rules.{rules}
 use Rattle.records.proofs.Records.{first_past, first_fits}
 use Rattle.records.proofs.record.first_byte.Goals as goal
 

@@ -1,14 +1,11 @@
 use mathlib.Core.Path.{◌≡◌, sym, ap, ◌∙◌}
-use mathlib.Core.Bool.{false}
-use Prim.Native.Nat.{◌+◌, ◌*◌, ◌≤◌, ◌<◌}
+use Prim.Native.Nat.{◌+◌, ◌*◌, ◌≤◌}
 use lib.ListN.{length}
 use lib.Seq.{length-take-le}
-use lib.Dec.{ltb}
 use native.Mathlib.Omega.{arith}
-use borrow.Author.Rules.{rules}
 use borrow.Author.Tests.{ltb-false}
 use Rattle.definitions.specs.Reply.{answer}
-use Rattle.definitions.specs.Chain.{id_dt, bad_size, data_length}
+use Rattle.definitions.specs.Chain.{id_dt, data_length}
 use Rattle.chain.specs.Meaning.{located_reply}
 use Rattle.chain.specs.Walk.{Walked}
 use Rattle.records.proofs.Records.{size_good, data_whole, fetch_bad, fetch_refused, fetch_behind, fetch_record}

@@ -1,7 +1,6 @@
 -- A refused fetch is handed on; a fetched record fits into the buffer, and its field is read there.
 use native.Mathlib.Omega.{arith}
 use lib.ListN.{length-take}
-use borrow.Author.Rules.{rules}
 use Rattle.fields.specs.Meaning.{group_meant, channel_meant}
 use Rattle.records.proofs.Fetches.{not_fetched, fetched_then}
 use Rattle.records.proofs.record.RecordRead.value.Goals as goal

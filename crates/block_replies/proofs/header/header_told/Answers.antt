@@ -1,0 +1,5 @@
+use mathlib.Core.Path.{refl}
+use Rattle.block_replies.proofs.header.header_told.Goals as goal
+
+pub returns : goal.returns
+returns c = refl

@@ -1,0 +1,48 @@
+use mathlib.Core.Path.{sym, ◌∙◌}
+use Prim.Native.Nat.{◌+◌, ◌*◌}
+use native.Mathlib.Omega.{arith}
+use lib.ListN.{length}
+use lib.Seq.{length-take-le}
+use borrow.Author.Tests.{ltb-false}
+use Rattle.records.proofs.Records.{size_good}
+use Rattle.table.proofs.Ordered.{with_file}
+use Rattle.table.proofs.Fetches.{table_bad, table_long, table_unsound, table_behind, table_within, table_record}
+use Rattle.table.proofs.fetch.fetch_record.Goals as goal
+
+pub returns-then-bad_size : goal.returns-then-bad_size
+returns-then-bad_size c = table_bad _ _ _ _ _ (sym c.bad_size.ensures ∙ c.if-bad_size.true)
+
+pub returns-then-file-gt-FILE_LIMIT : goal.returns-then-file-gt-FILE_LIMIT
+returns-then-file-gt-FILE_LIMIT c = table_long _ _ _ _ _ (sym c.bad_size.ensures ∙ c.if-bad_size.false) c.if-file-gt-FILE_LIMIT.true
+
+pub returns-then-not-can_be_right : goal.returns-then-not-can_be_right
+returns-then-not-can_be_right c =
+    table_unsound _ _ _ _ _ (sym c.bad_size.ensures ∙ c.if-bad_size.false) c.if-file-gt-FILE_LIMIT.false _ c.can_be_right.ensures c.if-not-can_be_right.true
+
+pub ends_behind-requires : goal.ends_behind-requires
+ends_behind-requires c = (let a = c.args in size_good a.record_size (length a.buffer.now) (sym c.bad_size.ensures ∙ c.if-bad_size.false)).0
+
+pub returns-then-ends_behind : goal.returns-then-ends_behind
+returns-then-ends_behind c =
+    table_behind _ _ _ _ _ (sym c.bad_size.ensures ∙ c.if-bad_size.false) c.if-file-gt-FILE_LIMIT.false (sym (c.can_be_right.ensures ∙ with_file _ _) ∙ c.if-not-can_be_right.false) _ c.total-end.ensures (sym c.ends_behind.ensures ∙ c.if-ends_behind.true)
+
+pub overflow_mul-from : goal.overflow_mul-from
+overflow_mul-from c =
+    let a = c.args in
+    omega (arith, ltb-false c.total-end.result.0 (a.number * a.record_size + a.record_size) (sym c.ends_behind.ensures ∙ c.if-ends_behind.false))
+
+pub slice_bounds-window-end : goal.slice_bounds-window-end
+slice_bounds-window-end c = (let a = c.args in size_good a.record_size (length a.buffer.now) (sym c.bad_size.ensures ∙ c.if-bad_size.false)).1
+
+pub slice_bounds-window-end-2 : goal.slice_bounds-window-end-2
+slice_bounds-window-end-2 c = sym (length-take-le _ _ (let a = c.args in size_good a.record_size (length a.buffer.now) (sym c.bad_size.ensures ∙ c.if-bad_size.false)).1)
+
+pub window-requires : goal.window-requires
+window-requires c =
+    let a = c.args in
+    let within = table_within a.file.now a.table.now a.number a.record_size a.buffer.now (sym c.bad_size.ensures ∙ c.if-bad_size.false) c.if-file-gt-FILE_LIMIT.false (sym (c.can_be_right.ensures ∙ with_file _ _) ∙ c.if-not-can_be_right.false) _ c.total-end.ensures (sym c.ends_behind.ensures ∙ c.if-ends_behind.false) in
+    ((sym (c.can_be_right.ensures ∙ with_file _ _) ∙ c.if-not-can_be_right.false), within.0, within.1)
+
+pub returns : goal.returns
+returns c =
+    table_record _ _ _ _ _ (sym c.bad_size.ensures ∙ c.if-bad_size.false) c.if-file-gt-FILE_LIMIT.false (sym (c.can_be_right.ensures ∙ with_file _ _) ∙ c.if-not-can_be_right.false) _ c.total-end.ensures (sym c.ends_behind.ensures ∙ c.if-ends_behind.false) _ c.window.ensures
