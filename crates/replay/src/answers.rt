@@ -1,5 +1,5 @@
 // What the library answered, against the answer in the line.
-use crate::words::{Counted, WRONG, byte_at, bytes, next_if, number, sign};
+use crate::line_words::{Counted, WRONG, byte_at, bytes, next_if, number, sign};
 use mf4::Mf4WrittenReply;
 
 // A lent buffer is full of these, so that a byte written where none should be shows

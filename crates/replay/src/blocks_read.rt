@@ -1,7 +1,7 @@
 // Block headers and data lists, read.
 use crate::answers::{same_number, same_reply};
 use crate::kinds::HEADER_READ;
-use crate::words::{bytes, is_end, next_if, sign};
+use crate::line_words::{bytes, is_end, next_if, sign};
 use mf4::{Mf4Header, Mf4ListReply, mf4_read_header, mf4_read_list};
 
 pub(crate) fn same_header(line: &[u8], at: usize, given: Mf4Header) -> usize {

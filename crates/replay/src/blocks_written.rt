@@ -1,6 +1,6 @@
 // Block headers and data lists, written.
 use crate::answers::{FILL, same_written};
-use crate::words::{number, numbers, room, sign, small};
+use crate::line_words::{number, numbers, room, sign, small};
 use mf4::{Mf4Header, mf4_write_header, mf4_write_list_equal, mf4_write_list_variable};
 
 #[derive(Clone, Copy)]

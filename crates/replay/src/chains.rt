@@ -2,9 +2,9 @@
 ghost use Rattle.io.specs.Counts.{IsPrefixLen};
 
 use crate::answers::{FILL, same_left, same_reply};
-use crate::fields::{field_words, same_valid_value};
+use crate::field_reads::{field_words, same_valid_value};
 use crate::kinds::{RECORD, RECORD_VALUE};
-use crate::words::{bytes, next_if, number, room, sign};
+use crate::line_words::{bytes, next_if, number, room, sign};
 use mf4::{
     Mf4Channel, Mf4DoneReply, Mf4Group, Mf4ValidValueReply, mf4_decode_valid_value_unbounded,
     mf4_open_table, mf4_read_record, mf4_record_value, mf4_table_record, mf4_table_value,

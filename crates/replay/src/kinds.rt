@@ -4,12 +4,12 @@ use crate::blocks_written::{
     replay_header_write, replay_list_write_equal, replay_list_write_variable,
 };
 use crate::chains::replay_fetch;
-use crate::channels::{replay_channel_read, replay_channel_write};
-use crate::fields::replay_field;
-use crate::payloads::replay_record_payload;
+use crate::channel_blocks::{replay_channel_read, replay_channel_write};
+use crate::field_reads::replay_field;
+use crate::line_words::{WRONG, byte_at, past_blank};
+use crate::payload_reads::replay_record_payload;
 use crate::texts::replay_text;
 use crate::types::replay_type;
-use crate::words::{WRONG, byte_at, past_blank};
 use crate::written::replay_write;
 use std::io;
 

@@ -1,6 +1,6 @@
 // A file taken line by line, and what came of its lines.
 use crate::kinds::{UNKNOWN, kind_of, print_kind, replay};
-use crate::words::{WRONG, is_end, past_blank};
+use crate::line_words::{WRONG, is_end, past_blank};
 use std::io::Read;
 use std::rt::Files;
 use std::{fs, io};

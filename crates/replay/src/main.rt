@@ -33,14 +33,14 @@ mod answers;
 mod blocks_read;
 mod blocks_written;
 mod chains;
-mod channels;
-mod fields;
+mod channel_blocks;
+mod field_reads;
 mod kinds;
+mod line_words;
 mod lines;
-mod payloads;
+mod payload_reads;
 mod texts;
 mod types;
-mod words;
 mod written;
 
 use lines::{Run, replay_file, report};

@@ -1,6 +1,6 @@
 // Texts as UTF-8.
 use crate::answers::{FILL, same_number, same_output, same_refusal, same_reply};
-use crate::words::{WRONG, byte, bytes, next_if, room, sign};
+use crate::line_words::{WRONG, byte, bytes, next_if, room, sign};
 use mf4::{Mf4TextReply, mf4_text_latin1, mf4_text_utf8, mf4_text_utf16_be, mf4_text_utf16_le};
 
 fn written(code: u8, text: &[u8], out: &mut [u8]) -> Mf4TextReply {

@@ -1,6 +1,6 @@
 // Data types, by their codes.
 use crate::answers::same_number;
-use crate::words::{byte, sign};
+use crate::line_words::{byte, sign};
 use mf4::{mf4_default_bits, mf4_type_code};
 
 pub(crate) fn replay_type(line: &[u8], at: usize) -> usize {

@@ -1,7 +1,7 @@
 // Numbers written into a record.
 use crate::answers::{FILL, same_left, same_reply};
-use crate::fields::channel_words;
-use crate::words::{bytes, number, sign, small};
+use crate::field_reads::channel_words;
+use crate::line_words::{bytes, number, sign, small};
 use mf4::{Mf4Number, mf4_write_value};
 
 // The record stands at the front of a buffer, so that a byte written behind it shows

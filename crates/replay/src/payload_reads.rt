@@ -1,8 +1,8 @@
 // Payloads through a second chain.
 use crate::answers::{FILL, no_value, same_left, same_number, same_reply, same_value};
 use crate::chains::fetch_words;
-use crate::fields::field_words;
-use crate::words::{next_if, room};
+use crate::field_reads::field_words;
+use crate::line_words::{next_if, room};
 use mf4::{Mf4PayloadReply, mf4_record_payload};
 
 fn same_payload(line: &[u8], at: usize, given: Mf4PayloadReply) -> usize {

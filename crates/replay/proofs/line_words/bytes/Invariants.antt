@@ -1,6 +1,6 @@
--- At most as many numbers are read as the buffer has.
+-- At most as many bytes are read as the buffer has.
 use Rattle.std.proofs.Common.{◌≡◌, ◌-◌, ◌≤◌, length}
-use Rattle.replay.proofs.words.numbers.Given as goal
+use Rattle.replay.proofs.line_words.bytes.Given as goal
 
 abbrev pub invariant-loop-count : goal.invariant-loop-count
 invariant-loop-count l = (l.count ≤ length l.out) × (length l.out ≡ length l.initial.out)

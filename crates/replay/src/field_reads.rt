@@ -1,7 +1,7 @@
 // Values, validity and doubles of channels.
 use crate::answers::{no_value, same_field_reply, same_number, same_reply, same_value};
 use crate::kinds::{BOTH, BOUNDED_BOTH, BOUNDED_VALIDITY, VALIDITY, VALUE};
-use crate::words::{SmallRead, byte, bytes, next_if, number, sign, small};
+use crate::line_words::{SmallRead, byte, bytes, next_if, number, sign, small};
 use mf4::{
     Mf4Channel, Mf4Group, Mf4ValidValueReply, Mf4ValidityReply, mf4_check_validity,
     mf4_check_validity_unbounded, mf4_decode_double_bits, mf4_decode_valid_value,

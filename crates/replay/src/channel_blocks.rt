@@ -2,8 +2,8 @@
 use crate::answers::{FILL, same_number, same_reply, same_written};
 use crate::blocks_read::same_header;
 use crate::blocks_written::header_words;
-use crate::fields::channel_words;
-use crate::words::{byte, bytes, is_end, next_if, number, room, short, sign};
+use crate::field_reads::channel_words;
+use crate::line_words::{byte, bytes, is_end, next_if, number, room, short, sign};
 use mf4::{Mf4Channel, Mf4ChannelBlock, mf4_read_channel, mf4_write_channel};
 
 fn same_channel(line: &[u8], at: usize, given: Mf4Channel) -> usize {
