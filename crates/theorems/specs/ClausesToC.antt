@@ -59,7 +59,7 @@ use Rattle.mf4.proofs.mf4_check_validity_unbounded.Reads as check_unbounded
 use Rattle.mf4.proofs.mf4_decode_double_bits.Kinds as decode_double_kinds
 use Rattle.mf4.proofs.mf4_decode_double_bits.Reads as decode_double
 use Rattle.mf4.proofs.mf4_data_length.Kinds as data_length_kinds
-use Rattle.mf4.proofs.mf4_data_length.Reads as data_length_law
+use Rattle.mf4.proofs.mf4_data_length.Reads as data_length
 use Rattle.mf4.proofs.mf4_read_record.Kinds as read_record_kinds
 use Rattle.mf4.proofs.mf4_read_record.Reads as read_record
 use Rattle.mf4.proofs.mf4_record_value.Kinds as record_value_kinds
@@ -150,7 +150,7 @@ WritesValueC κs id_size channel value bytes y after =
 -- ---- the joined data, a record of it, and a value in that
 
 abbrev pub ReadsLengthC : Lfts 1 → Slice → ℕ → Mf4LengthReply → Type 0
-ReadsLengthC κs file start y = Allows 1 data_length_kinds.ps data_length_kinds.r data_length_law.Learnt κs (file, (start, tt)) y (tt, (tt, tt))
+ReadsLengthC κs file start y = Allows 1 data_length_kinds.ps data_length_kinds.r data_length.Learnt κs (file, (start, tt)) y (tt, (tt, tt))
 
 abbrev pub ReadsRecordC : Lfts 2 → Slice → ℕ → ℕ → ℕ → Buffer → Mf4DoneReply → List ℕ → Type 0
 ReadsRecordC κs file start number size out y after =
