@@ -2,7 +2,7 @@
 -- what the buffer holds afterwards.
 use Rattle.std.specs.Prelude.{ℕ, List, Bool}
 use contract.Lifetimes.{Lfts}
-use Rattle.mf4.specs.Clauses.{Slice, Buffer, Allows}
+use Rattle.mf4.specs.Clauses.{Slice, Room, Allows}
 use Rattle.blocks.specs.declared.header.BlockHeader.{BlockHeader}
 use Rattle.blocks.specs.declared.header.HeaderRead.{HeaderRead}
 use Rattle.data_types.specs.declared.data_type.DataType.{DataType}
@@ -87,24 +87,24 @@ use Rattle.report.proofs.report_channel.Reads as channel_report
 abbrev pub ReadsHeader : Lfts 1 → Slice → HeaderRead → Type 0
 ReadsHeader κs bytes y = Allows 1 header_read_kinds.ps header_read_kinds.r header_read.Learnt κs (bytes, tt) y (tt, tt)
 
-abbrev pub WritesHeader : Lfts 1 → BlockHeader → Buffer → Written → List ℕ → Type 0
+abbrev pub WritesHeader : Lfts 1 → BlockHeader → Room → Written → List ℕ → Type 0
 WritesHeader κs header out y after = Allows 1 header_write_kinds.ps header_write_kinds.r header_write.Learnt κs (header, (out, tt)) y (tt, (after, tt))
 
 abbrev pub ReadsList : Lfts 1 → Slice → ListRead → Type 0
 ReadsList κs bytes y = Allows 1 list_read_kinds.ps list_read_kinds.r list_read.Learnt κs (bytes, tt) y (tt, tt)
 
-abbrev pub WritesEqual : Lfts 2 → ℕ → Slice → ℕ → Buffer → Written → List ℕ → Type 0
+abbrev pub WritesEqual : Lfts 2 → ℕ → Slice → ℕ → Room → Written → List ℕ → Type 0
 WritesEqual κs next links length out y after =
     Allows 2 list_equal_kinds.ps list_equal_kinds.r list_equal.Learnt κs (next, (links, (length, (out, tt)))) y (tt, (tt, (tt, (after, tt))))
 
-abbrev pub WritesVariable : Lfts 3 → ℕ → Slice → Slice → Buffer → Written → List ℕ → Type 0
+abbrev pub WritesVariable : Lfts 3 → ℕ → Slice → Slice → Room → Written → List ℕ → Type 0
 WritesVariable κs next links offsets out y after =
     Allows 3 list_variable_kinds.ps list_variable_kinds.r list_variable.Learnt κs (next, (links, (offsets, (out, tt)))) y (tt, (tt, (tt, (after, tt))))
 
 abbrev pub ReadsChannel : Lfts 1 → Slice → ChannelRead → Type 0
 ReadsChannel κs bytes y = Allows 1 channel_read_kinds.ps channel_read_kinds.r channel_read.Learnt κs (bytes, tt) y (tt, tt)
 
-abbrev pub WritesChannel : Lfts 1 → ChannelBlock → Buffer → Written → List ℕ → Type 0
+abbrev pub WritesChannel : Lfts 1 → ChannelBlock → Room → Written → List ℕ → Type 0
 WritesChannel κs block out y after = Allows 1 channel_write_kinds.ps channel_write_kinds.r channel_write.Learnt κs (block, (out, tt)) y (tt, (after, tt))
 
 abbrev pub DescribesChannel : Lfts 0 → ChannelBlock → Channel → Type 0
@@ -120,7 +120,7 @@ GivesCode κs type y = Allows 0 type_code_kinds.ps type_code_kinds.r type_code.L
 
 -- ---- a text
 
-abbrev pub WritesText : Lfts 2 → Encoding → Slice → Buffer → TextWrite → List ℕ → Type 0
+abbrev pub WritesText : Lfts 2 → Encoding → Slice → Room → TextWrite → List ℕ → Type 0
 WritesText κs encoding bytes out y after =
     Allows 2 text_write_kinds.ps text_write_kinds.r text_write.Learnt κs (encoding, (bytes, (out, tt))) y (tt, (tt, (after, tt)))
 
@@ -150,7 +150,7 @@ abbrev pub ReadsDouble : Lfts 1 → Slice → ℕ → Channel → ℕ → Type 0
 ReadsDouble κs bytes id_size channel y =
     Allows 1 record_double_kinds.ps record_double_kinds.r record_double.Learnt κs (bytes, (id_size, (channel, tt))) y (tt, (tt, (tt, tt)))
 
-abbrev pub WritesValue : Lfts 1 → ℕ → Channel → NumberGiven → Buffer → ValueWritten → List ℕ → Type 0
+abbrev pub WritesValue : Lfts 1 → ℕ → Channel → NumberGiven → Room → ValueWritten → List ℕ → Type 0
 WritesValue κs id_size channel given bytes y after =
     Allows 1 value_write_kinds.ps value_write_kinds.r value_write.Learnt κs (id_size, (channel, (given, (bytes, tt)))) y (tt, (tt, (tt, (after, tt))))
 
@@ -162,12 +162,12 @@ ReadsLength κs file start y =
 
 -- ---- a record
 
-abbrev pub ReadsRecord : Lfts 2 → Slice → FileAddress → ℕ → ℕ → Buffer → RecordRead → List ℕ → Type 0
+abbrev pub ReadsRecord : Lfts 2 → Slice → FileAddress → ℕ → ℕ → Room → RecordRead → List ℕ → Type 0
 ReadsRecord κs file start number size out y after =
     Allows 2 record_read_kinds.ps record_read_kinds.r record_read.Learnt κs
     (file, (start, (number, (size, (out, tt))))) y (tt, (tt, (tt, (tt, (after, tt)))))
 
-abbrev pub ReadsRecordValue : Lfts 2 → Slice → FileAddress → ℕ → ℕ → Group → Channel → Buffer → ValidValueRead → List ℕ → Type 0
+abbrev pub ReadsRecordValue : Lfts 2 → Slice → FileAddress → ℕ → ℕ → Group → Channel → Room → ValidValueRead → List ℕ → Type 0
 ReadsRecordValue κs file start number size group channel out y after =
     Allows 2 record_value_kinds.ps record_value_kinds.r record_value.Learnt κs
     (file, (start, (number, (size, (group, (channel, (out, tt))))))) y
@@ -175,23 +175,23 @@ ReadsRecordValue κs file start number size group channel out y after =
 
 -- ---- a table, which is lent as a slice of its words
 
-abbrev pub OpensTable : Lfts 2 → Slice → FileAddress → Buffer → TableChanged → List ℕ → Type 0
+abbrev pub OpensTable : Lfts 2 → Slice → FileAddress → Room → TableChanged → List ℕ → Type 0
 OpensTable κs file start table y after =
     Allows 2 table_open_kinds.ps table_open_kinds.r table_open.Learnt κs (file, (start, (table, tt))) y (tt, (tt, (after, tt)))
 
-abbrev pub ExtendsTable : Lfts 2 → Slice → FileAddress → Buffer → TableChanged → List ℕ → Type 0
+abbrev pub ExtendsTable : Lfts 2 → Slice → FileAddress → Room → TableChanged → List ℕ → Type 0
 ExtendsTable κs file block table y after =
     Allows 2 table_extend_kinds.ps table_extend_kinds.r table_extend.Learnt κs (file, (block, (table, tt))) y (tt, (tt, (after, tt)))
 
-abbrev pub ShortensTable : Lfts 1 → Buffer → TableChanged → List ℕ → Type 0
+abbrev pub ShortensTable : Lfts 1 → Room → TableChanged → List ℕ → Type 0
 ShortensTable κs table y after = Allows 1 table_shorten_kinds.ps table_shorten_kinds.r table_shorten.Learnt κs (table, tt) y (after, tt)
 
-abbrev pub FetchesRecord : Lfts 3 → Slice → Slice → ℕ → ℕ → Buffer → RecordRead → List ℕ → Type 0
+abbrev pub FetchesRecord : Lfts 3 → Slice → Slice → ℕ → ℕ → Room → RecordRead → List ℕ → Type 0
 FetchesRecord κs file table number size out y after =
     Allows 3 table_record_kinds.ps table_record_kinds.r table_record.Learnt κs
     (file, (table, (number, (size, (out, tt))))) y (tt, (tt, (tt, (tt, (after, tt)))))
 
-abbrev pub FetchesValue : Lfts 3 → Slice → Slice → ℕ → ℕ → Group → Channel → Buffer → ValidValueRead → List ℕ → Type 0
+abbrev pub FetchesValue : Lfts 3 → Slice → Slice → ℕ → ℕ → Group → Channel → Room → ValidValueRead → List ℕ → Type 0
 FetchesValue κs file table number size group channel out y after =
     Allows 3 table_value_kinds.ps table_value_kinds.r table_value.Learnt κs
     (file, (table, (number, (size, (group, (channel, (out, tt))))))) y
@@ -199,7 +199,7 @@ FetchesValue κs file table number size group channel out y after =
 
 -- ---- a payload
 
-abbrev pub ReadsPayload : Lfts 3 → Slice → FileAddress → ℕ → ℕ → Group → Channel → Buffer → Buffer → PayloadRead → List ℕ → List ℕ → Type 0
+abbrev pub ReadsPayload : Lfts 3 → Slice → FileAddress → ℕ → ℕ → Group → Channel → Room → Room → PayloadRead → List ℕ → List ℕ → Type 0
 ReadsPayload κs file start number size group channel out room y after later =
     Allows 3 record_payload_kinds.ps record_payload_kinds.r record_payload.Learnt κs
     (file, (start, (number, (size, (group, (channel, (out, (room, tt)))))))) y
@@ -207,7 +207,7 @@ ReadsPayload κs file start number size group channel out room y after later =
 
 -- ---- a report
 
-abbrev pub ReportsChannel : Lfts 2 → Slice → FileAddress → ℕ → Group → Channel → Buffer → ReportRead → List ℕ → Type 0
+abbrev pub ReportsChannel : Lfts 2 → Slice → FileAddress → ℕ → Group → Channel → Room → ReportRead → List ℕ → Type 0
 ReportsChannel κs file start size group channel out y after =
     Allows 2 channel_report_kinds.ps channel_report_kinds.r channel_report.Learnt κs
     (file, (start, (size, (group, (channel, (out, tt)))))) y

@@ -12,7 +12,7 @@ use Rattle.table.specs.declared.layout.TableChanged.{TableChanged}
 use Rattle.block_replies.specs.Replies.{Returned}
 use Rattle.replies.specs.declared.done.Mf4DoneReply.{Mf4DoneReply}
 use Rattle.replies.proofs.ToldToC.{done_again}
-use Rattle.mf4.specs.Clauses.{Slice, Buffer}
+use Rattle.mf4.specs.Clauses.{Slice, Room}
 use Rattle.theorems.specs.Clauses.{OpensTable, ExtendsTable, ShortensTable}
 use Rattle.theorems.specs.ClausesToC.{OpensTableC, ExtendsTableC, ShortensTableC}
 use Rattle.theorems.specs.Histories.{Afresh, Operation, opens, extends, shortens, addresses_of, Runs}
@@ -24,7 +24,7 @@ abbrev Holding : List ℕ → Type 0
 Holding l = (s : Slice) × (s.now ≡ l)
 
 abbrev Lent : List ℕ → Type 0
-Lent l = (s : Buffer) × (s.now ≡ l)
+Lent l = (s : Room) × (s.now ≡ l)
 
 -- a reply and a table that a call leaves, over the file f: of the library
 abbrev pub ByCalls : List ℕ → Operation → List ℕ → Reply (Unit {0}) → List ℕ → Type 0

@@ -23,7 +23,7 @@ use Rattle.encoder.specs.declared.number.NumberGiven.{NumberGiven}
 use Rattle.encoder.specs.declared.encode.ValueWritten.{ValueWritten}
 use Rattle.encoder.specs.declared.encode.ValueWritten.TheVariants.{Done}
 use Rattle.encoder.proofs.Back.{written_one}
-use Rattle.mf4.specs.Clauses.{Slice, Buffer}
+use Rattle.mf4.specs.Clauses.{Slice, Room}
 use Rattle.theorems.specs.Clauses.{ReadsValue, ChecksValidity, ChecksBoundedValidity, ReadsDouble, WritesValue}
 use Rattle.theorems.specs.Exactly.{Exactly, Writable}
 use Rattle.theorems.specs.WrittenValue.{WrittenEnds, IsNumber, Sized, DecodesTo, SameOutside}
@@ -31,7 +31,7 @@ use Rattle.theorems.proofs.Writing.WrittenEnds.{value_ends, written_exactly}
 use Rattle.theorems.proofs.Writing.WrittenValues.{written_decoded, outside_kept, decoded_written}
 use Rattle.theorems.proofs.Calls.AnswersByCalls.{exactly, of_outcome}
 
-module _ (κs : Lfts 1) (id_size : ℕ) (channel : Channel) (given : NumberGiven) (bytes : Buffer) (y : ValueWritten) (after : List ℕ)
+module _ (κs : Lfts 1) (id_size : ℕ) (channel : Channel) (given : NumberGiven) (bytes : Room) (y : ValueWritten) (after : List ℕ)
     (p : WritesValue κs id_size channel given bytes y after)
   where
     same_buffer : after ≡ (value_written bytes.now id_size (channel_meant channel) (given_meant given)).buffer

@@ -30,7 +30,7 @@ use Rattle.replies.specs.declared.values.Mf4ValueReply.{Mf4ValueReply}
 use Rattle.replies.specs.declared.validity.Mf4ValidityReply.{Mf4ValidityReply}
 use Rattle.replies.specs.declared.stored.Mf4Number.{Mf4Number}
 use Rattle.replies.specs.declared.done.Mf4DoneReply.{Mf4DoneReply}
-use Rattle.mf4.specs.Clauses.{Slice, Buffer}
+use Rattle.mf4.specs.Clauses.{Slice, Room}
 use Rattle.theorems.specs.ClausesToC.{ReadsValueC, ChecksValidityC, ChecksUnboundedC, ReadsDoubleC, WritesValueC}
 use Rattle.theorems.specs.Exactly.{ExactlyZero, Takes, Writable}
 use Rattle.theorems.specs.WrittenValue.{WrittenEnds, IsNumber, Sized, DecodesTo, SameOutside}
@@ -110,7 +110,7 @@ number_sized kind number l = go (eqb kind 1) (eqb kind 2) (eqb kind 3)
 
 -- ---- the call
 
-module _ (κs : Lfts 1) (id_size : ℕ) (channel : Mf4Channel) (value : Mf4Number) (bytes : Buffer) (y : Mf4DoneReply) (after : List ℕ)
+module _ (κs : Lfts 1) (id_size : ℕ) (channel : Mf4Channel) (value : Mf4Number) (bytes : Room) (y : Mf4DoneReply) (after : List ℕ)
     (p : WritesValueC κs id_size channel value bytes y after)
   where
     same_buffer : after ≡ (value_written bytes.now id_size (channel_given channel) (number_given value)).buffer
