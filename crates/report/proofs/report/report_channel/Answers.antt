@@ -1,0 +1,101 @@
+-- Each test in turn, and then the line.
+use mathlib.Core.Path.{◌≡◌, sym, ap, ap₂, subst, ◌∙◌}
+use Prim.Native.Nat.{ℕ, ◌/◌}
+use native.Mathlib.Omega.{arith}
+use lib.ListN.{length, take}
+use lib.Seq.{length-take-le}
+use Rattle.definitions.specs.Reply.{answer}
+use Rattle.definitions.specs.Channel.{area_of}
+use Rattle.definitions.specs.Chain.{id_dt, data_length, joined}
+use Rattle.definitions.specs.Report.{first_records, readings, report_of, last_record_in}
+use Rattle.fields.specs.Meaning.{channel_meant, group_meant, area_reply}
+use Rattle.chain.specs.Meaning.{located_reply}
+use Rattle.chain.specs.Walk.{Walked}
+use Rattle.records.proofs.Records.{size_good, data_whole}
+use Rattle.report.proofs.Reporting.{report_bad, report_refused_law, report_other, report_outside, report_line, lined_back}
+use Rattle.report.proofs.report.report_channel.Goals as goal
+
+pub returns-then-bad_size : goal.returns-then-bad_size
+returns-then-bad_size c =
+    let a = c.args in
+    (report_bad a.file.now a.start.0 a.record_size (group_meant a.group) (channel_meant a.channel) a.buffer.now (sym c.bad_size.ensures ∙ c.if-bad_size.true), tt)
+
+-- a refused chain is handed on
+pub returns-in_default : goal.returns-in_default
+unfolding data_length
+returns-in_default c =
+    let a = c.args in (
+      report_refused_law a.file.now a.start.0 a.record_size (group_meant a.group) (channel_meant a.channel) a.buffer.now (sym c.bad_size.ensures ∙ c.if-bad_size.false) _ _
+          (sym c.locate_data-found.ensures.replied ∙ ap located_reply c.refusal.ensures),
+      tt,
+    )
+
+pub returns-then-not-is_fixed_number : goal.returns-then-not-is_fixed_number
+unfolding data_length
+returns-then-not-is_fixed_number c =
+    let a = c.args in
+    let total : data_length c.args.file.now c.args.start.0 ≡ answer c.in-Whole.total.0 = sym c.locate_data-found.ensures.replied ∙ ap located_reply c.in-Whole.is in (
+      report_other a.file.now a.start.0 a.record_size (group_meant a.group) (channel_meant a.channel) a.buffer.now (sym c.bad_size.ensures ∙ c.if-bad_size.false) _ total
+          (sym c.is_fixed_number.ensures ∙ c.if-not-is_fixed_number.true),
+      tt,
+    )
+
+pub returns-in_default-area : goal.returns-in_default-area
+unfolding data_length
+returns-in_default-area c =
+    let a = c.args in
+    let total : data_length c.args.file.now c.args.start.0 ≡ answer c.in-Whole.total.0 = sym c.locate_data-found.ensures.replied ∙ ap located_reply c.in-Whole.is in (
+      report_outside a.file.now a.start.0 a.record_size (group_meant a.group) (channel_meant a.channel) a.buffer.now (sym c.bad_size.ensures ∙ c.if-bad_size.false) _ total
+          (sym c.is_fixed_number.ensures ∙ c.if-not-is_fixed_number.false) _ _ (sym c.check_area-area.ensures ∙ ap area_reply c.refusal-in_default-area.ensures),
+      tt,
+    )
+
+pub nonzero_div-n : goal.nonzero_div-n
+nonzero_div-n c = (size_good c.args.record_size (length c.args.buffer.now) (sym c.bad_size.ensures ∙ c.if-bad_size.false)).0
+
+pub slice_bounds-report_records-end : goal.slice_bounds-report_records-end
+slice_bounds-report_records-end c = (size_good c.args.record_size (length c.args.buffer.now) (sym c.bad_size.ensures ∙ c.if-bad_size.false)).1
+
+-- the front of the buffer is as long as a record
+pub slice_bounds-report_records-end-2 : goal.slice_bounds-report_records-end-2
+slice_bounds-report_records-end-2 c = sym (length-take-le _ _ (size_good c.args.record_size (length c.args.buffer.now) (sym c.bad_size.ensures ∙ c.if-bad_size.false)).1)
+
+-- the walk begins where the data does, with so many whole records; 28 and 29 are passed
+pub report_records-report-requires : goal.report_records-report-requires
+unfolding data_length
+report_records-report-requires c =
+    let a = c.args in
+    let front = length-take-le _ _ (size_good a.record_size (length a.buffer.now) (sym c.bad_size.ensures ∙ c.if-bad_size.false)).1 in
+    let total : data_length c.args.file.now c.args.start.0 ≡ answer c.in-Whole.total.0 = sym c.locate_data-found.ensures.replied ∙ ap located_reply c.in-Whole.is in
+    let kept = c.locate_data-found.ensures.place _ _ c.in-Whole.is in
+    let whole = data_whole a.file.now a.start.0 _ total in
+    let walked : Walked id_dt a.file.now c.in-Whole.place = record { start = a.start.0; before = kept.0; blocks = whole.1; at = kept.1; whole = whole.2 } in
+    let records : c.in-Whole.total.0 / a.record_size ≡ length (joined a.file.now whole.1) / length (take a.record_size a.buffer.now) =
+    ap₂ (λ (n size : ℕ). n / size) (sym whole.3) (sym front) in (
+      (walked, records),
+      omega (arith, kept.2),
+      sym c.is_fixed_number.ensures ∙ c.if-not-is_fixed_number.false,
+      subst (λ (n : ℕ). area_of n (group_meant a.group) (channel_meant a.channel) ≡ answer tt) (sym front) (sym c.check_area-area.ensures ∙ ap area_reply c.in-Inside.is),
+    )
+
+pub returns : goal.returns
+unfolding data_length
+returns c =
+    let a = c.args in
+    let g = group_meant a.group in
+    let ch = channel_meant a.channel in
+    let front = length-take-le _ _ (size_good a.record_size (length a.buffer.now) (sym c.bad_size.ensures ∙ c.if-bad_size.false)).1 in
+    let total : data_length c.args.file.now c.args.start.0 ≡ answer c.in-Whole.total.0 = sym c.locate_data-found.ensures.replied ∙ ap located_reply c.in-Whole.is in
+    let kept = c.locate_data-found.ensures.place _ _ c.in-Whole.is in
+    let whole = data_whole a.file.now a.start.0 _ total in
+    let walked : Walked id_dt a.file.now c.in-Whole.place = record { start = a.start.0; before = kept.0; blocks = whole.1; at = kept.1; whole = whole.2 } in
+    let records : c.in-Whole.total.0 / a.record_size ≡ length (joined a.file.now whole.1) / length (take a.record_size a.buffer.now) =
+    ap₂ (λ (n size : ℕ). n / size) (sym whole.3) (sym front) in
+    let j = joined a.file.now whole.1 in
+    let k = c.in-Whole.total.0 / a.record_size in
+    let line = c.report_records-report.ensures walked records in
+    lined_back c.lined.result c.report_records-report.result c.lined.ensures
+    (report_line a.file.now a.start.0 a.record_size g ch a.buffer.now (sym c.bad_size.ensures ∙ c.if-bad_size.false) _ total (sym c.is_fixed_number.ensures ∙ c.if-not-is_fixed_number.false)
+    (sym c.check_area-area.ensures ∙ ap area_reply c.in-Inside.is) k (ap (λ (n : ℕ). n / a.record_size) (sym whole.3)) _ _
+    (line.0 ∙ ap (λ (size : ℕ). report_of (readings g ch (first_records k size j))) front)
+    (line.1 ∙ ap (λ (size : ℕ). last_record_in k size j (take a.record_size a.buffer.now)) front))

@@ -1,0 +1,21 @@
+-- On whichever accepted chain the walk began, the loop is on its way there, and the tally is that of the records in the blocks
+-- so far, but for the bytes that wait in the buffer.
+use mathlib.Core.Path.{◌≡◌}
+use Prim.Native.Nat.{◌<◌}
+use lib.ListN.{length}
+use Rattle.definitions.specs.Chain.{joined}
+use Rattle.chain.specs.Walk.{Walked}
+use Rattle.chain.proofs.Walks.{turns_left}
+use Rattle.tally.specs.Tallies.{Sane}
+use Rattle.report.specs.Visits.{Held, visited}
+use Rattle.report.proofs.walk.tally_records.Given as goal
+
+abbrev pub invariant-loop-place : goal.invariant-loop-place
+invariant-loop-place l =
+    (length l.buffer ≡ length l.initial.buffer)
+    × Sane l.tally
+    × (l.fill < l.size)
+    × ((w : Walked l.id l.file l.initial.place) → (v : Walked l.id l.file l.place) × (v.blocks ≡ w.blocks) × Held (visited l.slot) l.size l.initial.tally (joined l.file v.before) l.buffer l.tally l.fill)
+
+abbrev pub decreases-loop-place : goal.decreases-loop-place
+decreases-loop-place l = turns_left l.place
