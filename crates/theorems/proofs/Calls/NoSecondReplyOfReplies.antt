@@ -1,7 +1,6 @@
 -- No public function of `replies` has a second result: what C is told of an answer, and what is taken for what C gives.
 use mathlib.Core.Path.{◌≡◌, refl, sym, ap, ◌∙◌}
 use Rattle.definitions.specs.Reply.{answer}
-use Rattle.definitions.specs.Channel as channels
 use Rattle.definitions.specs.WrittenValue.{Given, given_unsigned, given_signed, given_double, given_other}
 use Rattle.definitions.proofs.Replies.{one_by}
 use Rattle.blocks.specs.Meaning.{header_meant}

@@ -1,9 +1,8 @@
 -- How the library's call that fetches a payload ends, and when it answers: about the call's own clause.
-use mathlib.Core.Path.{◌≡◌, sym, ap, subst}
+use mathlib.Core.Path.{sym, ap, subst}
 use mathlib.Core.List.{List}
 use Prim.Native.Nat.{ℕ}
 use contract.Lifetimes.{Lfts}
-use Rattle.definitions.specs.Reply.{Reply}
 use Rattle.definitions.specs.Payload.{PayloadValue, Outcomes}
 use Rattle.mf4.specs.Clauses.{Slice, Room}
 use Rattle.fields.specs.Meaning.{channel_meant, group_meant}

@@ -6,7 +6,7 @@ use Prim.Native.Nat.{ℕ}
 use contract.Lifetimes.{Lfts}
 use Rattle.definitions.specs.Reply.{Outcome, answer}
 use Rattle.definitions.specs.Chain.{joined}
-use Rattle.definitions.specs.Report.{Report, reported}
+use Rattle.definitions.specs.Report.{Report}
 use Rattle.fields.specs.Meaning.{channel_meant, group_meant}
 use Rattle.fields.specs.declared.channel.Channel.{Channel}
 use Rattle.fields.specs.declared.group.Group.{Group}

@@ -1,6 +1,6 @@
 -- Which numbers the refusals of a table have: 30 to 32 and those of blocks, chains and records, and of a value through it also the
 -- field's; so a reply of 0 is an answer. About the definitions, and about the clauses of the calls; and what C is told.
-use mathlib.Core.Path.{◌≡◌, refl, sym, ap, ◌∙◌}
+use mathlib.Core.Path.{◌≡◌, refl, sym, ap}
 use mathlib.Core.Logic.{◌⊎◌, inl, inr, ⊎_elim}
 use mathlib.Core.Bool.{true, not, ◌&&◌, true≢false}
 use mathlib.Core.List.{List}
