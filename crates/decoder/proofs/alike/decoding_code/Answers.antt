@@ -1,6 +1,5 @@
 use mathlib.Core.Path.{◌≡◌, refl, sym, ap, ◌∙◌}
 use Prim.Native.Nat.{ℕ}
-use borrow.Author.Rules.{rules}
 use Rattle.definitions.specs.DataType.{type_of, code_of}
 use Rattle.data_types.specs.Meaning.{type_meant}
 use Rattle.data_types.specs.declared.data_type.DataType.{DataType}

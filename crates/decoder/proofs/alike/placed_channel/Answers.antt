@@ -1,4 +1,3 @@
-use borrow.Author.Rules.{rules}
 use Rattle.decoder.proofs.alike.placed_channel.Goals as goal
 
 pub returns : goal.returns

@@ -1,5 +1,4 @@
 -- The general way, with the validity.
-use borrow.Author.Rules.{rules}
 use Rattle.decoder.proofs.Judged.{bounded_as}
 use Rattle.decoder.proofs.decode.any_bounded_value.Goals as goal
 

@@ -1,6 +1,5 @@
 -- What is said of validity does not matter to the value, nor the code that an unknown type carries.
 use mathlib.Core.Path.{refl, sym, ◌∙◌}
-use borrow.Author.Rules.{rules}
 use Rattle.definitions.specs.DataType.{type_of}
 use Rattle.fields.specs.Meaning.{channel_meant}
 use Rattle.decoder.proofs.LaidAnew.{laid_anew}

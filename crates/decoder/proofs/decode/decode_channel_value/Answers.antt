@@ -1,9 +1,6 @@
 -- A payload, and what no word holds, goes the general way; a word's number has its value.
-use borrow.Author.Rules.{rules}
-use mathlib.Core.Path.{◌≡◌, sym, ◌∙◌}
-use mathlib.Core.Bool.{false}
+use mathlib.Core.Path.{sym, ◌∙◌}
 use native.Mathlib.Omega.{arith}
-use Rattle.definitions.specs.Channel.{variable_length}
 use Rattle.fields.specs.Meaning.{channel_meant}
 use Rattle.decoder.proofs.WordFields.{some_bits, word_number, near_valued}
 use Rattle.decoder.proofs.decode.decode_channel_value.Goals as goal

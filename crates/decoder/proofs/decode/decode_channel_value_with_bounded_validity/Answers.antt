@@ -1,9 +1,6 @@
 -- The ways to the value, each with the validity.
-use borrow.Author.Rules.{rules}
-use mathlib.Core.Path.{◌≡◌, sym, ◌∙◌}
-use mathlib.Core.Bool.{false}
+use mathlib.Core.Path.{sym, ◌∙◌}
 use native.Mathlib.Omega.{arith}
-use Rattle.definitions.specs.Channel.{variable_length}
 use Rattle.fields.specs.Meaning.{channel_meant}
 use Rattle.decoder.proofs.Judged.{bounded_as}
 use Rattle.decoder.proofs.WordFields.{some_bits, word_number, near_valued}

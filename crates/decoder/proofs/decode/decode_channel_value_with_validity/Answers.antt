@@ -1,5 +1,4 @@
 -- The general way, with the crate's validity.
-use borrow.Author.Rules.{rules}
 use Rattle.decoder.proofs.Judged.{judged_as}
 use Rattle.decoder.proofs.decode.decode_channel_value_with_validity.Goals as goal
 

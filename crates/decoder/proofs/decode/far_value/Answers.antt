@@ -1,5 +1,4 @@
 -- The field that was found gives the value, and a refusal is handed on.
-use borrow.Author.Rules.{rules}
 use Rattle.fields.proofs.Values.{sound_at, handed_on, valued}
 use Rattle.decoder.proofs.LaidAnew.{value_placed}
 use Rattle.decoder.proofs.decode.far_value.Goals as goal

@@ -1,5 +1,4 @@
 -- A refusal is handed on, the value's first.
-use borrow.Author.Rules.{rules}
 use Rattle.decoder.proofs.Judged.{no_value, no_validity, with_validity}
 use Rattle.decoder.proofs.decode.judged.Goals as goal
 

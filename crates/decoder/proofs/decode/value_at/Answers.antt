@@ -1,9 +1,6 @@
 -- A number by its field, anything else by its bytes.
-use borrow.Author.Rules.{rules}
 use mathlib.Core.Path.{ap, ◌∙◌}
-use Rattle.fields.specs.Meaning.{channel_meant}
-use Rattle.fields.specs.Form.{number_kind, number_value}
-use Rattle.fields.specs.Known.{Sound}
+use Rattle.fields.specs.Form.{number_value}
 use Rattle.fields.proofs.Fields.{number_sound, readable, fitting}
 use Rattle.decoder.proofs.decode.value_at.Goals as goal
 

@@ -1,13 +1,7 @@
 -- The field that was found gives the double, and NaN stands for a refusal.
-use borrow.Author.Rules.{rules}
-use mathlib.Core.Path.{◌≡◌, refl, sym, ap, ◌∙◌}
+use mathlib.Core.Path.{refl, sym, ap, ◌∙◌}
 use mathlib.Core.Bool.{false}
-use Prim.Native.Nat.{◌+◌}
-use Rattle.definitions.specs.Channel.{variable_length, value_of, double_in}
-use Rattle.data_types.specs.Meaning.{type_meant}
-use Rattle.fields.specs.Meaning.{channel_meant}
-use Rattle.fields.specs.Form.{form_of, number_kind}
-use Rattle.fields.specs.Known.{value_at}
+use Rattle.definitions.specs.Channel.{double_in}
 use Rattle.fields.specs.declared.form.Form.TheVariants.{Number}
 use Rattle.fields.proofs.Fields.{readable, fitting}
 use Rattle.fields.proofs.Values.{looked_for, sound_at}
@@ -22,7 +16,7 @@ returns-in_default c = double_other _ _ _ (sym c.is_variable_length.ensures ∙ 
 
 pub returns-in_default-found : goal.returns-in_default-found
 returns-in_default-found c =
-    double_refused c.find_field-found.ensures.0 c.in_default-found.is ∙ ( ap double_in (looked_for _ _ _ {form = Number c.in-Number.number c.in-Number.big_endian} {payload = false} (sym (sym c.form_of-form.ensures ∙ c.in-Number.is)) (sym (sym c.is_variable_length.ensures ∙ c.if-is_variable_length.false)) refl refl)) ∙ double_fixed _ _ _ (sym c.is_variable_length.ensures ∙ c.if-is_variable_length.false)
+    double_refused c.find_field-found.ensures.0 c.in_default-found.is ∙ (ap double_in (looked_for _ _ _ {form = Number c.in-Number.number c.in-Number.big_endian} {payload = false} (sym (sym c.form_of-form.ensures ∙ c.in-Number.is)) (sym (sym c.is_variable_length.ensures ∙ c.if-is_variable_length.false)) refl refl)) ∙ double_fixed _ _ _ (sym c.is_variable_length.ensures ∙ c.if-is_variable_length.false)
 
 pub number_at-x-requires : goal.number_at-x-requires
 number_at-x-requires c =
@@ -35,4 +29,4 @@ number_double-requires c =
 pub returns : goal.returns
 returns c =
     double_found c.find_field-found.ensures.0 c.in-Field.is (sym c.form_of-form.ensures ∙ c.in-Number.is) c.number_at-x.ensures c.number_double.ensures
-    ∙ ( ap double_in (looked_for _ _ _ {form = Number c.in-Number.number c.in-Number.big_endian} {payload = false} (sym (sym c.form_of-form.ensures ∙ c.in-Number.is)) (sym (sym c.is_variable_length.ensures ∙ c.if-is_variable_length.false)) refl refl)) ∙ double_fixed _ _ _ (sym c.is_variable_length.ensures ∙ c.if-is_variable_length.false)
+    ∙ (ap double_in (looked_for _ _ _ {form = Number c.in-Number.number c.in-Number.big_endian} {payload = false} (sym (sym c.form_of-form.ensures ∙ c.in-Number.is)) (sym (sym c.is_variable_length.ensures ∙ c.if-is_variable_length.false)) refl refl)) ∙ double_fixed _ _ _ (sym c.is_variable_length.ensures ∙ c.if-is_variable_length.false)

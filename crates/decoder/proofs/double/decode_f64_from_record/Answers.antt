@@ -1,9 +1,6 @@
 -- A payload has no double, nor has a number that no field can be; else a word holds the field, or it is found as any field is.
-use borrow.Author.Rules.{rules}
-use mathlib.Core.Path.{◌≡◌, sym, ◌∙◌}
-use mathlib.Core.Bool.{false}
+use mathlib.Core.Path.{sym, ◌∙◌}
 use native.Mathlib.Omega.{arith}
-use Rattle.definitions.specs.Channel.{variable_length}
 use Rattle.fields.specs.Meaning.{channel_meant}
 use Rattle.decoder.proofs.Doubles.{double_payload}
 use Rattle.decoder.proofs.LaidAnew.{far_taken}

@@ -1,5 +1,4 @@
 use mathlib.Core.Path.{ap, ◌∙◌}
-use borrow.Author.Rules.{rules}
 use Rattle.definitions.specs.Channel.{record_double}
 use Rattle.decoder.proofs.double.far_double.Goals as goal
 

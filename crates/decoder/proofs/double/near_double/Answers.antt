@@ -1,8 +1,6 @@
 -- Each type of a number by itself: the load is that of the field, and the double that of its number.
-use borrow.Author.Rules.{rules}
 use mathlib.Core.Path.{◌≡◌, refl, ap}
 use mathlib.Core.Bool.{true, false}
-use Prim.Native.Nat.{ℕ}
 use Rattle.data_types.specs.Meaning.{type_meant}
 use Rattle.encodings.specs.declared.encoding.Encoding.TheVariants.{Latin1, Utf8, Utf16Le, Utf16Be}
 use Rattle.data_types.specs.declared.data_type.DataType.{DataType}

@@ -1,5 +1,4 @@
 -- A field of 64 bits is a pattern already, and one of 32 widens.
-use borrow.Author.Rules.{rules}
 use borrow.Author.Tests.{ne_eqb}
 use mathlib.Core.Path.{subst}
 use Prim.Native.Nat.{ℕ, ◌^◌, ◌<◌}

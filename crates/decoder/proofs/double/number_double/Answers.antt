@@ -1,5 +1,4 @@
 -- Each class of numbers by itself.
-use borrow.Author.Rules.{rules}
 use Rattle.fields.proofs.Fields.{same_number, narrow}
 use Rattle.decoder.proofs.double.number_double.Goals as goal
 

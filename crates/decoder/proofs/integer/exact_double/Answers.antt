@@ -1,5 +1,4 @@
 -- An integer's double is no NaN.
-use borrow.Author.Rules.{rules}
 use Rattle.decoder.proofs.Doubles.{no_nan}
 use Rattle.decoder.proofs.integer.exact_double.Goals as goal
 

@@ -1,5 +1,4 @@
 -- Up to 53 bits an integer is a double as it is.
-use borrow.Author.Rules.{rules}
 use mathlib.Core.Path.{ap, ◌∙◌}
 use Rattle.definitions.specs.Ieee754.{double_of}
 use Rattle.decoder.proofs.ExactIntegers.{unsigned_exact, unsigned_small, unsigned_back}

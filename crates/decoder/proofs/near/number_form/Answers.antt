@@ -1,5 +1,4 @@
 -- Each test in turn: what fails one is no number of a width that has a value.
-use borrow.Author.Rules.{rules}
 use Rattle.data_types.specs.Meaning.{type_meant}
 use Rattle.decoder.proofs.WordFields.{sized, other_type, other_width, without_any}
 use Rattle.decoder.proofs.near.number_form.Goals as goal

@@ -20,14 +20,17 @@ returns-in_default c =
 pub returns-then-count-ge-TABLE_LIMIT : goal.returns-then-count-ge-TABLE_LIMIT
 returns-then-count-ge-TABLE_LIMIT c =
     let a = c.args in
-    extend_full a.file.now a.table.now a.address.0 c.if-file-gt-FILE_LIMIT.false _ c.can_be_right.ensures c.if-not-can_be_right.false _ (sym c.data_block_at-read.ensures ∙ ap block_reply c.in-Block.is) _ c.count.ensures c.if-count-ge-TABLE_LIMIT.true
+    let block = sym c.data_block_at-read.ensures ∙ ap block_reply c.in-Block.is in
+    extend_full a.file.now a.table.now a.address.0 c.if-file-gt-FILE_LIMIT.false _ c.can_be_right.ensures c.if-not-can_be_right.false _ block _ c.count.ensures c.if-count-ge-TABLE_LIMIT.true
 
 pub add-requires : goal.add-requires
 add-requires c =
     let a = c.args in
-    extend_asks a.file.now a.table.now a.address.0 c.if-file-gt-FILE_LIMIT.false _ c.can_be_right.ensures c.if-not-can_be_right.false _ (sym c.data_block_at-read.ensures ∙ ap block_reply c.in-Block.is) _ c.count.ensures c.if-count-ge-TABLE_LIMIT.false
+    let block = sym c.data_block_at-read.ensures ∙ ap block_reply c.in-Block.is in
+    extend_asks a.file.now a.table.now a.address.0 c.if-file-gt-FILE_LIMIT.false _ c.can_be_right.ensures c.if-not-can_be_right.false _ block _ c.count.ensures c.if-count-ge-TABLE_LIMIT.false
 
 pub returns : goal.returns
 returns c =
     let a = c.args in
-    extend_done a.file.now a.table.now a.address.0 c.if-file-gt-FILE_LIMIT.false _ c.can_be_right.ensures c.if-not-can_be_right.false _ (sym c.data_block_at-read.ensures ∙ ap block_reply c.in-Block.is) _ c.count.ensures c.if-count-ge-TABLE_LIMIT.false _ c.add.ensures
+    let block = sym c.data_block_at-read.ensures ∙ ap block_reply c.in-Block.is in
+    extend_done a.file.now a.table.now a.address.0 c.if-file-gt-FILE_LIMIT.false _ c.can_be_right.ensures c.if-not-can_be_right.false _ block _ c.count.ensures c.if-count-ge-TABLE_LIMIT.false _ c.add.ensures

@@ -20,7 +20,7 @@ returns-then-not-can_be_right c =
     table_unsound _ _ _ _ _ (sym c.bad_size.ensures ∙ c.if-bad_size.false) c.if-file-gt-FILE_LIMIT.false _ c.can_be_right.ensures c.if-not-can_be_right.true
 
 pub ends_behind-requires : goal.ends_behind-requires
-ends_behind-requires c = (let a = c.args in size_good a.record_size (length a.buffer.now) (sym c.bad_size.ensures ∙ c.if-bad_size.false)).0
+ends_behind-requires c = (size_good c.args.record_size (length c.args.buffer.now) (sym c.bad_size.ensures ∙ c.if-bad_size.false)).0
 
 pub returns-then-ends_behind : goal.returns-then-ends_behind
 returns-then-ends_behind c =
@@ -32,16 +32,17 @@ overflow_mul-from c =
     omega (arith, ltb-false c.total-end.result.0 (a.number * a.record_size + a.record_size) (sym c.ends_behind.ensures ∙ c.if-ends_behind.false))
 
 pub slice_bounds-window-end : goal.slice_bounds-window-end
-slice_bounds-window-end c = (let a = c.args in size_good a.record_size (length a.buffer.now) (sym c.bad_size.ensures ∙ c.if-bad_size.false)).1
+slice_bounds-window-end c = (size_good c.args.record_size (length c.args.buffer.now) (sym c.bad_size.ensures ∙ c.if-bad_size.false)).1
 
 pub slice_bounds-window-end-2 : goal.slice_bounds-window-end-2
-slice_bounds-window-end-2 c = sym (length-take-le _ _ (let a = c.args in size_good a.record_size (length a.buffer.now) (sym c.bad_size.ensures ∙ c.if-bad_size.false)).1)
+slice_bounds-window-end-2 c = sym (length-take-le _ _ (size_good c.args.record_size (length c.args.buffer.now) (sym c.bad_size.ensures ∙ c.if-bad_size.false)).1)
 
 pub window-requires : goal.window-requires
 window-requires c =
     let a = c.args in
-    let within = table_within a.file.now a.table.now a.number a.record_size a.buffer.now (sym c.bad_size.ensures ∙ c.if-bad_size.false) c.if-file-gt-FILE_LIMIT.false (sym (c.can_be_right.ensures ∙ with_file _ _) ∙ c.if-not-can_be_right.false) _ c.total-end.ensures (sym c.ends_behind.ensures ∙ c.if-ends_behind.false) in
-    ((sym (c.can_be_right.ensures ∙ with_file _ _) ∙ c.if-not-can_be_right.false), within.0, within.1)
+    let believed = sym (c.can_be_right.ensures ∙ with_file _ _) ∙ c.if-not-can_be_right.false in
+    let within = table_within a.file.now a.table.now a.number a.record_size a.buffer.now (sym c.bad_size.ensures ∙ c.if-bad_size.false) c.if-file-gt-FILE_LIMIT.false believed _ c.total-end.ensures (sym c.ends_behind.ensures ∙ c.if-ends_behind.false) in
+    (believed, within.0, within.1)
 
 pub returns : goal.returns
 returns c =

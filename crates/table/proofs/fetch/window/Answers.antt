@@ -44,17 +44,17 @@ data_of-data-requires c =
     lies_in a.file.now a.table.now c.requires.0 a.out.now a.from.0 _ c.loop-from.invariant.1 _ _ _ c.address_at-address.ensures c.position_at-begin.ensures c.begin_of-end.ensures
 
 pub shape_of-out-then-is_behind : goal.shape_of-out-then-is_behind
-shape_of-out-then-is_behind c = (omega (arith, c.lay.auto, c.loop-from.invariant.0))
+shape_of-out-then-is_behind c = omega (arith, c.lay.auto.out, c.loop-from.invariant.0)
 
 pub returns-then-is_behind : goal.returns-then-is_behind
 returns-then-is_behind c =
     let a = c.args in
     let same : length c.lay.new.out ≡ length a.out.now = omega (arith, c.lay.auto.out, c.loop-from.invariant.0) in
     let reached = leb-true (a.from.0 + length c.lay.new.out) c.begin_of-end.result.0 (sym c.is_behind.ensures ∙ c.if-is_behind.true) in
-    let turned = window_turn a.file.now a.table.now c.requires.0 a.out.now a.from.0 _ c.loop-from.invariant.1 _ _ _ c.address_at-address.ensures c.position_at-begin.ensures c.begin_of-end.ensures
-    _ _ _ c.loop-from.invariant.2 c.data_of-data.ensures c.lay.ensures in
     window_end a.file.now a.table.now c.requires.0 a.out.now a.from.0 _ c.loop-from.invariant.1 _ _ _ c.address_at-address.ensures c.position_at-begin.ensures c.begin_of-end.ensures
-    _ (omega (arith, reached, same)) turned
+    _ (omega (arith, reached, same))
+    (window_turn a.file.now a.table.now c.requires.0 a.out.now a.from.0 _ c.loop-from.invariant.1 _ _ _ c.address_at-address.ensures c.position_at-begin.ensures c.begin_of-end.ensures
+    _ _ _ c.loop-from.invariant.2 c.data_of-data.ensures c.lay.ensures)
 
 pub loop-from-smaller : goal.loop-from-smaller
 loop-from-smaller c = omega (arith, c.loop-from.invariant.1)

@@ -13,9 +13,12 @@ returns-then-file-gt-FILE_LIMIT c = open_long _ _ _ c.if-file-gt-FILE_LIMIT.true
 pub list_chain-counted-requires : goal.list_chain-counted-requires
 list_chain-counted-requires c = (c.if-file-gt-FILE_LIMIT.false, search rules, λ some. let no : ⊥ = omega arith in absurd no)
 
+-- the first walk counts the fragments
 pub returns-then-fragments-gt-TABLE_LIMIT : goal.returns-then-fragments-gt-TABLE_LIMIT
 returns-then-fragments-gt-TABLE_LIMIT c =
-    open_full _ _ _ c.if-file-gt-FILE_LIMIT.false _ _ (let a = c.args in subst (λ (r : Listed). Lists r id_dt a.file.now a.start.0 0 a.table.now c.list_chain-counted.new.table) c.in-Whole.is c.list_chain-counted.ensures) c.if-fragments-gt-TABLE_LIMIT.true
+    let a = c.args in
+    let counted = subst (λ (r : Listed). Lists r id_dt a.file.now a.start.0 0 a.table.now c.list_chain-counted.new.table) c.in-Whole.is c.list_chain-counted.ensures in
+    open_full _ _ _ c.if-file-gt-FILE_LIMIT.false _ _ counted c.if-fragments-gt-TABLE_LIMIT.true
 
 pub list_chain-requires : goal.list_chain-requires
 list_chain-requires c =
@@ -29,4 +32,6 @@ returns-in-Refused c =
 
 pub returns-else-fragments-gt-TABLE_LIMIT : goal.returns-else-fragments-gt-TABLE_LIMIT
 returns-else-fragments-gt-TABLE_LIMIT c =
-    open_done _ _ _ c.if-file-gt-FILE_LIMIT.false _ _ (let a = c.args in subst (λ (r : Listed). Lists r id_dt a.file.now a.start.0 0 a.table.now c.list_chain-counted.new.table) c.in-Whole.is c.list_chain-counted.ensures) c.list_chain.result _ _ c.if-fragments-gt-TABLE_LIMIT.false c.list_chain.ensures
+    let a = c.args in
+    let counted = subst (λ (r : Listed). Lists r id_dt a.file.now a.start.0 0 a.table.now c.list_chain-counted.new.table) c.in-Whole.is c.list_chain-counted.ensures in
+    open_done _ _ _ c.if-file-gt-FILE_LIMIT.false _ _ counted c.list_chain.result _ _ c.if-fragments-gt-TABLE_LIMIT.false c.list_chain.ensures

@@ -1,0 +1,2 @@
+-- What the proof of `first_overlap` cites.
+mod Blank
