@@ -15,7 +15,6 @@ use prog.Routine.{Routine}
 use prog.Wp.{WpFn, Tables}
 use types.Logic.{Logic, sem}
 use contract.Monad.{Fun, fact}
-use contract.Running.{tables, tables_of}
 use types.Kit.{Item, ‵, raw, ◌⊛◌, ⋆, some, later, ◌$◌, ◌∵◌, !, qed, by, move, use1, split, pick, fjoin, suffices, frame, await, done}
 use types.Run.{look, init, forget, stop, from, load, and_then, no_more, land, returns, enter, alloc1, alloc0, params1, pass1, pass0, free1, free0}
 use sound.WpLaws.{fm_of, WpFn-mono}
@@ -30,7 +29,6 @@ use denote.Triple.Statement.{Contract, Triple}
 use denote.Triple.Call.{calls_at}
 use denote.Triple.Entry.{on_entry}
 use denote.Triple.Spec.{Meets, triple_of}
-use denote.Triple.Table.{entered, cited}
 use denote.Triple.Walked.{says, Stays, stay_dropped, walk_of, Goes-dropped, Walks, ends_at, walked, walk_Meets}
 use denote.Exit.{yes}
 use denote.Triple.Clauses.{ensured, lasts}
@@ -43,12 +41,8 @@ use Rattle.block_replies.specs.contracts.channel.Mf4Channel as channel
 use Rattle.replies.specs.contracts.overlap.Mf4OverlapReply as overlap
 use Rattle.replies.proofs.overlap.Mf4OverlapReply.TheLaws as overlap-laws
 use Rattle.lent_channels.specs.contracts.first_overlap as first
-use Rattle.lent_channels.proofs.first_overlap.Symbol as first_def
 use Rattle.lent_channels.proofs.first_overlap.Symbol.{name as #first}
-use Rattle.lent_channels.proofs.first_overlap.Met as first-thm
-use Rattle.mf4.specs.contracts.overlap.mf4_first_overlap.Key.{name as #this}
 use Rattle.mf4.specs.contracts.overlap.mf4_first_overlap as f
-use Rattle.mf4.proofs.overlap.mf4_first_overlap.Statement as stated
 use Rattle.mf4.proofs.overlap.mf4_first_overlap.Code as code
 
 abbrev ChannelR : RattleType
@@ -143,12 +137,3 @@ module _ {M : Type 1} {𝓤 : Ura M} (𝓛 : Logic 𝓤) (mem : Memory → SProp
       walk_Meets 𝓛 f.ended stayed (Goes-dropped 𝓛 1 lent yes (λ κs x f. refl), tt)
       (f.clauses 𝓛 mem run) (WpFn 𝓤 H 𝓣.C 𝓣.Λ code.function) (WpFn-mono 𝓤 H 𝓛.laws 𝓣 code.function)
       (this-walks known)
-
-pub mf4-first-overlap-spec : {M : Type 1} → stated.statement M
-unfolding code.routine tables_of
-mf4-first-overlap-spec 𝓤 𝓛 𝓜 𝓡 =
-    entered 𝓤 𝓛.H (triple_of 𝓛 f.signature (f.spec 𝓛 𝓜.mem 𝓡.run))
-    (tables 𝓤 𝓛.H 𝓜 𝓡 code.env).C (tables 𝓤 𝓛.H 𝓜 𝓡 code.env).Λ #this code.function (code.unfolded 𝓤 𝓛.H 𝓜 𝓡)
-    (this-meets 𝓛 𝓜.mem 𝓡.run (tables_of 𝓤 𝓛.H 𝓜 (tables 𝓤 𝓛.H 𝓜 𝓡 code.env))
-    (cited 𝓤 𝓛.H (First 𝓛 𝓜.mem 𝓡.run) 𝓜 𝓡 code.env #first first_def.routine code.calls-lent-channels::first_overlap
-    (first-thm.met 𝓤 𝓛 𝓜 𝓡)))
