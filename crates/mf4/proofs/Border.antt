@@ -262,7 +262,7 @@ mf4_report_arguments κs file start recordSize group channel buffer y after = re
 
 -- proved by hand
 abbrev pub mf4_first_overlap_clauses : ClausesIn mf4_first_overlap.ended
-mf4_first_overlap_clauses w = mf4_first_overlap.clauses w.𝓛 w.𝓜.mem w.𝓡.run
+mf4_first_overlap_clauses w = mf4_first_overlap.clauses w.𝓛 w.𝓜.mem w.𝓡.returns
 
 pub mf4_first_overlap_arguments : (κs : Lfts 1) (list : Bor (List Mf4Channel)) (y : Mf4OverlapReply)
     → Says mf4_first_overlap.ended mf4_first_overlap_clauses κs (list, tt) y (tt, tt)

@@ -2,7 +2,7 @@
 -- what the buffer holds afterwards.
 use Rattle.std.specs.Prelude.{ℕ, List, Bool}
 use contract.Lifetimes.{Lfts}
-use Rattle.mf4.specs.Clauses.{Slice, Allows}
+use Rattle.mf4.specs.Clauses.{Slice, Room, Allows}
 use Rattle.blocks.specs.declared.header.BlockHeader.{BlockHeader}
 use Rattle.blocks.specs.declared.header.HeaderRead.{HeaderRead}
 use Rattle.data_types.specs.declared.data_type.DataType.{DataType}
@@ -34,23 +34,23 @@ use Rattle.data_types.proofs.data_type.DataType.from_u8.Reads as type_read
 use Rattle.data_types.proofs.data_type.DataType.to_u8.Kinds as type_code_kinds
 use Rattle.data_types.proofs.data_type.DataType.to_u8.Reads as type_code
 use Rattle.blocks.proofs.data_list.DataListBlock.from_bytes.Kinds as list_read_kinds
-use Rattle.blocks.proofs.data_list.DataListBlock.from_bytes.Reads as List-read
+use Rattle.blocks.proofs.data_list.DataListBlock.from_bytes.Reads as list_read
 use Rattle.blocks.proofs.data_list.DataListBlock.write_equal.Kinds as list_equal_kinds
 use Rattle.blocks.proofs.data_list.DataListBlock.write_equal.Reads as list_equal
 use Rattle.blocks.proofs.data_list.DataListBlock.write_variable.Kinds as list_variable_kinds
 use Rattle.blocks.proofs.data_list.DataListBlock.write_variable.Reads as list_variable
 use Rattle.channels.proofs.channel_block.ChannelBlock.from_bytes.Kinds as channel_read_kinds
-use Rattle.channels.proofs.channel_block.ChannelBlock.from_bytes.Reads as channel_read_law
+use Rattle.channels.proofs.channel_block.ChannelBlock.from_bytes.Reads as channel_read
 use Rattle.channels.proofs.channel_block.ChannelBlock.to_bytes.Kinds as channel_write_kinds
 use Rattle.channels.proofs.channel_block.ChannelBlock.to_bytes.Reads as channel_write
 use Rattle.channels.proofs.channel_block.ChannelBlock.channel.Kinds as channel_describe_kinds
 use Rattle.channels.proofs.channel_block.ChannelBlock.channel.Reads as channel_describe
 use Rattle.text.proofs.write_text.Kinds as text_write_kinds
-use Rattle.text.proofs.write_text.Reads as text_write_law
+use Rattle.text.proofs.write_text.Reads as text_write
 use Rattle.decoder.proofs.decode_channel_value.Kinds as value_read_kinds
 use Rattle.decoder.proofs.decode_channel_value.Reads as value_read
 use Rattle.decoder.proofs.decode_channel_value_with_validity.Kinds as valid_value_read_kinds
-use Rattle.decoder.proofs.decode_channel_value_with_validity.Reads as valid_value_read_law
+use Rattle.decoder.proofs.decode_channel_value_with_validity.Reads as valid_value_read
 use Rattle.fields.proofs.check_value_validity.Kinds as validity_kinds
 use Rattle.fields.proofs.check_value_validity.Reads as validity
 use Rattle.decoder.proofs.decode_channel_value_with_bounded_validity.Kinds as bounded_value_read_kinds
@@ -58,11 +58,11 @@ use Rattle.decoder.proofs.decode_channel_value_with_bounded_validity.Reads as bo
 use Rattle.fields.proofs.check_bounded_validity.Kinds as bounded_validity_kinds
 use Rattle.fields.proofs.check_bounded_validity.Reads as bounded_validity
 use Rattle.decoder.proofs.decode_f64_from_record.Kinds as record_double_kinds
-use Rattle.decoder.proofs.decode_f64_from_record.Reads as record_double_law
+use Rattle.decoder.proofs.decode_f64_from_record.Reads as record_double
 use Rattle.encoder.proofs.encode_channel_value.Kinds as value_write_kinds
 use Rattle.encoder.proofs.encode_channel_value.Reads as value_write
 use Rattle.chain.proofs.data_length.Kinds as chain_length_kinds
-use Rattle.chain.proofs.data_length.Reads as Chain-length
+use Rattle.chain.proofs.data_length.Reads as chain_length
 use Rattle.records.proofs.read_record.Kinds as record_read_kinds
 use Rattle.records.proofs.read_record.Reads as record_read
 use Rattle.records.proofs.read_value.Kinds as record_value_kinds
@@ -87,24 +87,24 @@ use Rattle.report.proofs.report_channel.Reads as channel_report
 abbrev pub ReadsHeader : Lfts 1 → Slice → HeaderRead → Type 0
 ReadsHeader κs bytes y = Allows 1 header_read_kinds.ps header_read_kinds.r header_read.Learnt κs (bytes, tt) y (tt, tt)
 
-abbrev pub WritesHeader : Lfts 1 → BlockHeader → Slice → Written → List ℕ → Type 0
+abbrev pub WritesHeader : Lfts 1 → BlockHeader → Room → Written → List ℕ → Type 0
 WritesHeader κs header out y after = Allows 1 header_write_kinds.ps header_write_kinds.r header_write.Learnt κs (header, (out, tt)) y (tt, (after, tt))
 
 abbrev pub ReadsList : Lfts 1 → Slice → ListRead → Type 0
-ReadsList κs bytes y = Allows 1 list_read_kinds.ps list_read_kinds.r List-read.Learnt κs (bytes, tt) y (tt, tt)
+ReadsList κs bytes y = Allows 1 list_read_kinds.ps list_read_kinds.r list_read.Learnt κs (bytes, tt) y (tt, tt)
 
-abbrev pub WritesEqual : Lfts 2 → ℕ → Slice → ℕ → Slice → Written → List ℕ → Type 0
+abbrev pub WritesEqual : Lfts 2 → ℕ → Slice → ℕ → Room → Written → List ℕ → Type 0
 WritesEqual κs next links length out y after =
     Allows 2 list_equal_kinds.ps list_equal_kinds.r list_equal.Learnt κs (next, (links, (length, (out, tt)))) y (tt, (tt, (tt, (after, tt))))
 
-abbrev pub WritesVariable : Lfts 3 → ℕ → Slice → Slice → Slice → Written → List ℕ → Type 0
+abbrev pub WritesVariable : Lfts 3 → ℕ → Slice → Slice → Room → Written → List ℕ → Type 0
 WritesVariable κs next links offsets out y after =
     Allows 3 list_variable_kinds.ps list_variable_kinds.r list_variable.Learnt κs (next, (links, (offsets, (out, tt)))) y (tt, (tt, (tt, (after, tt))))
 
 abbrev pub ReadsChannel : Lfts 1 → Slice → ChannelRead → Type 0
-ReadsChannel κs bytes y = Allows 1 channel_read_kinds.ps channel_read_kinds.r channel_read_law.Learnt κs (bytes, tt) y (tt, tt)
+ReadsChannel κs bytes y = Allows 1 channel_read_kinds.ps channel_read_kinds.r channel_read.Learnt κs (bytes, tt) y (tt, tt)
 
-abbrev pub WritesChannel : Lfts 1 → ChannelBlock → Slice → Written → List ℕ → Type 0
+abbrev pub WritesChannel : Lfts 1 → ChannelBlock → Room → Written → List ℕ → Type 0
 WritesChannel κs block out y after = Allows 1 channel_write_kinds.ps channel_write_kinds.r channel_write.Learnt κs (block, (out, tt)) y (tt, (after, tt))
 
 abbrev pub DescribesChannel : Lfts 0 → ChannelBlock → Channel → Type 0
@@ -120,9 +120,9 @@ GivesCode κs type y = Allows 0 type_code_kinds.ps type_code_kinds.r type_code.L
 
 -- ---- a text
 
-abbrev pub WritesText : Lfts 2 → Encoding → Slice → Slice → TextWrite → List ℕ → Type 0
+abbrev pub WritesText : Lfts 2 → Encoding → Slice → Room → TextWrite → List ℕ → Type 0
 WritesText κs encoding bytes out y after =
-    Allows 2 text_write_kinds.ps text_write_kinds.r text_write_law.Learnt κs (encoding, (bytes, (out, tt))) y (tt, (tt, (after, tt)))
+    Allows 2 text_write_kinds.ps text_write_kinds.r text_write.Learnt κs (encoding, (bytes, (out, tt))) y (tt, (tt, (after, tt)))
 
 -- ---- a field
 
@@ -132,7 +132,7 @@ ReadsValue κs bytes id_size channel y =
 
 abbrev pub ReadsValidValue : Lfts 1 → Slice → Group → Channel → ValidValueRead → Type 0
 ReadsValidValue κs bytes group channel y =
-    Allows 1 valid_value_read_kinds.ps valid_value_read_kinds.r valid_value_read_law.Learnt κs (bytes, (group, (channel, tt))) y (tt, (tt, (tt, tt)))
+    Allows 1 valid_value_read_kinds.ps valid_value_read_kinds.r valid_value_read.Learnt κs (bytes, (group, (channel, tt))) y (tt, (tt, (tt, tt)))
 
 abbrev pub ChecksValidity : Lfts 1 → Slice → Group → Channel → Bool → Type 0
 ChecksValidity κs bytes group channel y =
@@ -148,9 +148,9 @@ ChecksBoundedValidity κs bytes group channel y =
 
 abbrev pub ReadsDouble : Lfts 1 → Slice → ℕ → Channel → ℕ → Type 0
 ReadsDouble κs bytes id_size channel y =
-    Allows 1 record_double_kinds.ps record_double_kinds.r record_double_law.Learnt κs (bytes, (id_size, (channel, tt))) y (tt, (tt, (tt, tt)))
+    Allows 1 record_double_kinds.ps record_double_kinds.r record_double.Learnt κs (bytes, (id_size, (channel, tt))) y (tt, (tt, (tt, tt)))
 
-abbrev pub WritesValue : Lfts 1 → ℕ → Channel → NumberGiven → Slice → ValueWritten → List ℕ → Type 0
+abbrev pub WritesValue : Lfts 1 → ℕ → Channel → NumberGiven → Room → ValueWritten → List ℕ → Type 0
 WritesValue κs id_size channel given bytes y after =
     Allows 1 value_write_kinds.ps value_write_kinds.r value_write.Learnt κs (id_size, (channel, (given, (bytes, tt)))) y (tt, (tt, (tt, (after, tt))))
 
@@ -158,16 +158,16 @@ WritesValue κs id_size channel given bytes y after =
 
 abbrev pub ReadsLength : Lfts 1 → Slice → FileAddress → ChainRead → Type 0
 ReadsLength κs file start y =
-    Allows 1 chain_length_kinds.ps chain_length_kinds.r Chain-length.Learnt κs (file, (start, tt)) y (tt, (tt, tt))
+    Allows 1 chain_length_kinds.ps chain_length_kinds.r chain_length.Learnt κs (file, (start, tt)) y (tt, (tt, tt))
 
 -- ---- a record
 
-abbrev pub ReadsRecord : Lfts 2 → Slice → FileAddress → ℕ → ℕ → Slice → RecordRead → List ℕ → Type 0
+abbrev pub ReadsRecord : Lfts 2 → Slice → FileAddress → ℕ → ℕ → Room → RecordRead → List ℕ → Type 0
 ReadsRecord κs file start number size out y after =
     Allows 2 record_read_kinds.ps record_read_kinds.r record_read.Learnt κs
     (file, (start, (number, (size, (out, tt))))) y (tt, (tt, (tt, (tt, (after, tt)))))
 
-abbrev pub ReadsRecordValue : Lfts 2 → Slice → FileAddress → ℕ → ℕ → Group → Channel → Slice → ValidValueRead → List ℕ → Type 0
+abbrev pub ReadsRecordValue : Lfts 2 → Slice → FileAddress → ℕ → ℕ → Group → Channel → Room → ValidValueRead → List ℕ → Type 0
 ReadsRecordValue κs file start number size group channel out y after =
     Allows 2 record_value_kinds.ps record_value_kinds.r record_value.Learnt κs
     (file, (start, (number, (size, (group, (channel, (out, tt))))))) y
@@ -175,23 +175,23 @@ ReadsRecordValue κs file start number size group channel out y after =
 
 -- ---- a table, which is lent as a slice of its words
 
-abbrev pub OpensTable : Lfts 2 → Slice → FileAddress → Slice → TableChanged → List ℕ → Type 0
+abbrev pub OpensTable : Lfts 2 → Slice → FileAddress → Room → TableChanged → List ℕ → Type 0
 OpensTable κs file start table y after =
     Allows 2 table_open_kinds.ps table_open_kinds.r table_open.Learnt κs (file, (start, (table, tt))) y (tt, (tt, (after, tt)))
 
-abbrev pub ExtendsTable : Lfts 2 → Slice → FileAddress → Slice → TableChanged → List ℕ → Type 0
+abbrev pub ExtendsTable : Lfts 2 → Slice → FileAddress → Room → TableChanged → List ℕ → Type 0
 ExtendsTable κs file block table y after =
     Allows 2 table_extend_kinds.ps table_extend_kinds.r table_extend.Learnt κs (file, (block, (table, tt))) y (tt, (tt, (after, tt)))
 
-abbrev pub ShortensTable : Lfts 1 → Slice → TableChanged → List ℕ → Type 0
+abbrev pub ShortensTable : Lfts 1 → Room → TableChanged → List ℕ → Type 0
 ShortensTable κs table y after = Allows 1 table_shorten_kinds.ps table_shorten_kinds.r table_shorten.Learnt κs (table, tt) y (after, tt)
 
-abbrev pub FetchesRecord : Lfts 3 → Slice → Slice → ℕ → ℕ → Slice → RecordRead → List ℕ → Type 0
+abbrev pub FetchesRecord : Lfts 3 → Slice → Slice → ℕ → ℕ → Room → RecordRead → List ℕ → Type 0
 FetchesRecord κs file table number size out y after =
     Allows 3 table_record_kinds.ps table_record_kinds.r table_record.Learnt κs
     (file, (table, (number, (size, (out, tt))))) y (tt, (tt, (tt, (tt, (after, tt)))))
 
-abbrev pub FetchesValue : Lfts 3 → Slice → Slice → ℕ → ℕ → Group → Channel → Slice → ValidValueRead → List ℕ → Type 0
+abbrev pub FetchesValue : Lfts 3 → Slice → Slice → ℕ → ℕ → Group → Channel → Room → ValidValueRead → List ℕ → Type 0
 FetchesValue κs file table number size group channel out y after =
     Allows 3 table_value_kinds.ps table_value_kinds.r table_value.Learnt κs
     (file, (table, (number, (size, (group, (channel, (out, tt))))))) y
@@ -199,7 +199,7 @@ FetchesValue κs file table number size group channel out y after =
 
 -- ---- a payload
 
-abbrev pub ReadsPayload : Lfts 3 → Slice → FileAddress → ℕ → ℕ → Group → Channel → Slice → Slice → PayloadRead → List ℕ → List ℕ → Type 0
+abbrev pub ReadsPayload : Lfts 3 → Slice → FileAddress → ℕ → ℕ → Group → Channel → Room → Room → PayloadRead → List ℕ → List ℕ → Type 0
 ReadsPayload κs file start number size group channel out room y after later =
     Allows 3 record_payload_kinds.ps record_payload_kinds.r record_payload.Learnt κs
     (file, (start, (number, (size, (group, (channel, (out, (room, tt)))))))) y
@@ -207,7 +207,7 @@ ReadsPayload κs file start number size group channel out room y after later =
 
 -- ---- a report
 
-abbrev pub ReportsChannel : Lfts 2 → Slice → FileAddress → ℕ → Group → Channel → Slice → ReportRead → List ℕ → Type 0
+abbrev pub ReportsChannel : Lfts 2 → Slice → FileAddress → ℕ → Group → Channel → Room → ReportRead → List ℕ → Type 0
 ReportsChannel κs file start size group channel out y after =
     Allows 2 channel_report_kinds.ps channel_report_kinds.r channel_report.Learnt κs
     (file, (start, (size, (group, (channel, (out, tt)))))) y

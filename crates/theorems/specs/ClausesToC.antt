@@ -4,7 +4,7 @@ use Rattle.std.specs.Prelude.{ℕ, List}
 use contract.Lifetimes.{Lfts}
 use Rattle.definitions.specs.Bytes.{little, big}
 use Rattle.definitions.specs.Unicode.{Encoding, latin1, utf8, utf16}
-use Rattle.mf4.specs.Clauses.{Slice, Allows}
+use Rattle.mf4.specs.Clauses.{Slice, Room, Allows}
 use Rattle.block_replies.specs.declared.header.Mf4Header.{Mf4Header}
 use Rattle.block_replies.specs.declared.header.Mf4HeaderReply.{Mf4HeaderReply}
 use Rattle.block_replies.specs.declared.list.Mf4ListReply.{Mf4ListReply}
@@ -59,7 +59,7 @@ use Rattle.mf4.proofs.mf4_check_validity_unbounded.Reads as check_unbounded
 use Rattle.mf4.proofs.mf4_decode_double_bits.Kinds as decode_double_kinds
 use Rattle.mf4.proofs.mf4_decode_double_bits.Reads as decode_double
 use Rattle.mf4.proofs.mf4_data_length.Kinds as data_length_kinds
-use Rattle.mf4.proofs.mf4_data_length.Reads as data_length_law
+use Rattle.mf4.proofs.mf4_data_length.Reads as data_length
 use Rattle.mf4.proofs.mf4_read_record.Kinds as read_record_kinds
 use Rattle.mf4.proofs.mf4_read_record.Reads as read_record
 use Rattle.mf4.proofs.mf4_record_value.Kinds as record_value_kinds
@@ -86,7 +86,7 @@ use Rattle.mf4.proofs.mf4_report.Reads as report
 abbrev pub ReadsHeaderC : Lfts 1 → Slice → Mf4HeaderReply → Type 0
 ReadsHeaderC κs bytes y = Allows 1 read_header_kinds.ps read_header_kinds.r read_header.Learnt κs (bytes, tt) y (tt, tt)
 
-abbrev pub WritesHeaderC : Lfts 1 → Mf4Header → Slice → Mf4WrittenReply → List ℕ → Type 0
+abbrev pub WritesHeaderC : Lfts 1 → Mf4Header → Room → Mf4WrittenReply → List ℕ → Type 0
 WritesHeaderC κs header out y after = Allows 1 write_header_kinds.ps write_header_kinds.r write_header.Learnt κs (header, (out, tt)) y (tt, (after, tt))
 
 abbrev pub GivesCodeC : Lfts 0 → ℕ → ℕ → Type 0
@@ -95,23 +95,23 @@ GivesCodeC κs code y = Allows 0 type_code_kinds.ps type_code_kinds.r type_code.
 abbrev pub ReadsListC : Lfts 1 → Slice → Mf4ListReply → Type 0
 ReadsListC κs bytes y = Allows 1 read_list_kinds.ps read_list_kinds.r read_list.Learnt κs (bytes, tt) y (tt, tt)
 
-abbrev pub WritesEqualC : Lfts 2 → ℕ → Slice → ℕ → Slice → Mf4WrittenReply → List ℕ → Type 0
+abbrev pub WritesEqualC : Lfts 2 → ℕ → Slice → ℕ → Room → Mf4WrittenReply → List ℕ → Type 0
 WritesEqualC κs next links length out y after =
     Allows 2 write_equal_kinds.ps write_equal_kinds.r write_equal.Learnt κs (next, (links, (length, (out, tt)))) y (tt, (tt, (tt, (after, tt))))
 
-abbrev pub WritesVariableC : Lfts 3 → ℕ → Slice → Slice → Slice → Mf4WrittenReply → List ℕ → Type 0
+abbrev pub WritesVariableC : Lfts 3 → ℕ → Slice → Slice → Room → Mf4WrittenReply → List ℕ → Type 0
 WritesVariableC κs next links offsets out y after =
     Allows 3 write_variable_kinds.ps write_variable_kinds.r write_variable.Learnt κs (next, (links, (offsets, (out, tt)))) y (tt, (tt, (tt, (after, tt))))
 
 abbrev pub ReadsChannelC : Lfts 1 → Slice → Mf4ChannelReply → Type 0
 ReadsChannelC κs bytes y = Allows 1 read_channel_kinds.ps read_channel_kinds.r read_channel.Learnt κs (bytes, tt) y (tt, tt)
 
-abbrev pub WritesChannelC : Lfts 1 → Mf4ChannelBlock → Slice → Mf4WrittenReply → List ℕ → Type 0
+abbrev pub WritesChannelC : Lfts 1 → Mf4ChannelBlock → Room → Mf4WrittenReply → List ℕ → Type 0
 WritesChannelC κs block out y after = Allows 1 write_channel_kinds.ps write_channel_kinds.r write_channel.Learnt κs (block, (out, tt)) y (tt, (after, tt))
 
 -- ---- a text: the call for its encoding
 
-abbrev pub WritesTextC : Encoding → Lfts 2 → Slice → Slice → Mf4TextReply → List ℕ → Type 0
+abbrev pub WritesTextC : Encoding → Lfts 2 → Slice → Room → Mf4TextReply → List ℕ → Type 0
 WritesTextC latin1 κs bytes out y after = Allows 2 text_latin1_kinds.ps text_latin1_kinds.r text_latin1.Learnt κs (bytes, (out, tt)) y (tt, (after, tt))
 WritesTextC utf8 κs bytes out y after = Allows 2 text_utf8_kinds.ps text_utf8_kinds.r text_utf8.Learnt κs (bytes, (out, tt)) y (tt, (after, tt))
 WritesTextC (utf16 little) κs bytes out y after = Allows 2 text_utf16_le_kinds.ps text_utf16_le_kinds.r text_utf16_le.Learnt κs (bytes, (out, tt)) y (tt, (after, tt))
@@ -143,21 +143,21 @@ abbrev pub ReadsDoubleC : Lfts 1 → Slice → ℕ → Mf4Channel → ℕ → Ty
 ReadsDoubleC κs bytes id_size channel y =
     Allows 1 decode_double_kinds.ps decode_double_kinds.r decode_double.Learnt κs (bytes, (id_size, (channel, tt))) y (tt, (tt, (tt, tt)))
 
-abbrev pub WritesValueC : Lfts 1 → ℕ → Mf4Channel → Mf4Number → Slice → Mf4DoneReply → List ℕ → Type 0
+abbrev pub WritesValueC : Lfts 1 → ℕ → Mf4Channel → Mf4Number → Room → Mf4DoneReply → List ℕ → Type 0
 WritesValueC κs id_size channel value bytes y after =
     Allows 1 write_value_kinds.ps write_value_kinds.r write_value.Learnt κs (id_size, (channel, (value, (bytes, tt)))) y (tt, (tt, (tt, (after, tt))))
 
 -- ---- the joined data, a record of it, and a value in that
 
 abbrev pub ReadsLengthC : Lfts 1 → Slice → ℕ → Mf4LengthReply → Type 0
-ReadsLengthC κs file start y = Allows 1 data_length_kinds.ps data_length_kinds.r data_length_law.Learnt κs (file, (start, tt)) y (tt, (tt, tt))
+ReadsLengthC κs file start y = Allows 1 data_length_kinds.ps data_length_kinds.r data_length.Learnt κs (file, (start, tt)) y (tt, (tt, tt))
 
-abbrev pub ReadsRecordC : Lfts 2 → Slice → ℕ → ℕ → ℕ → Slice → Mf4DoneReply → List ℕ → Type 0
+abbrev pub ReadsRecordC : Lfts 2 → Slice → ℕ → ℕ → ℕ → Room → Mf4DoneReply → List ℕ → Type 0
 ReadsRecordC κs file start number size out y after =
     Allows 2 read_record_kinds.ps read_record_kinds.r read_record.Learnt κs
     (file, (start, (number, (size, (out, tt))))) y (tt, (tt, (tt, (tt, (after, tt)))))
 
-abbrev pub ReadsRecordValueC : Lfts 2 → Slice → ℕ → ℕ → ℕ → Mf4Group → Mf4Channel → Slice → Mf4ValidValueReply → List ℕ → Type 0
+abbrev pub ReadsRecordValueC : Lfts 2 → Slice → ℕ → ℕ → ℕ → Mf4Group → Mf4Channel → Room → Mf4ValidValueReply → List ℕ → Type 0
 ReadsRecordValueC κs file start number size group channel out y after =
     Allows 2 record_value_kinds.ps record_value_kinds.r record_value.Learnt κs
     (file, (start, (number, (size, (group, (channel, (out, tt))))))) y
@@ -165,23 +165,23 @@ ReadsRecordValueC κs file start number size group channel out y after =
 
 -- ---- a table
 
-abbrev pub OpensTableC : Lfts 2 → Slice → ℕ → Slice → Mf4DoneReply → List ℕ → Type 0
+abbrev pub OpensTableC : Lfts 2 → Slice → ℕ → Room → Mf4DoneReply → List ℕ → Type 0
 OpensTableC κs file start table y after =
     Allows 2 open_table_kinds.ps open_table_kinds.r open_table.Learnt κs (file, (start, (table, tt))) y (tt, (tt, (after, tt)))
 
-abbrev pub ExtendsTableC : Lfts 2 → Slice → ℕ → Slice → Mf4DoneReply → List ℕ → Type 0
+abbrev pub ExtendsTableC : Lfts 2 → Slice → ℕ → Room → Mf4DoneReply → List ℕ → Type 0
 ExtendsTableC κs file block table y after =
     Allows 2 extend_table_kinds.ps extend_table_kinds.r extend_table.Learnt κs (file, (block, (table, tt))) y (tt, (tt, (after, tt)))
 
-abbrev pub ShortensTableC : Lfts 1 → Slice → Mf4DoneReply → List ℕ → Type 0
+abbrev pub ShortensTableC : Lfts 1 → Room → Mf4DoneReply → List ℕ → Type 0
 ShortensTableC κs table y after = Allows 1 shorten_table_kinds.ps shorten_table_kinds.r shorten_table.Learnt κs (table, tt) y (after, tt)
 
-abbrev pub FetchesRecordC : Lfts 3 → Slice → Slice → ℕ → ℕ → Slice → Mf4DoneReply → List ℕ → Type 0
+abbrev pub FetchesRecordC : Lfts 3 → Slice → Slice → ℕ → ℕ → Room → Mf4DoneReply → List ℕ → Type 0
 FetchesRecordC κs file table number size out y after =
     Allows 3 table_record_kinds.ps table_record_kinds.r table_record.Learnt κs
     (file, (table, (number, (size, (out, tt))))) y (tt, (tt, (tt, (tt, (after, tt)))))
 
-abbrev pub FetchesValueC : Lfts 3 → Slice → Slice → ℕ → ℕ → Mf4Group → Mf4Channel → Slice → Mf4ValidValueReply → List ℕ → Type 0
+abbrev pub FetchesValueC : Lfts 3 → Slice → Slice → ℕ → ℕ → Mf4Group → Mf4Channel → Room → Mf4ValidValueReply → List ℕ → Type 0
 FetchesValueC κs file table number size group channel out y after =
     Allows 3 table_value_kinds.ps table_value_kinds.r table_value.Learnt κs
     (file, (table, (number, (size, (group, (channel, (out, tt))))))) y
@@ -189,7 +189,7 @@ FetchesValueC κs file table number size group channel out y after =
 
 -- ---- a payload
 
-abbrev pub ReadsPayloadC : Lfts 3 → Slice → ℕ → ℕ → ℕ → Mf4Group → Mf4Channel → Slice → Slice → Mf4PayloadReply → List ℕ → List ℕ → Type 0
+abbrev pub ReadsPayloadC : Lfts 3 → Slice → ℕ → ℕ → ℕ → Mf4Group → Mf4Channel → Room → Room → Mf4PayloadReply → List ℕ → List ℕ → Type 0
 ReadsPayloadC κs file start number size group channel out room y after later =
     Allows 3 record_payload_kinds.ps record_payload_kinds.r record_payload.Learnt κs
     (file, (start, (number, (size, (group, (channel, (out, (room, tt)))))))) y
@@ -197,7 +197,7 @@ ReadsPayloadC κs file start number size group channel out room y after later =
 
 -- ---- a report
 
-abbrev pub ReportsChannelC : Lfts 2 → Slice → ℕ → ℕ → Mf4Group → Mf4Channel → Slice → Mf4ReportReply → List ℕ → Type 0
+abbrev pub ReportsChannelC : Lfts 2 → Slice → ℕ → ℕ → Mf4Group → Mf4Channel → Room → Mf4ReportReply → List ℕ → Type 0
 ReportsChannelC κs file start size group channel out y after =
     Allows 2 report_kinds.ps report_kinds.r report.Learnt κs
     (file, (start, (size, (group, (channel, (out, tt)))))) y

@@ -1,4 +1,4 @@
--- What `Sole` asks of every call, of one that is proved by hand: its statement determines its reply and every lent byte
+-- What `Sole` asks of every call, of a contract as it is written: its statement determines its reply and every lent byte
 -- afterwards.
 use Rattle.std.specs.Prelude.{◌≡◌}
 use contract.Lifetimes.{Lfts}

@@ -25,7 +25,7 @@ use Rattle.block_replies.specs.declared.channel_block.Mf4ChannelBlock.{Mf4Channe
 use Rattle.block_replies.specs.declared.channel_block.Mf4ChannelReply.{Mf4ChannelReply}
 use Rattle.block_replies.specs.declared.written.Mf4WrittenReply.{Mf4WrittenReply}
 use Rattle.replies.specs.declared.texts.Mf4TextReply.{Mf4TextReply}
-use Rattle.mf4.specs.Clauses.{Slice}
+use Rattle.mf4.specs.Clauses.{Slice, Room}
 use Rattle.theorems.specs.Refused.{RefusedExactly, ToldExactly}
 use Rattle.theorems.specs.BlockCauses.{header_refused, list_refused, channel_refused, header_unwritten, list_unwritten, channel_unwritten, text_unwritten}
 use Rattle.theorems.specs.Clauses.{ReadsHeader, WritesHeader, ReadsList, WritesEqual, WritesVariable, ReadsChannel, WritesChannel, WritesText}
@@ -48,24 +48,24 @@ channel_read_refused κs bytes y p = as_is p (channel_refused_law bytes.now)
 
 -- ---- written
 
-pub header_write_refused : (κs : Lfts 1) (header : BlockHeader) (out : Slice) (y : Written) (after : List ℕ)
+pub header_write_refused : (κs : Lfts 1) (header : BlockHeader) (out : Room) (y : Written) (after : List ℕ)
     → WritesHeader κs header out y after → RefusedExactly (header_unwritten out.now) (written_reply y)
 header_write_refused κs header out y after p = as_is (of_outcome p) (header_written_refused out.now (header_meant header))
 
-pub list_equal_refused : (κs : Lfts 2) (next : ℕ) (links : Slice) (length : ℕ) (out : Slice) (y : Written) (after : List ℕ)
+pub list_equal_refused : (κs : Lfts 2) (next : ℕ) (links : Slice) (length : ℕ) (out : Room) (y : Written) (after : List ℕ)
     → WritesEqual κs next links length out y after → RefusedExactly (list_unwritten out.now links.now (equal length)) (written_reply y)
 list_equal_refused κs next links length out y after p = as_is (of_outcome p) (list_written_refused out.now next links.now (equal length))
 
-pub list_variable_refused : (κs : Lfts 3) (next : ℕ) (links offsets out : Slice) (y : Written) (after : List ℕ)
+pub list_variable_refused : (κs : Lfts 3) (next : ℕ) (links offsets : Slice) (out : Room) (y : Written) (after : List ℕ)
     → WritesVariable κs next links offsets out y after → RefusedExactly (list_unwritten out.now links.now (variable offsets.now)) (written_reply y)
 list_variable_refused κs next links offsets out y after p =
     as_is (of_outcome p) (list_written_refused out.now next links.now (variable offsets.now))
 
-pub channel_write_refused : (κs : Lfts 1) (block : ChannelBlock) (out : Slice) (y : Written) (after : List ℕ)
+pub channel_write_refused : (κs : Lfts 1) (block : ChannelBlock) (out : Room) (y : Written) (after : List ℕ)
     → WritesChannel κs block out y after → RefusedExactly (channel_unwritten out.now) (written_reply y)
 channel_write_refused κs block out y after p = as_is (of_outcome p) (channel_written_refused out.now (channel_block_meant block))
 
-pub text_write_refused : (κs : Lfts 2) (encoding : Encoding) (bytes out : Slice) (y : TextWrite) (after : List ℕ)
+pub text_write_refused : (κs : Lfts 2) (encoding : Encoding) (bytes : Slice) (out : Room) (y : TextWrite) (after : List ℕ)
     → WritesText κs encoding bytes out y after → RefusedExactly (text_unwritten out.now (encoding_of encoding) bytes.now) (text_reply y)
 text_write_refused κs encoding bytes out y after p = as_is (of_outcome p) (text_written_refused out.now (encoding_of encoding) bytes.now)
 
@@ -80,27 +80,27 @@ mf4_read_list_refused κs bytes y p = told_exactly _ _ _ _ (mf4_read_list_told �
 pub mf4_read_channel_refused : (κs : Lfts 1) (bytes : Slice) (y : Mf4ChannelReply) → ReadsChannelC κs bytes y → ToldExactly (channel_refused bytes.now) y.reply y.told
 mf4_read_channel_refused κs bytes y p = told_exactly _ _ _ _ (mf4_read_channel_told κs bytes y p) (channel_refused_law bytes.now)
 
-pub mf4_write_header_refused : (κs : Lfts 1) (header : Mf4Header) (out : Slice) (y : Mf4WrittenReply) (after : List ℕ)
+pub mf4_write_header_refused : (κs : Lfts 1) (header : Mf4Header) (out : Room) (y : Mf4WrittenReply) (after : List ℕ)
     → WritesHeaderC κs header out y after → ToldExactly (header_unwritten out.now) y.reply y.told
 mf4_write_header_refused κs header out y after p =
     told_exactly _ _ _ _ (mf4_write_header_told κs header out y after p) (header_written_refused out.now (header_given header))
 
-pub mf4_write_list_equal_refused : (κs : Lfts 2) (next : ℕ) (links : Slice) (length : ℕ) (out : Slice) (y : Mf4WrittenReply) (after : List ℕ)
+pub mf4_write_list_equal_refused : (κs : Lfts 2) (next : ℕ) (links : Slice) (length : ℕ) (out : Room) (y : Mf4WrittenReply) (after : List ℕ)
     → WritesEqualC κs next links length out y after → ToldExactly (list_unwritten out.now links.now (equal length)) y.reply y.told
 mf4_write_list_equal_refused κs next links length out y after p =
     told_exactly _ _ _ _ (mf4_write_list_equal_told κs next links length out y after p) (list_written_refused out.now next links.now (equal length))
 
-pub mf4_write_list_variable_refused : (κs : Lfts 3) (next : ℕ) (links offsets out : Slice) (y : Mf4WrittenReply) (after : List ℕ)
+pub mf4_write_list_variable_refused : (κs : Lfts 3) (next : ℕ) (links offsets : Slice) (out : Room) (y : Mf4WrittenReply) (after : List ℕ)
     → WritesVariableC κs next links offsets out y after → ToldExactly (list_unwritten out.now links.now (variable offsets.now)) y.reply y.told
 mf4_write_list_variable_refused κs next links offsets out y after p =
     told_exactly _ _ _ _ (mf4_write_list_variable_told κs next links offsets out y after p) (list_written_refused out.now next links.now (variable offsets.now))
 
-pub mf4_write_channel_refused : (κs : Lfts 1) (block : Mf4ChannelBlock) (out : Slice) (y : Mf4WrittenReply) (after : List ℕ)
+pub mf4_write_channel_refused : (κs : Lfts 1) (block : Mf4ChannelBlock) (out : Room) (y : Mf4WrittenReply) (after : List ℕ)
     → WritesChannelC κs block out y after → ToldExactly (channel_unwritten out.now) y.reply y.told
 mf4_write_channel_refused κs block out y after p =
     told_exactly _ _ _ _ (mf4_write_channel_told κs block out y after p) (channel_written_refused out.now (block_given block))
 
 -- the four calls for texts
-pub mf4_text_refused : (e : unicode.Encoding) (κs : Lfts 2) (bytes out : Slice) (y : Mf4TextReply) (after : List ℕ)
+pub mf4_text_refused : (e : unicode.Encoding) (κs : Lfts 2) (bytes : Slice) (out : Room) (y : Mf4TextReply) (after : List ℕ)
     → WritesTextC e κs bytes out y after → ToldExactly (text_unwritten out.now e bytes.now) y.reply y.told
 mf4_text_refused e κs bytes out y after p = told_exactly _ _ _ _ (mf4_text_told e κs bytes out y after p) (text_written_refused out.now e bytes.now)

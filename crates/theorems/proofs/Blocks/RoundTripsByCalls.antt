@@ -23,7 +23,7 @@ use Rattle.channels.specs.declared.channel_block.ChannelBlock.{ChannelBlock}
 use Rattle.channels.specs.declared.channel_block.ChannelRead.{ChannelRead}
 use Rattle.blocks.specs.declared.written.Written.{Written}
 use Rattle.data_types.proofs.Back.{type_one}
-use Rattle.mf4.specs.Clauses.{Slice}
+use Rattle.mf4.specs.Clauses.{Slice, Room}
 use Rattle.theorems.specs.Clauses.{ReadsHeader, WritesHeader, ReadsType, GivesCode, ReadsChannel, WritesChannel, ReadsList, WritesEqual, WritesVariable}
 use Rattle.theorems.proofs.Types.TypeCodes.{code_back, only_owned}
 use Rattle.theorems.proofs.Blocks.Rewritten.{Words}
@@ -58,7 +58,7 @@ module _ (ws rs : Lfts 0) (t : DataType) (code : ℕ) (z : DataType) (gave : Giv
 
 -- ---- a header
 
-module _ (ws rs : Lfts 1) (header : BlockHeader) (out : Slice) (y : Written) (after : List ℕ) (n : ℕ)
+module _ (ws rs : Lfts 1) (header : BlockHeader) (out : Room) (y : Written) (after : List ℕ) (n : ℕ)
     (wrote : WritesHeader ws header out y after) (answers : written_reply y ≡ answer n) (bytes : Slice) (z : HeaderRead) (read : ReadsHeader rs bytes z) where
   pub header_read_back_law : Fits (header_meant header) → bytes.now ≡ after → header_reply z ≡ answer (header_meant header)
   header_read_back_law fits same = read ∙ header_back_law out.now (header_meant header) after (into y after _ wrote n answers) fits bytes.now same
@@ -68,7 +68,7 @@ module _ (ws rs : Lfts 1) (header : BlockHeader) (out : Slice) (y : Written) (af
 
 -- ---- a channel block
 
-module _ (ws rs : Lfts 1) (block : ChannelBlock) (out : Slice) (y : Written) (after : List ℕ) (n : ℕ)
+module _ (ws rs : Lfts 1) (block : ChannelBlock) (out : Room) (y : Written) (after : List ℕ) (n : ℕ)
     (wrote : WritesChannel ws block out y after) (answers : written_reply y ≡ answer n) (bytes : Slice) (z : ChannelRead) (read : ReadsChannel rs bytes z) where
   abbrev b : channels.ChannelBlock
   b = channel_block_meant block
@@ -104,7 +104,7 @@ module _ (rs : Lfts 1) (out : List ℕ) (next : ℕ) (links : List ℕ) (l : Len
   written_again_law : WrittenAgain rs next links l after
   written_again_law bytes z d read e b f = list_again_law out next links l after w bytes.now d b (sym read ∙ e) f
 
-module _ (ws : Lfts 2) (rs : Lfts 1) (next : ℕ) (links : Slice) (size : ℕ) (out : Slice) (y : Written) (after : List ℕ) (n : ℕ)
+module _ (ws : Lfts 2) (rs : Lfts 1) (next : ℕ) (links : Slice) (size : ℕ) (out : Room) (y : Written) (after : List ℕ) (n : ℕ)
     (wrote : WritesEqual ws next links size out y after) (answers : written_reply y ≡ answer n) where
   pub equal_read_back : next < 2 ^ 64 → Words links.now → size < 2 ^ 64 → ReadBack rs next links.now (equal size) after
   equal_read_back a b c = read_back rs out.now next links.now (equal size) after (into y after _ wrote n answers) a b (one_word size c)
@@ -112,7 +112,7 @@ module _ (ws : Lfts 2) (rs : Lfts 1) (next : ℕ) (links : Slice) (size : ℕ) (
   pub equal_written_again : WrittenAgain rs next links.now (equal size) after
   equal_written_again = written_again_law rs out.now next links.now (equal size) after (into y after _ wrote n answers)
 
-module _ (ws : Lfts 3) (rs : Lfts 1) (next : ℕ) (links offsets out : Slice) (y : Written) (after : List ℕ) (n : ℕ)
+module _ (ws : Lfts 3) (rs : Lfts 1) (next : ℕ) (links offsets : Slice) (out : Room) (y : Written) (after : List ℕ) (n : ℕ)
     (wrote : WritesVariable ws next links offsets out y after) (answers : written_reply y ≡ answer n) where
   pub variable_read_back : next < 2 ^ 64 → Words links.now → Words offsets.now → ReadBack rs next links.now (variable offsets.now) after
   variable_read_back = read_back rs out.now next links.now (variable offsets.now) after (into y after _ wrote n answers)

@@ -19,7 +19,7 @@ use Rattle.block_replies.specs.declared.header.Mf4Header.{Mf4Header}
 use Rattle.block_replies.specs.declared.header.Mf4HeaderReply.{Mf4HeaderReply}
 use Rattle.block_replies.specs.declared.list.Mf4ListReply.{Mf4ListReply}
 use Rattle.block_replies.specs.declared.written.Mf4WrittenReply.{Mf4WrittenReply}
-use Rattle.mf4.specs.Clauses.{Slice}
+use Rattle.mf4.specs.Clauses.{Slice, Room}
 use Rattle.theorems.specs.ClausesToC.{ReadsHeaderC, WritesHeaderC, GivesCodeC, ReadsChannelC, WritesChannelC, ReadsListC, WritesEqualC, WritesVariableC}
 use Rattle.block_replies.proofs.ToldToC.{written_again, header_again, list_again, channel_again}
 use Rattle.theorems.proofs.Calls.ToldToC.{mf4_read_header_told, mf4_write_header_told, mf4_read_channel_told, mf4_write_channel_told, mf4_read_list_told, mf4_write_list_equal_told, mf4_write_list_variable_told}
@@ -47,7 +47,7 @@ code_given_back κs code y gave = gave ∙ code_back code
 
 -- ---- a header
 
-module _ (ws rs : Lfts 1) (header : Mf4Header) (out : Slice) (y : Mf4WrittenReply) (after : List ℕ)
+module _ (ws rs : Lfts 1) (header : Mf4Header) (out : Room) (y : Mf4WrittenReply) (after : List ℕ)
     (wrote : WritesHeaderC ws header out y after) (zero : y.reply ≡ 0) (bytes : Slice) (z : Mf4HeaderReply) (read : ReadsHeaderC rs bytes z) where
   header_in_law : WrittenInto after (header_written out.now (header_given header))
   header_in_law = into y after _ wrote (mf4_write_header_told ws header out y after wrote) zero
@@ -61,7 +61,7 @@ module _ (ws rs : Lfts 1) (header : Mf4Header) (out : Slice) (y : Mf4WrittenRepl
 
 -- ---- a channel block
 
-module _ (ws rs : Lfts 1) (block : Mf4ChannelBlock) (out : Slice) (y : Mf4WrittenReply) (after : List ℕ)
+module _ (ws rs : Lfts 1) (block : Mf4ChannelBlock) (out : Room) (y : Mf4WrittenReply) (after : List ℕ)
     (wrote : WritesChannelC ws block out y after) (zero : y.reply ≡ 0) (bytes : Slice) (z : Mf4ChannelReply) (read : ReadsChannelC rs bytes z) where
   channel_in : WrittenInto after (channel_written out.now (block_given block))
   channel_in = into y after _ wrote (mf4_write_channel_told ws block out y after wrote) zero
@@ -106,7 +106,7 @@ module _ (rs : Lfts 1) (out : List ℕ) (next : ℕ) (links : List ℕ) (l : Len
   written_again_law : WrittenAgain rs next links l after
   written_again_law bytes z d read e b f = list_again_law out next links l after w bytes.now d b (sym (mf4_read_list_told rs bytes z read) ∙ e) f
 
-module _ (ws : Lfts 2) (rs : Lfts 1) (next : ℕ) (links : Slice) (size : ℕ) (out : Slice) (y : Mf4WrittenReply) (after : List ℕ)
+module _ (ws : Lfts 2) (rs : Lfts 1) (next : ℕ) (links : Slice) (size : ℕ) (out : Room) (y : Mf4WrittenReply) (after : List ℕ)
     (wrote : WritesEqualC ws next links size out y after) (zero : y.reply ≡ 0) where
   equal_in : WrittenInto after (list_written out.now next links.now (equal size))
   equal_in = into y after _ wrote (mf4_write_list_equal_told ws next links size out y after wrote) zero
@@ -117,7 +117,7 @@ module _ (ws : Lfts 2) (rs : Lfts 1) (next : ℕ) (links : Slice) (size : ℕ) (
   pub equal_written_again : WrittenAgain rs next links.now (equal size) after
   equal_written_again = written_again_law rs out.now next links.now (equal size) after equal_in
 
-module _ (ws : Lfts 3) (rs : Lfts 1) (next : ℕ) (links offsets out : Slice) (y : Mf4WrittenReply) (after : List ℕ)
+module _ (ws : Lfts 3) (rs : Lfts 1) (next : ℕ) (links offsets : Slice) (out : Room) (y : Mf4WrittenReply) (after : List ℕ)
     (wrote : WritesVariableC ws next links offsets out y after) (zero : y.reply ≡ 0) where
   variable_in : WrittenInto after (list_written out.now next links.now (variable offsets.now))
   variable_in = into y after _ wrote (mf4_write_list_variable_told ws next links offsets out y after wrote) zero

@@ -9,7 +9,7 @@ use lib.ListN.{length}
 use Rattle.definitions.specs.Reply.{Reply, Outcome, answer}
 use Rattle.definitions.specs.Unicode.{TextWritten, text_of}
 use Rattle.definitions.specs.DataList.{equal, variable}
-use Rattle.mf4.specs.Clauses.{Slice}
+use Rattle.mf4.specs.Clauses.{Slice, Room}
 use Rattle.theorems.specs.Exactly.{Exactly, ListStands, ChannelStands, ListFits, FieldStands, InArea, BoundedStands, Joinable, Fetchable, ValueFetchable}
 use Rattle.theorems.specs.Clauses.{ReadsHeader, WritesHeader, ReadsList, WritesEqual, WritesVariable, ReadsChannel, WritesChannel, WritesText, ReadsValue, ReadsValidValue, ReadsBoundedValue, ChecksBoundedValidity, ReadsLength, ReadsRecord, ReadsRecordValue}
 use Rattle.theorems.proofs.Calls.Answers.{header_exactly, list_exactly, channel_exactly, header_written_exactly, channel_written_exactly, list_written_exactly, text_written_exactly, value_exactly, valid_value_exactly, bounded_valid_exactly, bounded_value_exactly, length_exactly, fetched_exactly, value_fetched_exactly}
@@ -52,7 +52,7 @@ of_outcome {A} e = ap (λ (o : Outcome A). o.reply) e
 pub header_read_exactly : (κs : Lfts 1) (bytes : Slice) (y : HeaderRead) → ReadsHeader κs bytes y → Exactly (24 ≤ length bytes.now) (header_reply y)
 header_read_exactly κs bytes y p = exactly p (header_exactly bytes.now)
 
-pub header_write_exactly : (κs : Lfts 1) (header : BlockHeader) (out : Slice) (y : Written) (after : List ℕ)
+pub header_write_exactly : (κs : Lfts 1) (header : BlockHeader) (out : Room) (y : Written) (after : List ℕ)
     → WritesHeader κs header out y after → Exactly (24 ≤ length out.now) (written_reply y)
 header_write_exactly κs header out y after p = exactly (of_outcome p) (header_written_exactly out.now (header_meant header))
 
@@ -63,22 +63,22 @@ pub channel_read_exactly : (κs : Lfts 1) (bytes : Slice) (y : ChannelRead) → 
     → Exactly (ChannelStands bytes.now) (channel_block_reply y)
 channel_read_exactly κs bytes y p = exactly p (channel_exactly bytes.now)
 
-pub channel_write_exactly : (κs : Lfts 1) (block : ChannelBlock) (out : Slice) (y : Written) (after : List ℕ)
+pub channel_write_exactly : (κs : Lfts 1) (block : ChannelBlock) (out : Room) (y : Written) (after : List ℕ)
     → WritesChannel κs block out y after → Exactly (160 ≤ length out.now) (written_reply y)
 channel_write_exactly κs block out y after p = exactly (of_outcome p) (channel_written_exactly out.now (channel_block_meant block))
 
-pub list_equal_exactly : (κs : Lfts 2) (next : ℕ) (links : Slice) (length : ℕ) (out : Slice) (y : Written) (after : List ℕ)
+pub list_equal_exactly : (κs : Lfts 2) (next : ℕ) (links : Slice) (length : ℕ) (out : Room) (y : Written) (after : List ℕ)
     → WritesEqual κs next links length out y after → Exactly (ListFits out.now links.now (equal length)) (written_reply y)
 list_equal_exactly κs next links length out y after p = exactly (of_outcome p) (list_written_exactly out.now next links.now (equal length))
 
-pub list_variable_exactly : (κs : Lfts 3) (next : ℕ) (links offsets out : Slice) (y : Written) (after : List ℕ)
+pub list_variable_exactly : (κs : Lfts 3) (next : ℕ) (links offsets : Slice) (out : Room) (y : Written) (after : List ℕ)
     → WritesVariable κs next links offsets out y after → Exactly (ListFits out.now links.now (variable offsets.now)) (written_reply y)
 list_variable_exactly κs next links offsets out y after p =
     exactly (of_outcome p) (list_written_exactly out.now next links.now (variable offsets.now))
 
 -- ---- a text
 
-module _ (κs : Lfts 2) (encoding : Encoding) (bytes out : Slice) (y : TextWrite) (after : List ℕ) (p : WritesText κs encoding bytes out y after) where
+module _ (κs : Lfts 2) (encoding : Encoding) (bytes : Slice) (out : Room) (y : TextWrite) (after : List ℕ) (p : WritesText κs encoding bytes out y after) where
   pub text_write_exactly : Exactly (length (text_of (encoding_of encoding) bytes.now).bytes ≤ length out.now) (text_reply y)
   text_write_exactly = exactly (of_outcome p) (text_written_exactly out.now (encoding_of encoding) bytes.now)
 
@@ -112,11 +112,11 @@ chain_length_exactly κs file start y p = exactly p (length_exactly file.now sta
 
 -- ---- a record
 
-pub record_read_exactly : (κs : Lfts 2) (file : Slice) (start : FileAddress) (number size : ℕ) (out : Slice) (y : RecordRead) (after : List ℕ)
+pub record_read_exactly : (κs : Lfts 2) (file : Slice) (start : FileAddress) (number size : ℕ) (out : Room) (y : RecordRead) (after : List ℕ)
     → ReadsRecord κs file start number size out y after → Exactly (Fetchable file.now start.0 number size out.now) (record_reply y)
 record_read_exactly κs file start number size out y after p = exactly (of_outcome p) (fetched_exactly file.now start.0 number size out.now)
 
-pub record_value_exactly : (κs : Lfts 2) (file : Slice) (start : FileAddress) (number size : ℕ) (group : Group) (channel : Channel) (out : Slice) (y : ValidValueRead) (after : List ℕ)
+pub record_value_exactly : (κs : Lfts 2) (file : Slice) (start : FileAddress) (number size : ℕ) (group : Group) (channel : Channel) (out : Room) (y : ValidValueRead) (after : List ℕ)
     → ReadsRecordValue κs file start number size group channel out y after
     → Exactly (ValueFetchable file.now start.0 number size (group_meant group) (channel_meant channel) out.now) (valid_value_reply y)
 record_value_exactly κs file start number size group channel out y after p =

@@ -33,7 +33,7 @@ use Rattle.replies.specs.declared.validity.Mf4ValidityReply.{Mf4ValidityReply}
 use Rattle.replies.specs.declared.fetches.Mf4LengthReply.{Mf4LengthReply}
 use Rattle.replies.specs.declared.done.Mf4DoneReply.{Mf4DoneReply}
 use Rattle.replies.proofs.ToldToC.{Reversible, of_kind_told}
-use Rattle.mf4.specs.Clauses.{Slice}
+use Rattle.mf4.specs.Clauses.{Slice, Room}
 use Rattle.theorems.specs.Exactly.{Exactly, ExactlyZero, ListStands, ChannelStands, ListFits, FieldStands, InArea, BoundedStands, Joinable, Fetchable, ValueFetchable}
 use Rattle.theorems.specs.ClausesToC.{ReadsHeaderC, WritesHeaderC, ReadsListC, WritesEqualC, WritesVariableC, ReadsChannelC, WritesChannelC, WritesTextC, ReadsValueC, ReadsValidValueC, ChecksValidityC, ReadsUnboundedC, ReadsLengthC, ReadsRecordC, ReadsRecordValueC}
 use Rattle.theorems.proofs.Calls.Answers.{header_exactly, list_exactly, channel_exactly, header_written_exactly, channel_written_exactly, list_written_exactly, text_written_exactly, value_exactly, valid_value_exactly, bounded_valid_exactly, bounded_value_exactly, length_exactly, fetched_exactly, value_fetched_exactly}
@@ -55,7 +55,7 @@ zero_exactly {A} {P} n t a r q h = go (eqb n 0) refl q
 pub header_read_zero : (κs : Lfts 1) (bytes : Slice) (y : Mf4HeaderReply) → ReadsHeaderC κs bytes y → ExactlyZero (24 ≤ length bytes.now) y.reply
 header_read_zero κs bytes y p = zero_exactly y.reply y.told _ _ (mf4_read_header_told κs bytes y p) (header_exactly bytes.now)
 
-pub header_write_zero : (κs : Lfts 1) (header : Mf4Header) (out : Slice) (y : Mf4WrittenReply) (after : List ℕ)
+pub header_write_zero : (κs : Lfts 1) (header : Mf4Header) (out : Room) (y : Mf4WrittenReply) (after : List ℕ)
     → WritesHeaderC κs header out y after → ExactlyZero (24 ≤ length out.now) y.reply
 header_write_zero κs header out y after p =
     zero_exactly y.reply y.told _ _ (mf4_write_header_told κs header out y after p) (header_written_exactly out.now (header_given header))
@@ -66,24 +66,24 @@ list_read_zero κs bytes y p = zero_exactly y.reply y.told _ _ (mf4_read_list_to
 pub channel_read_zero : (κs : Lfts 1) (bytes : Slice) (y : Mf4ChannelReply) → ReadsChannelC κs bytes y → ExactlyZero (ChannelStands bytes.now) y.reply
 channel_read_zero κs bytes y p = zero_exactly y.reply y.told _ _ (mf4_read_channel_told κs bytes y p) (channel_exactly bytes.now)
 
-pub channel_write_zero : (κs : Lfts 1) (block : Mf4ChannelBlock) (out : Slice) (y : Mf4WrittenReply) (after : List ℕ)
+pub channel_write_zero : (κs : Lfts 1) (block : Mf4ChannelBlock) (out : Room) (y : Mf4WrittenReply) (after : List ℕ)
     → WritesChannelC κs block out y after → ExactlyZero (160 ≤ length out.now) y.reply
 channel_write_zero κs block out y after p =
     zero_exactly y.reply y.told _ _ (mf4_write_channel_told κs block out y after p) (channel_written_exactly out.now (block_given block))
 
-pub list_equal_zero : (κs : Lfts 2) (next : ℕ) (links : Slice) (length : ℕ) (out : Slice) (y : Mf4WrittenReply) (after : List ℕ)
+pub list_equal_zero : (κs : Lfts 2) (next : ℕ) (links : Slice) (length : ℕ) (out : Room) (y : Mf4WrittenReply) (after : List ℕ)
     → WritesEqualC κs next links length out y after → ExactlyZero (ListFits out.now links.now (equal length)) y.reply
 list_equal_zero κs next links length out y after p =
     zero_exactly y.reply y.told _ _ (mf4_write_list_equal_told κs next links length out y after p) (list_written_exactly out.now next links.now (equal length))
 
-pub list_variable_zero : (κs : Lfts 3) (next : ℕ) (links offsets out : Slice) (y : Mf4WrittenReply) (after : List ℕ)
+pub list_variable_zero : (κs : Lfts 3) (next : ℕ) (links offsets : Slice) (out : Room) (y : Mf4WrittenReply) (after : List ℕ)
     → WritesVariableC κs next links offsets out y after → ExactlyZero (ListFits out.now links.now (variable offsets.now)) y.reply
 list_variable_zero κs next links offsets out y after p =
     zero_exactly y.reply y.told _ _ (mf4_write_list_variable_told κs next links offsets out y after p) (list_written_exactly out.now next links.now (variable offsets.now))
 
 -- ---- a text
 
-module _ (e : Encoding) (κs : Lfts 2) (bytes out : Slice) (y : Mf4TextReply) (after : List ℕ) (p : WritesTextC e κs bytes out y after) where
+module _ (e : Encoding) (κs : Lfts 2) (bytes : Slice) (out : Room) (y : Mf4TextReply) (after : List ℕ) (p : WritesTextC e κs bytes out y after) where
   pub text_write_zero : ExactlyZero (length (text_of e bytes.now).bytes ≤ length out.now) y.reply
   text_write_zero = zero_exactly y.reply y.told _ _ (mf4_text_told e κs bytes out y after p) (text_written_exactly out.now e bytes.now)
 
@@ -125,12 +125,12 @@ pub length_read_zero : (κs : Lfts 1) (file : Slice) (start : ℕ) (y : Mf4Lengt
     → ReadsLengthC κs file start y → ExactlyZero (Joinable file.now start) y.reply
 length_read_zero κs file start y p = zero_exactly y.reply y.told _ _ (mf4_data_length_told κs file start y p) (length_exactly file.now start)
 
-pub record_read_zero : (κs : Lfts 2) (file : Slice) (start number size : ℕ) (out : Slice) (y : Mf4DoneReply) (after : List ℕ)
+pub record_read_zero : (κs : Lfts 2) (file : Slice) (start number size : ℕ) (out : Room) (y : Mf4DoneReply) (after : List ℕ)
     → ReadsRecordC κs file start number size out y after → ExactlyZero (Fetchable file.now start number size out.now) y.reply
 record_read_zero κs file start number size out y after p =
     zero_exactly y.reply y.told _ _ (mf4_read_record_told κs file start number size out y after p) (fetched_exactly file.now start number size out.now)
 
-pub record_value_zero : (κs : Lfts 2) (file : Slice) (start number size : ℕ) (group : Mf4Group) (channel : Mf4Channel) (out : Slice) (y : Mf4ValidValueReply) (after : List ℕ)
+pub record_value_zero : (κs : Lfts 2) (file : Slice) (start number size : ℕ) (group : Mf4Group) (channel : Mf4Channel) (out : Room) (y : Mf4ValidValueReply) (after : List ℕ)
     → ReadsRecordValueC κs file start number size group channel out y after
     → ExactlyZero (ValueFetchable file.now start number size (group_given group) (channel_given channel) out.now) y.reply
 record_value_zero κs file start number size group channel out y after p =

@@ -23,8 +23,7 @@ use Rattle.blocks.proofs.Headers.{length_header}
 use Rattle.blocks.proofs.Writes.{length_list}
 use Rattle.channels.proofs.Channels.{length_channel}
 use Rattle.places.proofs.Answers.{answered}
-use Rattle.theorems.proofs.Calls.Answers.{size_fits, fetched_exactly, fetched_record}
-use Rattle.theorems.specs.Exactly.{Fetchable}
+use Rattle.theorems.proofs.Calls.Answers.{size_fits}
 
 -- the buffer is as long as before, and nothing changed behind its first n bytes
 pub record SameBehind (n : ℕ) (before after : List ℕ) : Type 0 where

@@ -7,7 +7,7 @@ use Prim.Native.Nat.{ℕ}
 use contract.Lifetimes.{Lfts}
 use Rattle.definitions.specs.Reply.{Reply, Outcome, answer, refusal}
 use Rattle.definitions.specs.DataList.{equal, variable}
-use Rattle.mf4.specs.Clauses.{Slice}
+use Rattle.mf4.specs.Clauses.{Slice, Room}
 use Rattle.theorems.specs.Clauses.{WritesHeader, WritesChannel, WritesEqual, WritesVariable, WritesText, ReadsRecord}
 use Rattle.theorems.proofs.Calls.LeftAlone.{SameBehind, untouched, Leaves, itself, count_of, header_leaves, channel_leaves, list_leaves, text_leaves, fetch_leaves}
 use Rattle.blocks.specs.Meaning.{header_meant, written_reply}
@@ -52,26 +52,26 @@ module _ {Result A : Type 0} (reply : Result → Reply A) (count : A → ℕ) (o
         behind = subst (SameBehind (reported count (reply y)) before) (sym same) (by_reply (reply y) replied);
       }
 
-module _ (κs : Lfts 1) (header : BlockHeader) (out : Slice) where
+module _ (κs : Lfts 1) (header : BlockHeader) (out : Room) where
   pub header_write_spares : Sparing (WritesHeader κs header out) (λ y. Refused (written_reply y)) (λ y. reported itself (written_reply y)) out.now
   header_write_spares = sparing written_reply itself _ out.now (header_leaves out.now (header_meant header))
 
-module _ (κs : Lfts 1) (block : ChannelBlock) (out : Slice) where
+module _ (κs : Lfts 1) (block : ChannelBlock) (out : Room) where
   pub channel_write_spares : Sparing (WritesChannel κs block out) (λ y. Refused (written_reply y)) (λ y. reported itself (written_reply y)) out.now
   channel_write_spares = sparing written_reply itself _ out.now (channel_leaves out.now (channel_block_meant block))
 
-module _ (κs : Lfts 2) (next : ℕ) (links : Slice) (length : ℕ) (out : Slice) where
+module _ (κs : Lfts 2) (next : ℕ) (links : Slice) (length : ℕ) (out : Room) where
   pub list_equal_spares : Sparing (WritesEqual κs next links length out) (λ y. Refused (written_reply y)) (λ y. reported itself (written_reply y)) out.now
   list_equal_spares = sparing written_reply itself _ out.now (list_leaves out.now next links.now (equal length))
 
-module _ (κs : Lfts 3) (next : ℕ) (links offsets out : Slice) where
+module _ (κs : Lfts 3) (next : ℕ) (links offsets : Slice) (out : Room) where
   pub list_variable_spares : Sparing (WritesVariable κs next links offsets out) (λ y. Refused (written_reply y)) (λ y. reported itself (written_reply y)) out.now
   list_variable_spares = sparing written_reply itself _ out.now (list_leaves out.now next links.now (variable offsets.now))
 
-module _ (κs : Lfts 2) (encoding : Encoding) (bytes out : Slice) where
+module _ (κs : Lfts 2) (encoding : Encoding) (bytes : Slice) (out : Room) where
   pub text_write_spares : Sparing (WritesText κs encoding bytes out) (λ y. Refused (text_reply y)) (λ y. reported count_of (text_reply y)) out.now
   text_write_spares = sparing text_reply count_of _ out.now (text_leaves out.now (encoding_of encoding) bytes.now)
 
-module _ (κs : Lfts 2) (file : Slice) (start : FileAddress) (number size : ℕ) (out : Slice) where
+module _ (κs : Lfts 2) (file : Slice) (start : FileAddress) (number size : ℕ) (out : Room) where
   pub record_read_spares : Sparing (ReadsRecord κs file start number size out) (λ y. Refused (record_reply y)) (λ y. reported (λ u. size) (record_reply y)) out.now
   record_read_spares = sparing record_reply (λ u. size) _ out.now (fetch_leaves out.now file.now start.0 number size)

@@ -16,7 +16,7 @@ use Rattle.block_replies.specs.declared.channel_block.Mf4ChannelBlock.{Mf4Channe
 use Rattle.block_replies.specs.declared.written.Mf4WrittenReply.{Mf4WrittenReply}
 use Rattle.replies.specs.declared.texts.Mf4TextReply.{Mf4TextReply}
 use Rattle.replies.specs.declared.done.Mf4DoneReply.{Mf4DoneReply}
-use Rattle.mf4.specs.Clauses.{Slice}
+use Rattle.mf4.specs.Clauses.{Slice, Room}
 use Rattle.theorems.specs.ClausesToC.{WritesHeaderC, WritesChannelC, WritesEqualC, WritesVariableC, WritesTextC, ReadsRecordC}
 use Rattle.theorems.proofs.Texts.TextClausesToC.{text_clause}
 use Rattle.theorems.proofs.Calls.LeftAlone.{SameBehind, untouched, Leaves, itself, count_of, header_leaves, channel_leaves, list_leaves, text_leaves, fetch_leaves}
@@ -46,29 +46,29 @@ written_sparing : (o : Outcome ℕ) (before : List ℕ) → Leaves itself before
     → Sparing (λ y after. returned y after ≡ returned_by written_c o) (λ (y : Mf4WrittenReply). y.reply ≡ 0 → ⊥) (λ y. y.count) before
 written_sparing = sparing written_c (λ (y : Mf4WrittenReply). y.reply) (λ (y : Mf4WrittenReply). y.count) itself (λ n. refl) (λ n. refl)
 
-pub header_write_spares : (κs : Lfts 1) (header : Mf4Header) (out : Slice)
+pub header_write_spares : (κs : Lfts 1) (header : Mf4Header) (out : Room)
     → Sparing (WritesHeaderC κs header out) (λ y. y.reply ≡ 0 → ⊥) (λ y. y.count) out.now
 header_write_spares κs header out = written_sparing _ out.now (header_leaves out.now (header_given header))
 
-pub channel_write_spares : (κs : Lfts 1) (block : Mf4ChannelBlock) (out : Slice)
+pub channel_write_spares : (κs : Lfts 1) (block : Mf4ChannelBlock) (out : Room)
     → Sparing (WritesChannelC κs block out) (λ y. y.reply ≡ 0 → ⊥) (λ y. y.count) out.now
 channel_write_spares κs block out = written_sparing _ out.now (channel_leaves out.now (block_given block))
 
-pub list_equal_spares : (κs : Lfts 2) (next : ℕ) (links : Slice) (length : ℕ) (out : Slice)
+pub list_equal_spares : (κs : Lfts 2) (next : ℕ) (links : Slice) (length : ℕ) (out : Room)
     → Sparing (WritesEqualC κs next links length out) (λ y. y.reply ≡ 0 → ⊥) (λ y. y.count) out.now
 list_equal_spares κs next links length out = written_sparing _ out.now (list_leaves out.now next links.now (equal length))
 
-pub list_variable_spares : (κs : Lfts 3) (next : ℕ) (links offsets out : Slice)
+pub list_variable_spares : (κs : Lfts 3) (next : ℕ) (links offsets : Slice) (out : Room)
     → Sparing (WritesVariableC κs next links offsets out) (λ y. y.reply ≡ 0 → ⊥) (λ y. y.count) out.now
 list_variable_spares κs next links offsets out = written_sparing _ out.now (list_leaves out.now next links.now (variable offsets.now))
 
-pub text_write_spares : (e : Encoding) (κs : Lfts 2) (bytes out : Slice)
+pub text_write_spares : (e : Encoding) (κs : Lfts 2) (bytes : Slice) (out : Room)
     → Sparing (WritesTextC e κs bytes out) (λ y. y.reply ≡ 0 → ⊥) (λ y. y.count) out.now
 text_write_spares e κs bytes out y after p =
     sparing text_c (λ (y : Mf4TextReply). y.reply) (λ (y : Mf4TextReply). y.count) count_of (λ t. refl) (λ t. refl)
     _ out.now (text_leaves out.now e bytes.now) y after (text_clause e κs bytes out y after p)
 
-pub record_read_spares : (κs : Lfts 2) (file : Slice) (start number size : ℕ) (out : Slice)
+pub record_read_spares : (κs : Lfts 2) (file : Slice) (start number size : ℕ) (out : Room)
     → Sparing (ReadsRecordC κs file start number size out) (λ y. y.reply ≡ 0 → ⊥) (λ y. size) out.now
 record_read_spares κs file start number size out =
     sparing done_c (λ (y : Mf4DoneReply). y.reply) (λ y. size) (λ u. size) (λ u. refl) (λ u. refl)

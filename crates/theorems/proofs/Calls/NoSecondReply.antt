@@ -31,7 +31,7 @@ use Rattle.table.specs.Meaning.{change_reply}
 use Rattle.table.proofs.Back.{change_one}
 use Rattle.payloads.proofs.Back.{payload_fetched_one}
 use Rattle.refusals.proofs.Refusal.number.Kinds as refusal_number_kinds
-use Rattle.refusals.proofs.Refusal.number.Reads as refusal_number_law
+use Rattle.refusals.proofs.Refusal.number.Reads as refusal_number
 use Rattle.refusals.proofs.Refusal.told.Kinds as refusal_told_kinds
 use Rattle.refusals.proofs.Refusal.told.Reads as refusal_told
 use Rattle.words.proofs.swapped.Kinds as word_swapped_kinds
@@ -47,7 +47,7 @@ use Rattle.doubles.proofs.widen.Reads as double_widened
 use Rattle.doubles.proofs.narrow.Kinds as double_narrowed_kinds
 use Rattle.doubles.proofs.narrow.Reads as double_narrowed
 use Rattle.doubles.proofs.value_of.Kinds as double_value_kinds
-use Rattle.doubles.proofs.value_of.Reads as double_value_law
+use Rattle.doubles.proofs.value_of.Reads as double_value
 use Rattle.blocks.proofs.header.BlockHeader.from_bytes.Kinds as header_read_kinds
 use Rattle.blocks.proofs.header.BlockHeader.from_bytes.Reads as header_read
 use Rattle.blocks.proofs.header.BlockHeader.to_bytes.Kinds as header_write_kinds
@@ -59,23 +59,23 @@ use Rattle.data_types.proofs.data_type.DataType.to_u8.Reads as type_code
 use Rattle.data_types.proofs.data_type.DataType.default_bits.Kinds as type_bits_kinds
 use Rattle.data_types.proofs.data_type.DataType.default_bits.Reads as type_bits
 use Rattle.blocks.proofs.data_list.DataListBlock.from_bytes.Kinds as list_read_kinds
-use Rattle.blocks.proofs.data_list.DataListBlock.from_bytes.Reads as List-read
+use Rattle.blocks.proofs.data_list.DataListBlock.from_bytes.Reads as list_read
 use Rattle.blocks.proofs.data_list.DataListBlock.write_equal.Kinds as list_equal_kinds
 use Rattle.blocks.proofs.data_list.DataListBlock.write_equal.Reads as list_equal
 use Rattle.blocks.proofs.data_list.DataListBlock.write_variable.Kinds as list_variable_kinds
 use Rattle.blocks.proofs.data_list.DataListBlock.write_variable.Reads as list_variable
 use Rattle.channels.proofs.channel_block.ChannelBlock.from_bytes.Kinds as channel_read_kinds
-use Rattle.channels.proofs.channel_block.ChannelBlock.from_bytes.Reads as channel_read_law
+use Rattle.channels.proofs.channel_block.ChannelBlock.from_bytes.Reads as channel_read
 use Rattle.channels.proofs.channel_block.ChannelBlock.to_bytes.Kinds as channel_write_kinds
 use Rattle.channels.proofs.channel_block.ChannelBlock.to_bytes.Reads as channel_write
 use Rattle.encodings.proofs.text_end.Kinds as text_end_kinds
 use Rattle.encodings.proofs.text_end.Reads as text_end
 use Rattle.text.proofs.write_text.Kinds as text_write_kinds
-use Rattle.text.proofs.write_text.Reads as text_write_law
+use Rattle.text.proofs.write_text.Reads as text_write
 use Rattle.channels.proofs.channel_block.ChannelBlock.channel.Kinds as channel_describe_kinds
 use Rattle.channels.proofs.channel_block.ChannelBlock.channel.Reads as channel_describe
 use Rattle.fields.proofs.channel.Channel.is_variable_length.Kinds as variable_length_kinds
-use Rattle.fields.proofs.channel.Channel.is_variable_length.Reads as variable_length_law
+use Rattle.fields.proofs.channel.Channel.is_variable_length.Reads as variable_length
 use Rattle.fields.proofs.form_of.Kinds as form_of_type_kinds
 use Rattle.fields.proofs.form_of.Reads as form_of_type
 use Rattle.fields.proofs.is_well_described.Kinds as well_described_kinds
@@ -99,7 +99,7 @@ use Rattle.fields.proofs.check_value_validity.Reads as validity
 use Rattle.decoder.proofs.decode_channel_value.Kinds as value_read_kinds
 use Rattle.decoder.proofs.decode_channel_value.Reads as value_read
 use Rattle.decoder.proofs.decode_channel_value_with_validity.Kinds as valid_value_read_kinds
-use Rattle.decoder.proofs.decode_channel_value_with_validity.Reads as valid_value_read_law
+use Rattle.decoder.proofs.decode_channel_value_with_validity.Reads as valid_value_read
 use Rattle.decoder.proofs.any_value.Kinds as any_value_kinds
 use Rattle.decoder.proofs.any_value.Reads as any_value
 use Rattle.decoder.proofs.decode_channel_value_with_bounded_validity.Kinds as bounded_value_read_kinds
@@ -107,15 +107,15 @@ use Rattle.decoder.proofs.decode_channel_value_with_bounded_validity.Reads as bo
 use Rattle.decoder.proofs.any_bounded_value.Kinds as any_bounded_value_kinds
 use Rattle.decoder.proofs.any_bounded_value.Reads as any_bounded_value
 use Rattle.decoder.proofs.decode_f64_from_record.Kinds as record_double_kinds
-use Rattle.decoder.proofs.decode_f64_from_record.Reads as record_double_law
+use Rattle.decoder.proofs.decode_f64_from_record.Reads as record_double
 use Rattle.encoder.proofs.encode_channel_value.Kinds as value_write_kinds
 use Rattle.encoder.proofs.encode_channel_value.Reads as value_write
 use Rattle.places.proofs.data_block_at.Kinds as data_block_kinds
-use Rattle.places.proofs.data_block_at.Reads as data_block_law
+use Rattle.places.proofs.data_block_at.Reads as data_block
 use Rattle.places.proofs.list_at.Kinds as chained_list_kinds
 use Rattle.places.proofs.list_at.Reads as chained_list
 use Rattle.chain.proofs.data_length.Kinds as chain_length_kinds
-use Rattle.chain.proofs.data_length.Reads as Chain-length
+use Rattle.chain.proofs.data_length.Reads as chain_length
 use Rattle.places.proofs.place.Place.start.Kinds as chain_start_kinds
 use Rattle.places.proofs.place.Place.start.Reads as chain_start
 use Rattle.places.proofs.place.DataPosition.is_behind.Kinds as position_behind_kinds
@@ -153,11 +153,13 @@ use Rattle.tally.proofs.has_marks.Reads as tally_marks
 use Rattle.slots.proofs.has_flag.Kinds as slot_flag_kinds
 use Rattle.slots.proofs.has_flag.Reads as slot_flag
 use Rattle.slots.proofs.is_fixed_number.Kinds as fixed_number_kinds
-use Rattle.slots.proofs.is_fixed_number.Reads as Fixed-number
+use Rattle.slots.proofs.is_fixed_number.Reads as fixed_number
 use Rattle.report.proofs.report_channel.Kinds as channel_report_kinds
 use Rattle.report.proofs.report_channel.Reads as channel_report
 use Rattle.overlaps.proofs.begin_search.Kinds as search_begin_kinds
 use Rattle.overlaps.proofs.begin_search.Reads as search_begin
+use Rattle.lent_channels.proofs.first_overlap.Kinds as first_overlap_kinds
+use Rattle.lent_channels.proofs.first_overlap.Reads as first_overlap
 
 -- what differs from call to call is why two replies are one; that a clause asks nothing and is the plain fact is computed
 pub settled : {n : ℕ} {ps : List (ParamKind n)} {r : ResultKind n} {learnt : Out n ps r}
@@ -176,7 +178,7 @@ one_outcome {A} meaning one place {y} {z} e = (one y z (ap (λ (o : Outcome A). 
 pub in_places : {Y B : Type 0} (place : List ℕ → List ℕ → B) {y z : Y} {a b v w : List ℕ} → (y ≡ z) × (a ≡ b) × (v ≡ w) → (y ≡ z) × (place a v ≡ place b w)
 in_places place one = (one.0, ap₂ place one.1 one.2)
 
-pub refusal_number_settled : Settled 0 refusal_number_kinds.ps refusal_number_kinds.r refusal_number_law.Asked refusal_number_law.ensures refusal_number_law.Learnt
+pub refusal_number_settled : Settled 0 refusal_number_kinds.ps refusal_number_kinds.r refusal_number.Asked refusal_number.ensures refusal_number.Learnt
 refusal_number_settled = settled (λ κs a y z b c p q. (p ∙ sym q, refl))
 
 pub refusal_told_settled : Settled 0 refusal_told_kinds.ps refusal_told_kinds.r refusal_told.Asked refusal_told.ensures refusal_told.Learnt
@@ -200,7 +202,7 @@ double_widened_settled = settled (λ κs a y z b c p q. (p ∙ sym q, refl))
 pub double_narrowed_settled : Settled 0 double_narrowed_kinds.ps double_narrowed_kinds.r double_narrowed.Asked double_narrowed.ensures double_narrowed.Learnt
 double_narrowed_settled = settled (λ κs a y z b c p q. (narrow_one y z (p ∙ sym q), refl))
 
-pub double_value_settled : Settled 0 double_value_kinds.ps double_value_kinds.r double_value_law.Asked double_value_law.ensures double_value_law.Learnt
+pub double_value_settled : Settled 0 double_value_kinds.ps double_value_kinds.r double_value.Asked double_value.ensures double_value.Learnt
 double_value_settled = settled (λ κs a y z b c p q. (p ∙ sym q, refl))
 
 pub header_read_settled : Settled 1 header_read_kinds.ps header_read_kinds.r header_read.Asked header_read.ensures header_read.Learnt
@@ -218,7 +220,7 @@ type_code_settled = settled (λ κs a y z b c p q. (p ∙ sym q, refl))
 pub type_bits_settled : Settled 0 type_bits_kinds.ps type_bits_kinds.r type_bits.Asked type_bits.ensures type_bits.Learnt
 type_bits_settled = settled (λ κs a y z b c p q. (p ∙ sym q, refl))
 
-pub list_read_settled : Settled 1 list_read_kinds.ps list_read_kinds.r List-read.Asked List-read.ensures List-read.Learnt
+pub list_read_settled : Settled 1 list_read_kinds.ps list_read_kinds.r list_read.Asked list_read.ensures list_read.Learnt
 list_read_settled = settled (λ κs a y z b c p q. (list_one y z (p ∙ sym q), refl))
 
 pub list_equal_settled : Settled 2 list_equal_kinds.ps list_equal_kinds.r list_equal.Asked list_equal.ensures list_equal.Learnt
@@ -227,7 +229,7 @@ list_equal_settled = settled (λ κs a y z b c p q. one_outcome written_reply wr
 pub list_variable_settled : Settled 3 list_variable_kinds.ps list_variable_kinds.r list_variable.Asked list_variable.ensures list_variable.Learnt
 list_variable_settled = settled (λ κs a y z b c p q. one_outcome written_reply written_one (λ out. (tt, (tt, (tt, (out, tt))))) (p ∙ sym q))
 
-pub channel_read_settled : Settled 1 channel_read_kinds.ps channel_read_kinds.r channel_read_law.Asked channel_read_law.ensures channel_read_law.Learnt
+pub channel_read_settled : Settled 1 channel_read_kinds.ps channel_read_kinds.r channel_read.Asked channel_read.ensures channel_read.Learnt
 channel_read_settled = settled (λ κs a y z b c p q. (channel_one y z (p ∙ sym q), refl))
 
 pub channel_write_settled : Settled 1 channel_write_kinds.ps channel_write_kinds.r channel_write.Asked channel_write.ensures channel_write.Learnt
@@ -239,10 +241,10 @@ channel_describe_settled = settled (λ κs a y z b c p q. (description_one y z (
 pub text_end_settled : Settled 1 text_end_kinds.ps text_end_kinds.r text_end.Asked text_end.ensures text_end.Learnt
 text_end_settled = settled (λ κs a y z b c p q. (p ∙ sym q, refl))
 
-pub text_write_settled : Settled 2 text_write_kinds.ps text_write_kinds.r text_write_law.Asked text_write_law.ensures text_write_law.Learnt
+pub text_write_settled : Settled 2 text_write_kinds.ps text_write_kinds.r text_write.Asked text_write.ensures text_write.Learnt
 text_write_settled = settled (λ κs a y z b c p q. one_outcome text_reply text_one (λ out. (tt, (tt, (out, tt)))) (p ∙ sym q))
 
-pub variable_length_settled : Settled 0 variable_length_kinds.ps variable_length_kinds.r variable_length_law.Asked variable_length_law.ensures variable_length_law.Learnt
+pub variable_length_settled : Settled 0 variable_length_kinds.ps variable_length_kinds.r variable_length.Asked variable_length.ensures variable_length.Learnt
 variable_length_settled = settled (λ κs a y z b c p q. (p ∙ sym q, refl))
 
 pub form_of_type_settled : Settled 0 form_of_type_kinds.ps form_of_type_kinds.r form_of_type.Asked form_of_type.ensures form_of_type.Learnt
@@ -281,7 +283,7 @@ bounded_validity_settled = settled (λ κs a y z b c p q. (validity_one y z (p �
 pub bounded_value_read_settled : Settled 1 bounded_value_read_kinds.ps bounded_value_read_kinds.r bounded_value_read.Asked bounded_value_read.ensures bounded_value_read.Learnt
 bounded_value_read_settled = settled (λ κs a y z b c p q. (valid_value_one y z (p ∙ sym q), refl))
 
-pub valid_value_read_settled : Settled 1 valid_value_read_kinds.ps valid_value_read_kinds.r valid_value_read_law.Asked valid_value_read_law.ensures valid_value_read_law.Learnt
+pub valid_value_read_settled : Settled 1 valid_value_read_kinds.ps valid_value_read_kinds.r valid_value_read.Asked valid_value_read.ensures valid_value_read.Learnt
 valid_value_read_settled = settled (λ κs a y z b c p q. (valid_value_one y z (p ∙ sym q), refl))
 
 pub any_value_settled : Settled 1 any_value_kinds.ps any_value_kinds.r any_value.Asked any_value.ensures any_value.Learnt
@@ -290,19 +292,19 @@ any_value_settled = settled (λ κs a y z b c p q. (value_one y z (p ∙ sym q),
 pub any_bounded_value_settled : Settled 1 any_bounded_value_kinds.ps any_bounded_value_kinds.r any_bounded_value.Asked any_bounded_value.ensures any_bounded_value.Learnt
 any_bounded_value_settled = settled (λ κs a y z b c p q. (valid_value_one y z (p ∙ sym q), refl))
 
-pub record_double_settled : Settled 1 record_double_kinds.ps record_double_kinds.r record_double_law.Asked record_double_law.ensures record_double_law.Learnt
+pub record_double_settled : Settled 1 record_double_kinds.ps record_double_kinds.r record_double.Asked record_double.ensures record_double.Learnt
 record_double_settled = settled (λ κs a y z b c p q. (p ∙ sym q, refl))
 
 pub value_write_settled : Settled 1 value_write_kinds.ps value_write_kinds.r value_write.Asked value_write.ensures value_write.Learnt
 value_write_settled = settled (λ κs a y z b c p q. one_outcome encoder.written_reply encoder_back.written_one (λ out. (tt, (tt, (tt, (out, tt))))) (p ∙ sym q))
 
-pub data_block_settled : Settled 2 data_block_kinds.ps data_block_kinds.r data_block_law.Asked data_block_law.ensures data_block_law.Learnt
+pub data_block_settled : Settled 2 data_block_kinds.ps data_block_kinds.r data_block.Asked data_block.ensures data_block.Learnt
 data_block_settled = settled (λ κs a y z b c p q. (block_one y z (p ∙ sym q), refl))
 
 pub chained_list_settled : Settled 1 chained_list_kinds.ps chained_list_kinds.r chained_list.Asked chained_list.ensures chained_list.Learnt
 chained_list_settled = settled (λ κs a y z b c p q. (list_one y z (p ∙ sym q), refl))
 
-pub chain_length_settled : Settled 1 chain_length_kinds.ps chain_length_kinds.r Chain-length.Asked Chain-length.ensures Chain-length.Learnt
+pub chain_length_settled : Settled 1 chain_length_kinds.ps chain_length_kinds.r chain_length.Asked chain_length.ensures chain_length.Learnt
 chain_length_settled = settled (λ κs a y z b c p q. (chain_one y z (p ∙ sym q), refl))
 
 pub chain_start_settled : Settled 0 chain_start_kinds.ps chain_start_kinds.r chain_start.Asked chain_start.ensures chain_start.Learnt
@@ -359,7 +361,7 @@ tally_marks_settled = settled (λ κs a y z b c p q. (p ∙ sym q, refl))
 pub slot_flag_settled : Settled 0 slot_flag_kinds.ps slot_flag_kinds.r slot_flag.Asked slot_flag.ensures slot_flag.Learnt
 slot_flag_settled = settled (λ κs a y z b c p q. (p ∙ sym q, refl))
 
-pub fixed_number_settled : Settled 0 fixed_number_kinds.ps fixed_number_kinds.r Fixed-number.Asked Fixed-number.ensures Fixed-number.Learnt
+pub fixed_number_settled : Settled 0 fixed_number_kinds.ps fixed_number_kinds.r fixed_number.Asked fixed_number.ensures fixed_number.Learnt
 fixed_number_settled = settled (λ κs a y z b c p q. (p ∙ sym q, refl))
 
 -- of two words the low one is told to be one word
@@ -372,3 +374,6 @@ channel_report_settled =
 
 pub search_begin_settled : Settled 0 search_begin_kinds.ps search_begin_kinds.r search_begin.Asked search_begin.ensures search_begin.Learnt
 search_begin_settled = settled (λ κs a y z b c p q. (p ∙ sym q, refl))
+
+pub first_overlap_settled : Settled 1 first_overlap_kinds.ps first_overlap_kinds.r first_overlap.Asked first_overlap.ensures first_overlap.Learnt
+first_overlap_settled = settled (λ κs a y z b c p q. (p ∙ sym q, refl))

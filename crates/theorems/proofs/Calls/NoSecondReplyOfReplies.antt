@@ -1,7 +1,6 @@
 -- No public function of `replies` has a second result: what C is told of an answer, and what is taken for what C gives.
 use mathlib.Core.Path.{◌≡◌, refl, sym, ap, ◌∙◌}
 use Rattle.definitions.specs.Reply.{answer}
-use Rattle.definitions.specs.Channel as channels
 use Rattle.definitions.specs.WrittenValue.{Given, given_unsigned, given_signed, given_double, given_other}
 use Rattle.definitions.proofs.Replies.{one_by}
 use Rattle.blocks.specs.Meaning.{header_meant}
@@ -19,47 +18,47 @@ use Rattle.encoder.specs.Meaning.{given_meant}
 use Rattle.encoder.specs.declared.number.NumberGiven.{NumberGiven}
 use Rattle.encoder.specs.declared.number.NumberGiven.TheVariants.{Unsigned, Signed, Double, Other}
 use Rattle.block_replies.proofs.header_reply.Kinds as header_reply_kinds
-use Rattle.block_replies.proofs.header_reply.Reads as header_reply_law
+use Rattle.block_replies.proofs.header_reply.Reads as header_reply
 use Rattle.block_replies.proofs.list_reply.Kinds as list_reply_kinds
-use Rattle.block_replies.proofs.list_reply.Reads as list_reply_law
+use Rattle.block_replies.proofs.list_reply.Reads as list_reply
 use Rattle.block_replies.proofs.channel_reply.Kinds as channel_reply_kinds
-use Rattle.block_replies.proofs.channel_reply.Reads as channel_reply_law
+use Rattle.block_replies.proofs.channel_reply.Reads as channel_reply
 use Rattle.block_replies.proofs.written_reply.Kinds as written_reply_kinds
-use Rattle.block_replies.proofs.written_reply.Reads as written_reply_law
+use Rattle.block_replies.proofs.written_reply.Reads as written_reply
 use Rattle.replies.proofs.value_reply.Kinds as value_reply_kinds
-use Rattle.replies.proofs.value_reply.Reads as value_reply_law
+use Rattle.replies.proofs.value_reply.Reads as value_reply
 use Rattle.replies.proofs.valid_value_reply.Kinds as valid_value_reply_kinds
-use Rattle.replies.proofs.valid_value_reply.Reads as valid_value_reply_law
+use Rattle.replies.proofs.valid_value_reply.Reads as valid_value_reply
 use Rattle.replies.proofs.validity_reply.Kinds as validity_reply_kinds
-use Rattle.replies.proofs.validity_reply.Reads as validity_reply_law
+use Rattle.replies.proofs.validity_reply.Reads as validity_reply
 use Rattle.replies.proofs.text_reply.Kinds as text_reply_kinds
-use Rattle.replies.proofs.text_reply.Reads as text_reply_law
+use Rattle.replies.proofs.text_reply.Reads as text_reply
 use Rattle.replies.proofs.flag.Kinds as flag_kinds
 use Rattle.replies.proofs.flag.Reads as flag
 use Rattle.replies.proofs.length_reply.Kinds as length_reply_kinds
-use Rattle.replies.proofs.length_reply.Reads as length_reply_law
+use Rattle.replies.proofs.length_reply.Reads as length_reply
 use Rattle.replies.proofs.fetched_reply.Kinds as fetched_reply_kinds
 use Rattle.replies.proofs.fetched_reply.Reads as fetched_reply
 use Rattle.replies.proofs.payload_reply.Kinds as payload_reply_kinds
-use Rattle.replies.proofs.payload_reply.Reads as payload_reply_law
+use Rattle.replies.proofs.payload_reply.Reads as payload_reply
 use Rattle.replies.proofs.changed_reply.Kinds as changed_reply_kinds
 use Rattle.replies.proofs.changed_reply.Reads as changed_reply
 use Rattle.replies.proofs.stored_reply.Kinds as stored_reply_kinds
-use Rattle.replies.proofs.stored_reply.Reads as stored_reply_law
+use Rattle.replies.proofs.stored_reply.Reads as stored_reply
 use Rattle.replies.proofs.overlap_reply.Kinds as overlap_reply_kinds
-use Rattle.replies.proofs.overlap_reply.Reads as overlap_reply_law
+use Rattle.replies.proofs.overlap_reply.Reads as overlap_reply
 use Rattle.replies.proofs.report_reply.Kinds as report_reply_kinds
-use Rattle.replies.proofs.report_reply.Reads as report_reply_law
+use Rattle.replies.proofs.report_reply.Reads as report_reply
 use Rattle.block_replies.proofs.header_of.Kinds as header_of_kinds
 use Rattle.block_replies.proofs.header_of.Reads as header_of
 use Rattle.block_replies.proofs.block_of.Kinds as block_of_kinds
-use Rattle.block_replies.proofs.block_of.Reads as Block-of
+use Rattle.block_replies.proofs.block_of.Reads as block_of
 use Rattle.block_replies.proofs.channel_of.Kinds as channel_of_kinds
 use Rattle.block_replies.proofs.channel_of.Reads as channel_of
 use Rattle.replies.proofs.group_of.Kinds as group_of_kinds
-use Rattle.replies.proofs.group_of.Reads as Group-of
+use Rattle.replies.proofs.group_of.Reads as group_of
 use Rattle.replies.proofs.number_of.Kinds as number_of_kinds
-use Rattle.replies.proofs.number_of.Reads as number_of_lem
+use Rattle.replies.proofs.number_of.Reads as number_of
 use Rattle.theorems.specs.Sole.{Settled}
 use Rattle.theorems.proofs.Calls.NoSecondReply.{settled}
 
@@ -97,52 +96,52 @@ block_given_one a b e = ap (block_or a) (channel_one (Block a) (Block b) (ap ans
 
 -- ---- what C is told
 
-pub header_reply_settled : Settled 0 header_reply_kinds.ps header_reply_kinds.r header_reply_law.Asked header_reply_law.ensures header_reply_law.Learnt
+pub header_reply_settled : Settled 0 header_reply_kinds.ps header_reply_kinds.r header_reply.Asked header_reply.ensures header_reply.Learnt
 header_reply_settled = settled (λ κs a y z b c p q. (p ∙ sym q, refl))
 
-pub list_reply_settled : Settled 0 list_reply_kinds.ps list_reply_kinds.r list_reply_law.Asked list_reply_law.ensures list_reply_law.Learnt
+pub list_reply_settled : Settled 0 list_reply_kinds.ps list_reply_kinds.r list_reply.Asked list_reply.ensures list_reply.Learnt
 list_reply_settled = settled (λ κs a y z b c p q. (p ∙ sym q, refl))
 
-pub channel_reply_settled : Settled 0 channel_reply_kinds.ps channel_reply_kinds.r channel_reply_law.Asked channel_reply_law.ensures channel_reply_law.Learnt
+pub channel_reply_settled : Settled 0 channel_reply_kinds.ps channel_reply_kinds.r channel_reply.Asked channel_reply.ensures channel_reply.Learnt
 channel_reply_settled = settled (λ κs a y z b c p q. (p ∙ sym q, refl))
 
-pub written_reply_settled : Settled 0 written_reply_kinds.ps written_reply_kinds.r written_reply_law.Asked written_reply_law.ensures written_reply_law.Learnt
+pub written_reply_settled : Settled 0 written_reply_kinds.ps written_reply_kinds.r written_reply.Asked written_reply.ensures written_reply.Learnt
 written_reply_settled = settled (λ κs a y z b c p q. (p ∙ sym q, refl))
 
-pub value_reply_settled : Settled 0 value_reply_kinds.ps value_reply_kinds.r value_reply_law.Asked value_reply_law.ensures value_reply_law.Learnt
+pub value_reply_settled : Settled 0 value_reply_kinds.ps value_reply_kinds.r value_reply.Asked value_reply.ensures value_reply.Learnt
 value_reply_settled = settled (λ κs a y z b c p q. (p ∙ sym q, refl))
 
-pub valid_value_reply_settled : Settled 0 valid_value_reply_kinds.ps valid_value_reply_kinds.r valid_value_reply_law.Asked valid_value_reply_law.ensures valid_value_reply_law.Learnt
+pub valid_value_reply_settled : Settled 0 valid_value_reply_kinds.ps valid_value_reply_kinds.r valid_value_reply.Asked valid_value_reply.ensures valid_value_reply.Learnt
 valid_value_reply_settled = settled (λ κs a y z b c p q. (p ∙ sym q, refl))
 
-pub validity_reply_settled : Settled 0 validity_reply_kinds.ps validity_reply_kinds.r validity_reply_law.Asked validity_reply_law.ensures validity_reply_law.Learnt
+pub validity_reply_settled : Settled 0 validity_reply_kinds.ps validity_reply_kinds.r validity_reply.Asked validity_reply.ensures validity_reply.Learnt
 validity_reply_settled = settled (λ κs a y z b c p q. (p ∙ sym q, refl))
 
-pub text_reply_settled : Settled 0 text_reply_kinds.ps text_reply_kinds.r text_reply_law.Asked text_reply_law.ensures text_reply_law.Learnt
+pub text_reply_settled : Settled 0 text_reply_kinds.ps text_reply_kinds.r text_reply.Asked text_reply.ensures text_reply.Learnt
 text_reply_settled = settled (λ κs a y z b c p q. (p ∙ sym q, refl))
 
 pub flag_settled : Settled 0 flag_kinds.ps flag_kinds.r flag.Asked flag.ensures flag.Learnt
 flag_settled = settled (λ κs a y z b c p q. (p ∙ sym q, refl))
 
-pub length_reply_settled : Settled 0 length_reply_kinds.ps length_reply_kinds.r length_reply_law.Asked length_reply_law.ensures length_reply_law.Learnt
+pub length_reply_settled : Settled 0 length_reply_kinds.ps length_reply_kinds.r length_reply.Asked length_reply.ensures length_reply.Learnt
 length_reply_settled = settled (λ κs a y z b c p q. (p ∙ sym q, refl))
 
 pub fetched_reply_settled : Settled 0 fetched_reply_kinds.ps fetched_reply_kinds.r fetched_reply.Asked fetched_reply.ensures fetched_reply.Learnt
 fetched_reply_settled = settled (λ κs a y z b c p q. (p ∙ sym q, refl))
 
-pub payload_reply_settled : Settled 0 payload_reply_kinds.ps payload_reply_kinds.r payload_reply_law.Asked payload_reply_law.ensures payload_reply_law.Learnt
+pub payload_reply_settled : Settled 0 payload_reply_kinds.ps payload_reply_kinds.r payload_reply.Asked payload_reply.ensures payload_reply.Learnt
 payload_reply_settled = settled (λ κs a y z b c p q. (p ∙ sym q, refl))
 
 pub changed_reply_settled : Settled 0 changed_reply_kinds.ps changed_reply_kinds.r changed_reply.Asked changed_reply.ensures changed_reply.Learnt
 changed_reply_settled = settled (λ κs a y z b c p q. (p ∙ sym q, refl))
 
-pub stored_reply_settled : Settled 0 stored_reply_kinds.ps stored_reply_kinds.r stored_reply_law.Asked stored_reply_law.ensures stored_reply_law.Learnt
+pub stored_reply_settled : Settled 0 stored_reply_kinds.ps stored_reply_kinds.r stored_reply.Asked stored_reply.ensures stored_reply.Learnt
 stored_reply_settled = settled (λ κs a y z b c p q. (p ∙ sym q, refl))
 
-pub overlap_reply_settled : Settled 0 overlap_reply_kinds.ps overlap_reply_kinds.r overlap_reply_law.Asked overlap_reply_law.ensures overlap_reply_law.Learnt
+pub overlap_reply_settled : Settled 0 overlap_reply_kinds.ps overlap_reply_kinds.r overlap_reply.Asked overlap_reply.ensures overlap_reply.Learnt
 overlap_reply_settled = settled (λ κs a y z b c p q. (p ∙ sym q, refl))
 
-pub report_reply_settled : Settled 0 report_reply_kinds.ps report_reply_kinds.r report_reply_law.Asked report_reply_law.ensures report_reply_law.Learnt
+pub report_reply_settled : Settled 0 report_reply_kinds.ps report_reply_kinds.r report_reply.Asked report_reply.ensures report_reply.Learnt
 report_reply_settled = settled (λ κs a y z b c p q. (p ∙ sym q, refl))
 
 -- ---- what C gives
@@ -150,14 +149,14 @@ report_reply_settled = settled (λ κs a y z b c p q. (p ∙ sym q, refl))
 pub header_of_settled : Settled 0 header_of_kinds.ps header_of_kinds.r header_of.Asked header_of.ensures header_of.Learnt
 header_of_settled = settled (λ κs a y z b c p q. (header_given_one y z (p ∙ sym q), refl))
 
-pub block_of_settled : Settled 0 block_of_kinds.ps block_of_kinds.r Block-of.Asked Block-of.ensures Block-of.Learnt
+pub block_of_settled : Settled 0 block_of_kinds.ps block_of_kinds.r block_of.Asked block_of.ensures block_of.Learnt
 block_of_settled = settled (λ κs a y z b c p q. (block_given_one y z (p ∙ sym q), refl))
 
 pub channel_of_settled : Settled 0 channel_of_kinds.ps channel_of_kinds.r channel_of.Asked channel_of.ensures channel_of.Learnt
 channel_of_settled = settled (λ κs a y z b c p q. (description_one y z (p ∙ sym q), refl))
 
-pub group_of_settled : Settled 0 group_of_kinds.ps group_of_kinds.r Group-of.Asked Group-of.ensures Group-of.Learnt
+pub group_of_settled : Settled 0 group_of_kinds.ps group_of_kinds.r group_of.Asked group_of.ensures group_of.Learnt
 group_of_settled = settled (λ κs a y z b c p q. (group_given_one y z (p ∙ sym q), refl))
 
-pub number_of_settled : Settled 0 number_of_kinds.ps number_of_kinds.r number_of_lem.Asked number_of_lem.ensures number_of_lem.Learnt
+pub number_of_settled : Settled 0 number_of_kinds.ps number_of_kinds.r number_of.Asked number_of.ensures number_of.Learnt
 number_of_settled = settled (λ κs a y z b c p q. (number_given_one y z (p ∙ sym q), refl))

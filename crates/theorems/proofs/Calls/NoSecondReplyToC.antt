@@ -1,5 +1,5 @@
--- No call for C has a second reply: each theorem is about the very clause of the call's contract. That of the one call that is
--- proved by hand is in `OverlapsToC`.
+-- No call for C has a second reply: each theorem is about the very clause of the call's contract. Of the one call that is lent
+-- structs it is also in `OverlapsToC`, about the contract as it is written.
 use mathlib.Core.Path.{◌≡◌, refl, sym, ap, ◌∙◌}
 use mathlib.Core.List.{List}
 use Prim.Native.Nat.{ℕ}
@@ -68,6 +68,8 @@ use Rattle.mf4.proofs.mf4_record_payload.Kinds as mf4_record_payload_kinds
 use Rattle.mf4.proofs.mf4_record_payload.Reads as mf4_record_payload
 use Rattle.mf4.proofs.mf4_report.Kinds as mf4_report_kinds
 use Rattle.mf4.proofs.mf4_report.Reads as mf4_report
+use Rattle.mf4.proofs.mf4_first_overlap.Kinds as mf4_first_overlap_kinds
+use Rattle.mf4.proofs.mf4_first_overlap.Reads as mf4_first_overlap
 
 -- what is returned comes of one struct, and of one buffer, which stands among the lent ones at its place
 pub one_returned : {R B : Type 0} (place : List ℕ → B) {y z : R} {b c : List ℕ} → returned y b ≡ returned z c → (y ≡ z) × (place b ≡ place c)
@@ -167,6 +169,9 @@ mf4_record_payload_settled = settled (λ κs a y z b c p q. in_places (λ out ro
 
 pub mf4_report_settled : Settled 2 mf4_report_kinds.ps mf4_report_kinds.r mf4_report.Asked mf4_report.ensures mf4_report.Learnt
 mf4_report_settled = settled (λ κs a y z b c p q. one_returned (λ out. (tt, (tt, (tt, (tt, (tt, (out, tt))))))) (p ∙ sym q))
+
+pub mf4_first_overlap_settled : Settled 1 mf4_first_overlap_kinds.ps mf4_first_overlap_kinds.r mf4_first_overlap.Asked mf4_first_overlap.ensures mf4_first_overlap.Learnt
+mf4_first_overlap_settled = settled (λ κs a y z b c p q. (p ∙ sym q, refl))
 
 pub mf4_version_settled : Settled 0 mf4_version_kinds.ps mf4_version_kinds.r mf4_version.Asked mf4_version.ensures mf4_version.Learnt
 mf4_version_settled = settled (λ κs a y z b c p q. (p ∙ sym q, refl))

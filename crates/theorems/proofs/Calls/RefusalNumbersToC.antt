@@ -32,7 +32,7 @@ use Rattle.replies.specs.declared.done.Mf4DoneReply.{Mf4DoneReply}
 use Rattle.replies.specs.declared.stored.Mf4Number.{Mf4Number}
 use Rattle.replies.specs.declared.payload.Mf4PayloadReply.{Mf4PayloadReply}
 use Rattle.replies.specs.declared.overlap.Mf4OverlapReply.{Mf4OverlapReply}
-use Rattle.mf4.specs.Clauses.{Slice}
+use Rattle.mf4.specs.Clauses.{Slice, Room}
 use Rattle.theorems.specs.ClausesToC.{ReadsHeaderC, WritesHeaderC, ReadsListC, WritesEqualC, WritesVariableC, ReadsChannelC, WritesChannelC, WritesTextC, ReadsValueC, ReadsValidValueC, ReadsUnboundedC, ChecksValidityC, WritesValueC, ReadsLengthC, ReadsRecordC, ReadsRecordValueC, ReadsPayloadC}
 use Rattle.theorems.proofs.Calls.RefusalNumbers.{Numbered, OfBlocks, OfFields, OfArea, OfBounded, OfFetches, OfPayloads, header_numbered, list_numbered, channel_numbered, header_written_numbered, channel_written_numbered, list_written_numbered, text_written_numbered, length_numbered, fetched_numbered, value_numbered, valid_value_numbered, bounded_valid_numbered, bounded_value_numbered, value_fetched_numbered}
 use Rattle.theorems.proofs.Texts.TextClausesToC.{text_clause}
@@ -77,7 +77,7 @@ module _ {P : ℕ → ℕ → Type 0} where
 pub header_read_numbered : (κs : Lfts 1) (bytes : Slice) (y : Mf4HeaderReply) → ReadsHeaderC κs bytes y → NumberedC OfBlocks y.reply y.told
 header_read_numbered κs bytes y p = numbered header_c (λ (x : Mf4HeaderReply). x.reply) (λ (x : Mf4HeaderReply). x.told) (λ h. refl) (λ n t. (refl, refl)) _ p (header_numbered bytes.now)
 
-pub header_write_numbered : (κs : Lfts 1) (header : Mf4Header) (out : Slice) (y : Mf4WrittenReply) (after : List ℕ)
+pub header_write_numbered : (κs : Lfts 1) (header : Mf4Header) (out : Room) (y : Mf4WrittenReply) (after : List ℕ)
     → WritesHeaderC κs header out y after → NumberedC OfBlocks y.reply y.told
 header_write_numbered κs header out y after p =
     written _ p (header_written_numbered out.now (header_given header))
@@ -85,12 +85,12 @@ header_write_numbered κs header out y after p =
 pub list_read_numbered : (κs : Lfts 1) (bytes : Slice) (y : Mf4ListReply) → ReadsListC κs bytes y → NumberedC OfBlocks y.reply y.told
 list_read_numbered κs bytes y p = numbered list_c (λ (x : Mf4ListReply). x.reply) (λ (x : Mf4ListReply). x.told) (λ d. refl) (λ n t. (refl, refl)) _ p (list_numbered bytes.now)
 
-pub list_equal_numbered : (κs : Lfts 2) (next : ℕ) (links : Slice) (length : ℕ) (out : Slice) (y : Mf4WrittenReply) (after : List ℕ)
+pub list_equal_numbered : (κs : Lfts 2) (next : ℕ) (links : Slice) (length : ℕ) (out : Room) (y : Mf4WrittenReply) (after : List ℕ)
     → WritesEqualC κs next links length out y after → NumberedC OfBlocks y.reply y.told
 list_equal_numbered κs next links length out y after p =
     written _ p (list_written_numbered out.now next links.now (equal length))
 
-pub list_variable_numbered : (κs : Lfts 3) (next : ℕ) (links offsets out : Slice) (y : Mf4WrittenReply) (after : List ℕ)
+pub list_variable_numbered : (κs : Lfts 3) (next : ℕ) (links offsets : Slice) (out : Room) (y : Mf4WrittenReply) (after : List ℕ)
     → WritesVariableC κs next links offsets out y after → NumberedC OfBlocks y.reply y.told
 list_variable_numbered κs next links offsets out y after p =
     written _ p (list_written_numbered out.now next links.now (variable offsets.now))
@@ -98,14 +98,14 @@ list_variable_numbered κs next links offsets out y after p =
 pub channel_read_numbered : (κs : Lfts 1) (bytes : Slice) (y : Mf4ChannelReply) → ReadsChannelC κs bytes y → NumberedC OfBlocks y.reply y.told
 channel_read_numbered κs bytes y p = numbered channel_c (λ (x : Mf4ChannelReply). x.reply) (λ (x : Mf4ChannelReply). x.told) (λ b. refl) (λ n t. (refl, refl)) _ p (channel_numbered bytes.now)
 
-pub channel_write_numbered : (κs : Lfts 1) (block : Mf4ChannelBlock) (out : Slice) (y : Mf4WrittenReply) (after : List ℕ)
+pub channel_write_numbered : (κs : Lfts 1) (block : Mf4ChannelBlock) (out : Room) (y : Mf4WrittenReply) (after : List ℕ)
     → WritesChannelC κs block out y after → NumberedC OfBlocks y.reply y.told
 channel_write_numbered κs block out y after p =
     written _ p (channel_written_numbered out.now (block_given block))
 
 -- ---- a text
 
-pub text_write_numbered : (e : Encoding) (κs : Lfts 2) (bytes out : Slice) (y : Mf4TextReply) (after : List ℕ)
+pub text_write_numbered : (e : Encoding) (κs : Lfts 2) (bytes : Slice) (out : Room) (y : Mf4TextReply) (after : List ℕ)
     → WritesTextC e κs bytes out y after → NumberedC OfBlocks y.reply y.told
 text_write_numbered e κs bytes out y after p = numbered_beside text_c (λ (x : Mf4TextReply). x.reply) (λ (x : Mf4TextReply). x.told) (λ a. refl) (λ n t. (refl, refl)) _ (text_clause e κs bytes out y after p) (text_written_numbered out.now e bytes.now)
 
@@ -132,7 +132,7 @@ check_validity_numbered κs bytes group channel y p =
     numbered validity_c (λ (x : Mf4ValidityReply). x.reply) (λ (x : Mf4ValidityReply). x.told) (λ b. refl) (λ n t. (refl, refl)) _ p
     (bounded_valid_numbered bytes.now (group_given group) (channel_given channel))
 
-pub value_write_numbered : (κs : Lfts 1) (id_size : ℕ) (channel : Mf4Channel) (value : Mf4Number) (bytes : Slice) (y : Mf4DoneReply) (after : List ℕ)
+pub value_write_numbered : (κs : Lfts 1) (id_size : ℕ) (channel : Mf4Channel) (value : Mf4Number) (bytes : Room) (y : Mf4DoneReply) (after : List ℕ)
     → WritesValueC κs id_size channel value bytes y after → NumberedC OfWriting y.reply y.told
 value_write_numbered κs id_size channel value bytes y after p =
     done _ p (value_written_numbered bytes.now id_size (channel_given channel) (number_given value))
@@ -142,18 +142,18 @@ value_write_numbered κs id_size channel value bytes y after p =
 pub length_read_numbered : (κs : Lfts 1) (file : Slice) (start : ℕ) (y : Mf4LengthReply) → ReadsLengthC κs file start y → NumberedC OfBlocks y.reply y.told
 length_read_numbered κs file start y p = numbered length_c (λ (x : Mf4LengthReply). x.reply) (λ (x : Mf4LengthReply). x.told) (λ a. refl) (λ n t. (refl, refl)) _ p (length_numbered file.now start)
 
-pub record_read_numbered : (κs : Lfts 2) (file : Slice) (start number size : ℕ) (out : Slice) (y : Mf4DoneReply) (after : List ℕ)
+pub record_read_numbered : (κs : Lfts 2) (file : Slice) (start number size : ℕ) (out : Room) (y : Mf4DoneReply) (after : List ℕ)
     → ReadsRecordC κs file start number size out y after → NumberedC OfBlocks y.reply y.told
 record_read_numbered κs file start number size out y after p =
     done _ p (fetched_numbered file.now start number size out.now)
 
-pub record_value_numbered : (κs : Lfts 2) (file : Slice) (start number size : ℕ) (group : Mf4Group) (channel : Mf4Channel) (out : Slice) (y : Mf4ValidValueReply) (after : List ℕ)
+pub record_value_numbered : (κs : Lfts 2) (file : Slice) (start number size : ℕ) (group : Mf4Group) (channel : Mf4Channel) (out : Room) (y : Mf4ValidValueReply) (after : List ℕ)
     → ReadsRecordValueC κs file start number size group channel out y after → NumberedC OfFetches y.reply y.told
 record_value_numbered κs file start number size group channel out y after p =
     valid_value _ (ap (λ (x : Returned Mf4ValidValueReply). x.result) p)
     (value_fetched_numbered file.now start number size out.now (group_given group) (channel_given channel))
 
-pub record_payload_numbered : (κs : Lfts 3) (file : Slice) (start number size : ℕ) (group : Mf4Group) (channel : Mf4Channel) (out room : Slice) (y : Mf4PayloadReply) (after later : List ℕ)
+pub record_payload_numbered : (κs : Lfts 3) (file : Slice) (start number size : ℕ) (group : Mf4Group) (channel : Mf4Channel) (out room : Room) (y : Mf4PayloadReply) (after later : List ℕ)
     → ReadsPayloadC κs file start number size group channel out room y after later → NumberedC OfPayloads y.reply y.told
 record_payload_numbered κs file start number size group channel out room y after later p =
     numbered payload_c (λ (x : Mf4PayloadReply). x.reply) (λ (x : Mf4PayloadReply). x.told) (λ v. refl) (λ n t. (refl, refl)) _

@@ -21,7 +21,7 @@ use Rattle.definitions.specs.ChannelBlock.{ChannelBlock, fields_at, described, c
 use Rattle.definitions.specs.DataList.{list_of, list_written, equal, variable}
 use Rattle.definitions.specs.WrittenValue.{value_written}
 use Rattle.definitions.specs.Chain.{data_length, fetched, value_fetched}
-use Rattle.mf4.specs.Clauses.{Slice}
+use Rattle.mf4.specs.Clauses.{Slice, Room}
 use Rattle.block_replies.specs.Replies.{Returned, returned, returned_by, written_c, header_given}
 use Rattle.replies.specs.Replies.{text_c, done_c}
 use Rattle.block_replies.specs.Channels.{block_given, channel_c, channel_given}
@@ -151,7 +151,7 @@ by_result {R = R} to_c back p h = ap (λ (x : Returned R). back x.result) p ∙ 
 pub mf4_read_header_told : (κs : Lfts 1) (bytes : Slice) (y : Mf4HeaderReply) → ReadsHeaderC κs bytes y → header_again y ≡ header_of bytes.now
 mf4_read_header_told κs bytes y p = ap header_again p ∙ header_told _ (of_blocks _ (header_numbered bytes.now))
 
-pub mf4_write_header_told : (κs : Lfts 1) (header : Mf4Header) (out : Slice) (y : Mf4WrittenReply) (after : List ℕ)
+pub mf4_write_header_told : (κs : Lfts 1) (header : Mf4Header) (out : Room) (y : Mf4WrittenReply) (after : List ℕ)
     → WritesHeaderC κs header out y after → written_again y ≡ (header_written out.now (header_given header)).reply
 mf4_write_header_told κs header out y after p = by_result written_c written_again p (written_told _ (of_blocks _ (header_written_numbered out.now (header_given header))))
 
@@ -185,22 +185,22 @@ mf4_read_channel_code κs bytes y b p e =
     ap (λ (x : Mf4ChannelReply). x.block.channel.data_type) (p ∙ ap channel_c e)
     ∙ ap (λ (x : ChannelBlock). code_of x.data_type) (channel_stands bytes.now b e).1 ∙ code_back _
 
-pub mf4_write_channel_told : (κs : Lfts 1) (block : Mf4ChannelBlock) (out : Slice) (y : Mf4WrittenReply) (after : List ℕ)
+pub mf4_write_channel_told : (κs : Lfts 1) (block : Mf4ChannelBlock) (out : Room) (y : Mf4WrittenReply) (after : List ℕ)
     → WritesChannelC κs block out y after → written_again y ≡ (channel_written out.now (block_given block)).reply
 mf4_write_channel_told κs block out y after p = by_result written_c written_again p (written_told _ (of_blocks _ (channel_written_numbered out.now (block_given block))))
 
-pub mf4_write_list_equal_told : (κs : Lfts 2) (next : ℕ) (links : Slice) (length : ℕ) (out : Slice) (y : Mf4WrittenReply) (after : List ℕ)
+pub mf4_write_list_equal_told : (κs : Lfts 2) (next : ℕ) (links : Slice) (length : ℕ) (out : Room) (y : Mf4WrittenReply) (after : List ℕ)
     → WritesEqualC κs next links length out y after → written_again y ≡ (list_written out.now next links.now (equal length)).reply
 mf4_write_list_equal_told κs next links length out y after p =
     by_result written_c written_again p (written_told _ (of_blocks _ (list_written_numbered out.now next links.now (equal length))))
 
-pub mf4_write_list_variable_told : (κs : Lfts 3) (next : ℕ) (links offsets out : Slice) (y : Mf4WrittenReply) (after : List ℕ)
+pub mf4_write_list_variable_told : (κs : Lfts 3) (next : ℕ) (links offsets : Slice) (out : Room) (y : Mf4WrittenReply) (after : List ℕ)
     → WritesVariableC κs next links offsets out y after → written_again y ≡ (list_written out.now next links.now (variable offsets.now)).reply
 mf4_write_list_variable_told κs next links offsets out y after p =
     by_result written_c written_again p (written_told _ (of_blocks _ (list_written_numbered out.now next links.now (variable offsets.now))))
 
 -- the four calls for texts
-pub mf4_text_told : (e : Encoding) (κs : Lfts 2) (bytes out : Slice) (y : Mf4TextReply) (after : List ℕ)
+pub mf4_text_told : (e : Encoding) (κs : Lfts 2) (bytes : Slice) (out : Room) (y : Mf4TextReply) (after : List ℕ)
     → WritesTextC e κs bytes out y after → text_again y ≡ (text_written out.now e bytes.now).reply
 mf4_text_told e κs bytes out y after p =
     by_result text_c text_again (text_clause e κs bytes out y after p) (text_told _ (of_blocks _ (text_written_numbered out.now e bytes.now)))
@@ -227,12 +227,12 @@ mf4_check_validity_told κs bytes group channel y p =
 pub mf4_data_length_told : (κs : Lfts 1) (file : Slice) (start : ℕ) (y : Mf4LengthReply) → ReadsLengthC κs file start y → length_again y ≡ data_length file.now start
 mf4_data_length_told κs file start y p = ap length_again p ∙ length_told _ (of_blocks _ (length_numbered file.now start))
 
-pub mf4_write_value_told : (κs : Lfts 1) (id_size : ℕ) (channel : Mf4Channel) (value : Mf4Number) (bytes : Slice) (y : Mf4DoneReply) (after : List ℕ)
+pub mf4_write_value_told : (κs : Lfts 1) (id_size : ℕ) (channel : Mf4Channel) (value : Mf4Number) (bytes : Room) (y : Mf4DoneReply) (after : List ℕ)
     → WritesValueC κs id_size channel value bytes y after → done_again y ≡ (value_written bytes.now id_size (channel_given channel) (number_given value)).reply
 mf4_write_value_told κs id_size channel value bytes y after p =
     by_result done_c done_again p (done_told _ (of_writing _ (value_written_numbered bytes.now id_size (channel_given channel) (number_given value))))
 
-pub mf4_read_record_told : (κs : Lfts 2) (file : Slice) (start number size : ℕ) (out : Slice) (y : Mf4DoneReply) (after : List ℕ)
+pub mf4_read_record_told : (κs : Lfts 2) (file : Slice) (start number size : ℕ) (out : Room) (y : Mf4DoneReply) (after : List ℕ)
     → ReadsRecordC κs file start number size out y after → done_again y ≡ (fetched file.now start number size out.now).reply
 mf4_read_record_told κs file start number size out y after p =
     by_result done_c done_again p (done_told _ (of_blocks _ (fetched_numbered file.now start number size out.now)))
@@ -247,7 +247,7 @@ value_fetched_tellable f start k size g c out = go (fetched f start k size out).
     go (answer u) h = bounded_value_tellable (take size (fetched f start k size out).buffer) g c
     go (refusal n t) h = of_blocks (refusal n t) h
 
-pub mf4_record_value_told : (κs : Lfts 2) (file : Slice) (start number size : ℕ) (group : Mf4Group) (channel : Mf4Channel) (out : Slice) (y : Mf4ValidValueReply) (after : List ℕ)
+pub mf4_record_value_told : (κs : Lfts 2) (file : Slice) (start number size : ℕ) (group : Mf4Group) (channel : Mf4Channel) (out : Room) (y : Mf4ValidValueReply) (after : List ℕ)
     → ReadsRecordValueC κs file start number size group channel out y after
     → valid_value_again y ≡ (value_fetched file.now start number size (group_given group) (channel_given channel) out.now).reply
 mf4_record_value_told κs file start number size group channel out y after p =

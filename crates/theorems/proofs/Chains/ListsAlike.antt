@@ -67,7 +67,7 @@ module _ (f : List ℕ) (before : List Part) (q : Part) (after : List Part) wher
   offsets_by false last n c e h = record { flag = unset q.list.flags (eqb-false _ _ e) }
 
   declares_offsets : Keeps f by_offsets before q after → DeclaresOffsets before q after
-  declares_offsets h = offsets_by _ _ _ _ refl h
+  declares_offsets h = offsets_by _ (eqb q.list.next 0) _ _ refl h
 
   module _ (h : DeclaresOffsets before q after) where
     no_length : declaration_of (drop q.address f) q.list ≡ by_offsets

@@ -23,7 +23,7 @@ use Rattle.replies.specs.declared.values.Mf4ValueReply.{Mf4ValueReply}
 use Rattle.replies.specs.declared.valid_values.Mf4ValidValueReply.{Mf4ValidValueReply}
 use Rattle.replies.specs.declared.validity.Mf4ValidityReply.{Mf4ValidityReply}
 use Rattle.replies.proofs.ToldToC.{value_reply_again, valid_value_again, validity_again}
-use Rattle.mf4.specs.Clauses.{Slice}
+use Rattle.mf4.specs.Clauses.{Slice, Room}
 use Rattle.theorems.specs.Exactly.{Fetchable}
 use Rattle.theorems.specs.Causes.{Replies, FieldReplies, ValidityReplies, BoundedReplies}
 use Rattle.theorems.specs.Refused.{Cause}
@@ -54,7 +54,7 @@ pub bounded_validity_replies : (κs : Lfts 1) (bytes : Slice) (group : Group) (c
 bounded_validity_replies κs bytes group channel y p = as_defined p (bounded_valid_replies bytes.now (group_meant group) (channel_meant channel))
 
 -- of a record that can be fetched, on its own bytes
-pub record_value_replies : (κs : Lfts 2) (file : Slice) (start : FileAddress) (number size : ℕ) (group : Group) (channel : Channel) (out : Slice) (y : ValidValueRead) (after : List ℕ)
+pub record_value_replies : (κs : Lfts 2) (file : Slice) (start : FileAddress) (number size : ℕ) (group : Group) (channel : Channel) (out : Room) (y : ValidValueRead) (after : List ℕ)
     → ReadsRecordValue κs file start number size group channel out y after → (h : Fetchable file.now start.0 number size out.now)
     → BoundedReplies (span (joined file.now h.blocks) (number * size) size) (group_meant group) (channel_meant channel) (valid_value_reply y)
 record_value_replies κs file start number size group channel out y after p h =
@@ -83,7 +83,7 @@ pub mf4_check_validity_replies : (κs : Lfts 1) (bytes : Slice) (group : Mf4Grou
 mf4_check_validity_replies κs bytes group channel y p =
     as_defined (mf4_check_validity_told κs bytes group channel y p) (bounded_valid_replies bytes.now (group_given group) (channel_given channel))
 
-pub mf4_record_value_replies : (κs : Lfts 2) (file : Slice) (start number size : ℕ) (group : Mf4Group) (channel : Mf4Channel) (out : Slice) (y : Mf4ValidValueReply) (after : List ℕ)
+pub mf4_record_value_replies : (κs : Lfts 2) (file : Slice) (start number size : ℕ) (group : Mf4Group) (channel : Mf4Channel) (out : Room) (y : Mf4ValidValueReply) (after : List ℕ)
     → ReadsRecordValueC κs file start number size group channel out y after → (h : Fetchable file.now start number size out.now)
     → BoundedReplies (span (joined file.now h.blocks) (number * size) size) (group_given group) (channel_given channel) (valid_value_again y)
 mf4_record_value_replies κs file start number size group channel out y after p h =

@@ -34,7 +34,7 @@ abbrev pub FindsOverlapC : Bor (List Mf4Channel) → Mf4OverlapReply → Type 0
 FindsOverlapC list y = y ≡ overlap_c (overlap_of (map channel_given list.now))
 
 abbrev first_overlap_clauses : ClausesIn first_overlap.ended
-first_overlap_clauses w = first_overlap.clauses w.𝓛 w.𝓜.mem w.𝓡.run
+first_overlap_clauses w = first_overlap.clauses w.𝓛 w.𝓜.mem w.𝓡.returns
 
 -- of the walk that the call hands its list to
 pub first_overlap_settled : SettledByHand first_overlap.ended first_overlap_clauses (λ κs a y b. FindsOverlapC a.0 y)

@@ -15,7 +15,7 @@ use Rattle.replies.specs.Values.{group_given}
 use Rattle.block_replies.specs.declared.channel.Mf4Channel.{Mf4Channel}
 use Rattle.replies.specs.declared.group.Mf4Group.{Mf4Group}
 use Rattle.replies.specs.declared.payload.Mf4PayloadReply.{Mf4PayloadReply}
-use Rattle.mf4.specs.Clauses.{Slice}
+use Rattle.mf4.specs.Clauses.{Slice, Room}
 use Rattle.theorems.specs.Refused.{RefusedExactly, ToldExactly}
 use Rattle.theorems.specs.RecordCauses.{record_payload_refused}
 use Rattle.theorems.specs.Clauses.{ReadsPayload}
@@ -25,7 +25,7 @@ use Rattle.theorems.proofs.Payloads.PayloadCauses.{payload_fetched_refused}
 use Rattle.replies.proofs.ToldToC.{of_kind_told}
 use Rattle.theorems.proofs.Payloads.PayloadsToC.{Told, payload_tellable, mf4_record_payload_told}
 
-pub record_payload_refused_law : (κs : Lfts 3) (file : Slice) (start : FileAddress) (number size : ℕ) (group : Group) (channel : Channel) (out room : Slice) (y : PayloadRead) (after later : List ℕ)
+pub record_payload_refused_law : (κs : Lfts 3) (file : Slice) (start : FileAddress) (number size : ℕ) (group : Group) (channel : Channel) (out room : Room) (y : PayloadRead) (after later : List ℕ)
     → ReadsPayload κs file start number size group channel out room y after later
     → RefusedExactly (record_payload_refused file.now start.0 number size out.now (group_meant group).id_size (channel_meant channel) room.now) (payload_reply y)
 record_payload_refused_law κs file start number size group channel out room y after later p =
@@ -33,7 +33,7 @@ record_payload_refused_law κs file start number size group channel out room y a
     (payload_fetched_refused file.now start.0 number size (group_meant group) (channel_meant channel) out.now room.now)
 
 -- for C
-pub mf4_record_payload_refused : (κs : Lfts 3) (file : Slice) (start number size : ℕ) (group : Mf4Group) (channel : Mf4Channel) (out room : Slice) (y : Mf4PayloadReply) (after later : List ℕ)
+pub mf4_record_payload_refused : (κs : Lfts 3) (file : Slice) (start number size : ℕ) (group : Mf4Group) (channel : Mf4Channel) (out room : Room) (y : Mf4PayloadReply) (after later : List ℕ)
     → ReadsPayloadC κs file start number size group channel out room y after later
     → ToldExactly (record_payload_refused file.now start number size out.now (group_given group).id_size (channel_given channel) room.now) y.reply y.told
 mf4_record_payload_refused κs file start number size group channel out room y after later p =

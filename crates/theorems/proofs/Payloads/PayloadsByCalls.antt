@@ -1,11 +1,10 @@
 -- How the library's call that fetches a payload ends, and when it answers: about the call's own clause.
-use mathlib.Core.Path.{◌≡◌, sym, ap, subst}
+use mathlib.Core.Path.{sym, ap, subst}
 use mathlib.Core.List.{List}
 use Prim.Native.Nat.{ℕ}
 use contract.Lifetimes.{Lfts}
-use Rattle.definitions.specs.Reply.{Reply}
 use Rattle.definitions.specs.Payload.{PayloadValue, Outcomes}
-use Rattle.mf4.specs.Clauses.{Slice}
+use Rattle.mf4.specs.Clauses.{Slice, Room}
 use Rattle.fields.specs.Meaning.{channel_meant, group_meant}
 use Rattle.fields.specs.declared.channel.Channel.{Channel}
 use Rattle.fields.specs.declared.group.Group.{Group}
@@ -18,7 +17,7 @@ use Rattle.theorems.specs.PayloadEnds.{PayloadEnds}
 use Rattle.theorems.proofs.Payloads.PayloadEnds.{payload_ends}
 use Rattle.theorems.proofs.Payloads.PayloadAnswers.{payload_exactly}
 
-module _ (κs : Lfts 3) (file : Slice) (start : FileAddress) (number size : ℕ) (group : Group) (channel : Channel) (out room : Slice)
+module _ (κs : Lfts 3) (file : Slice) (start : FileAddress) (number size : ℕ) (group : Group) (channel : Channel) (out room : Room)
     (y : PayloadRead) (after later : List ℕ) (p : ReadsPayload κs file start number size group channel out room y after later) where
   pub record_payload_ends : PayloadEnds file.now start.0 number size (group_meant group) (channel_meant channel) out.now room.now (payload_fetched_by y after later)
   record_payload_ends =

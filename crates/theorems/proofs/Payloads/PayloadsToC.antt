@@ -7,7 +7,7 @@ use contract.Lifetimes.{Lfts}
 use Rattle.definitions.specs.Reply.{Reply, answer, refusal}
 use Rattle.definitions.specs.Channel.{Channel, Group}
 use Rattle.definitions.specs.Payload.{PayloadValue, Outcomes, payload_fetched}
-use Rattle.mf4.specs.Clauses.{Slice}
+use Rattle.mf4.specs.Clauses.{Slice, Room}
 use Rattle.block_replies.specs.Channels.{channel_given}
 use Rattle.replies.specs.Values.{group_given}
 use Rattle.block_replies.specs.Replies.{ReturnedBoth}
@@ -45,7 +45,7 @@ module _ (f : List ℕ) (start k size : ℕ) (g : Group) (c : Channel) (out room
 
 -- ---- the call
 
-module _ (κs : Lfts 3) (file : Slice) (start number size : ℕ) (group : Mf4Group) (channel : Mf4Channel) (out room : Slice)
+module _ (κs : Lfts 3) (file : Slice) (start number size : ℕ) (group : Mf4Group) (channel : Mf4Channel) (out room : Room)
     (y : Mf4PayloadReply) (after later : List ℕ) (p : ReadsPayloadC κs file start number size group channel out room y after later) where
   abbrev given : Outcomes PayloadValue
   given = payload_fetched file.now start number size (group_given group) (channel_given channel) out.now room.now

@@ -21,7 +21,7 @@ use Rattle.places.specs.declared.place.FileAddress.{FileAddress}
 use Rattle.payloads.specs.Meaning.{payload_fetched_by}
 use Rattle.payloads.specs.declared.value.PayloadRead.{PayloadRead}
 use Rattle.payloads.proofs.Back.{payload_fetched_one}
-use Rattle.mf4.specs.Clauses.{Slice}
+use Rattle.mf4.specs.Clauses.{Slice, Room}
 use Rattle.block_replies.specs.Channels.{channel_given}
 use Rattle.replies.specs.Values.{group_given, payload_c}
 use Rattle.block_replies.specs.Replies.{returned_both, returned_both_by}
@@ -107,11 +107,11 @@ module _ (c : Channel) (link : ℕ) (from : 0 < c.data_link) (to : 0 < link) whe
 -- result and of what the buffers hold afterwards; `meaning` is what those mean, and `shown` what an outcome of the definitions
 -- means then
 module _ {Start Description Result Meaning : Type 0} (address : Start → ℕ) (described : Description → Channel)
-    (Says : Slice → Start → Description → Slice → Slice → Result → List ℕ → List ℕ → Type 0)
+    (Says : Slice → Start → Description → Room → Room → Result → List ℕ → List ℕ → Type 0)
     (meaning : Result → List ℕ → List ℕ → Meaning) (shown : Outcomes PayloadValue → Meaning)
     (number size : ℕ) (group : Group) where
   abbrev AsDefined : Type 0
-  AsDefined = (file : Slice) (start : Start) (c : Description) (out room : Slice) (y : Result) (after later : List ℕ)
+  AsDefined = (file : Slice) (start : Start) (c : Description) (out room : Room) (y : Result) (after later : List ℕ)
       → Says file start c out room y after later
       → meaning y after later ≡ shown (payload_fetched file.now (address start) number size group (described c) out.now room.now)
 
@@ -123,13 +123,13 @@ module _ {Start Description Result Meaning : Type 0} (address : Start → ℕ) (
   Both j s file start c = Joins file.now (address start) j × JoinsBy id_sd file.now (described c).data_link s
 
   abbrev pub OfJoined : Type 0
-  OfJoined = (j s : List ℕ) (file : Slice) (start : Start) (c : Description) (out room : Slice) (y : Result) (after later : List ℕ)
+  OfJoined = (j s : List ℕ) (file : Slice) (start : Start) (c : Description) (out room : Room) (y : Result) (after later : List ℕ)
       → Both j s file start c → Says file start c out room y after later
       → meaning y after later ≡ shown (payload_in j s number size group (described c) out.now room.now)
 
   -- the descriptions differ in the link at most
   abbrev pub Alike : Type 0
-  Alike = (j s : List ℕ) (f g : Slice) (a b : Start) (c d : Description) (out other room another : Slice) (y z : Result) (after left later kept : List ℕ)
+  Alike = (j s : List ℕ) (f g : Slice) (a b : Start) (c d : Description) (out other room another : Room) (y z : Result) (after left later kept : List ℕ)
       → Both j s f a c → Both j s g b d → described d ≡ relinked (described c) (described d).data_link
       → out.now ≡ other.now → room.now ≡ another.now
       → Says f a c out room y after later → Says g b d other another z left kept
@@ -153,7 +153,7 @@ module _ {Start Description Result Meaning : Type 0} (address : Start → ℕ) (
 module _ (κs : Lfts 3) (number size : ℕ) (group : code_group.Group) where
   -- ---- read_payload
 
-  abbrev pub PayloadSays : Slice → FileAddress → code.Channel → Slice → Slice → PayloadRead → List ℕ → List ℕ → Type 0
+  abbrev pub PayloadSays : Slice → FileAddress → code.Channel → Room → Room → PayloadRead → List ℕ → List ℕ → Type 0
   PayloadSays file start channel out room = ReadsPayload κs file start number size group channel out room
 
   pub read_payload_of_joined : OfJoined (λ (a : FileAddress). a.0) channel_meant PayloadSays payload_fetched_by (λ o. o) number size (group_meant group)
@@ -169,7 +169,7 @@ module _ (κs : Lfts 3) (number size : ℕ) (group : code_group.Group) where
 module _ (κs : Lfts 3) (number size : ℕ) (group : Mf4Group) where
   -- ---- mf4_record_payload
 
-  abbrev pub PayloadSaysC : Slice → ℕ → Mf4Channel → Slice → Slice → Mf4PayloadReply → List ℕ → List ℕ → Type 0
+  abbrev pub PayloadSaysC : Slice → ℕ → Mf4Channel → Room → Room → Mf4PayloadReply → List ℕ → List ℕ → Type 0
   PayloadSaysC file start channel out room = ReadsPayloadC κs file start number size group channel out room
 
   pub mf4_record_payload_of_joined : OfJoined (λ a. a) channel_given PayloadSaysC returned_both (returned_both_by payload_c) number size (group_given group)

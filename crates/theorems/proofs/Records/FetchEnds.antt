@@ -22,7 +22,7 @@ use Rattle.block_replies.specs.declared.channel.Mf4Channel.{Mf4Channel}
 use Rattle.replies.specs.declared.group.Mf4Group.{Mf4Group}
 use Rattle.replies.specs.declared.valid_values.Mf4ValidValueReply.{Mf4ValidValueReply}
 use Rattle.replies.proofs.ToldToC.{valid_value_again}
-use Rattle.mf4.specs.Clauses.{Slice}
+use Rattle.mf4.specs.Clauses.{Slice, Room}
 use Rattle.theorems.specs.Exactly.{Fetchable, record_bytes}
 use Rattle.theorems.specs.FetchEnds.{record_left, FetchEnds, no_record, no_value, a_value_law}
 use Rattle.theorems.specs.Clauses.{ReadsRecordValue}
@@ -78,7 +78,7 @@ module _ (f : List ℕ) (start k size : ℕ) (g : Group) (c : Channel) (out : Li
 
 -- ---- read_value
 
-module _ (κs : Lfts 2) (file : Slice) (start : FileAddress) (number size : ℕ) (group : Grouped) (channel : Description) (out : Slice)
+module _ (κs : Lfts 2) (file : Slice) (start : FileAddress) (number size : ℕ) (group : Grouped) (channel : Description) (out : Room)
     (y : ValidValueRead) (after : List ℕ) (p : ReadsRecordValue κs file start number size group channel out y after)
   where
     pub record_value_ends : FetchEnds file.now start.0 number size (group_meant group) (channel_meant channel) out.now (value_fetched_by y after)
@@ -91,7 +91,7 @@ module _ (κs : Lfts 2) (file : Slice) (start : FileAddress) (number size : ℕ)
 
 -- ---- mf4_record_value: of the reply that the struct tells
 
-module _ (κs : Lfts 2) (file : Slice) (start number size : ℕ) (group : Mf4Group) (channel : Mf4Channel) (out : Slice)
+module _ (κs : Lfts 2) (file : Slice) (start number size : ℕ) (group : Mf4Group) (channel : Mf4Channel) (out : Room)
     (y : Mf4ValidValueReply) (after : List ℕ) (p : ReadsRecordValueC κs file start number size group channel out y after)
   where
     pub mf4_record_value_ends : FetchEnds file.now start number size (group_given group) (channel_given channel) out.now (record { reply = valid_value_again y; buffer = after })

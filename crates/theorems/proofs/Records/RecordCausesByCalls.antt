@@ -18,7 +18,7 @@ use Rattle.replies.specs.declared.group.Mf4Group.{Mf4Group}
 use Rattle.replies.specs.declared.valid_values.Mf4ValidValueReply.{Mf4ValidValueReply}
 use Rattle.replies.specs.declared.fetches.Mf4LengthReply.{Mf4LengthReply}
 use Rattle.replies.specs.declared.done.Mf4DoneReply.{Mf4DoneReply}
-use Rattle.mf4.specs.Clauses.{Slice}
+use Rattle.mf4.specs.Clauses.{Slice, Room}
 use Rattle.theorems.specs.Refused.{RefusedExactly, ToldExactly}
 use Rattle.theorems.specs.RecordCauses.{length_refused, record_refused, record_value_refused}
 use Rattle.theorems.specs.Clauses.{ReadsLength, ReadsRecord, ReadsRecordValue}
@@ -33,11 +33,11 @@ pub chain_length_refused : (κs : Lfts 1) (file : Slice) (start : FileAddress) (
     → ReadsLength κs file start y → RefusedExactly (length_refused file.now start.0) (chain_reply y)
 chain_length_refused κs file start y p = as_is p (length_refused_law file.now start.0)
 
-pub record_read_refused : (κs : Lfts 2) (file : Slice) (start : FileAddress) (number size : ℕ) (out : Slice) (y : RecordRead) (after : List ℕ)
+pub record_read_refused : (κs : Lfts 2) (file : Slice) (start : FileAddress) (number size : ℕ) (out : Room) (y : RecordRead) (after : List ℕ)
     → ReadsRecord κs file start number size out y after → RefusedExactly (record_refused file.now start.0 number size out.now) (record_reply y)
 record_read_refused κs file start number size out y after p = as_is (of_outcome p) (record_refused_law file.now start.0 number size out.now)
 
-pub record_value_refused_law : (κs : Lfts 2) (file : Slice) (start : FileAddress) (number size : ℕ) (group : Group) (channel : Channel) (out : Slice) (y : ValidValueRead) (after : List ℕ)
+pub record_value_refused_law : (κs : Lfts 2) (file : Slice) (start : FileAddress) (number size : ℕ) (group : Group) (channel : Channel) (out : Room) (y : ValidValueRead) (after : List ℕ)
     → ReadsRecordValue κs file start number size group channel out y after
     → RefusedExactly (record_value_refused file.now start.0 number size out.now (group_meant group) (channel_meant channel)) (valid_value_reply y)
 record_value_refused_law κs file start number size group channel out y after p =
@@ -49,12 +49,12 @@ pub mf4_data_length_refused : (κs : Lfts 1) (file : Slice) (start : ℕ) (y : M
     → ReadsLengthC κs file start y → ToldExactly (length_refused file.now start) y.reply y.told
 mf4_data_length_refused κs file start y p = told_exactly _ _ _ _ (mf4_data_length_told κs file start y p) (length_refused_law file.now start)
 
-pub mf4_read_record_refused : (κs : Lfts 2) (file : Slice) (start number size : ℕ) (out : Slice) (y : Mf4DoneReply) (after : List ℕ)
+pub mf4_read_record_refused : (κs : Lfts 2) (file : Slice) (start number size : ℕ) (out : Room) (y : Mf4DoneReply) (after : List ℕ)
     → ReadsRecordC κs file start number size out y after → ToldExactly (record_refused file.now start number size out.now) y.reply y.told
 mf4_read_record_refused κs file start number size out y after p =
     told_exactly _ _ _ _ (mf4_read_record_told κs file start number size out y after p) (record_refused_law file.now start number size out.now)
 
-pub mf4_record_value_refused : (κs : Lfts 2) (file : Slice) (start number size : ℕ) (group : Mf4Group) (channel : Mf4Channel) (out : Slice) (y : Mf4ValidValueReply) (after : List ℕ)
+pub mf4_record_value_refused : (κs : Lfts 2) (file : Slice) (start number size : ℕ) (group : Mf4Group) (channel : Mf4Channel) (out : Room) (y : Mf4ValidValueReply) (after : List ℕ)
     → ReadsRecordValueC κs file start number size group channel out y after
     → ToldExactly (record_value_refused file.now start number size out.now (group_given group) (channel_given channel)) y.reply y.told
 mf4_record_value_refused κs file start number size group channel out y after p =

@@ -21,7 +21,7 @@ use Rattle.block_replies.specs.declared.channel.Mf4Channel.{Mf4Channel}
 use Rattle.replies.specs.declared.group.Mf4Group.{Mf4Group}
 use Rattle.replies.specs.declared.valid_values.Mf4ValidValueReply.{Mf4ValidValueReply}
 use Rattle.replies.proofs.ToldToC.{valid_value_again}
-use Rattle.mf4.specs.Clauses.{Slice}
+use Rattle.mf4.specs.Clauses.{Slice, Room}
 use Rattle.theorems.specs.Exactly.{Fetchable, record_bytes}
 use Rattle.theorems.specs.Clauses.{ReadsRecordValue}
 use Rattle.theorems.specs.ClausesToC.{ReadsRecordValueC}
@@ -73,7 +73,7 @@ module _ (f e : List ℕ) (a b k l size : ℕ) (out room : List ℕ) (h : Fetcha
 
 -- ---- read_value
 
-module _ (κs : Lfts 2) (f e : Slice) (a b : FileAddress) (k l size : ℕ) (group : Grouped) (channel : Description) (out room : Slice)
+module _ (κs : Lfts 2) (f e : Slice) (a b : FileAddress) (k l size : ℕ) (group : Grouped) (channel : Description) (out room : Room)
     (h : Fetchable f.now a.0 k size out.now) (i : Fetchable e.now b.0 l size room.now)
     (alike : FieldAlike f.now e.now a.0 b.0 k l size out.now room.now h i (group_meant group) (channel_meant channel))
     (y z : ValidValueRead) (after later : List ℕ)
@@ -94,7 +94,7 @@ module _ (κs : Lfts 2) (f e : Slice) (a b : FileAddress) (k l size : ℕ) (grou
 
 -- ---- mf4_record_value: of the reply that the struct tells, and of the struct
 
-module _ (κs : Lfts 2) (f e : Slice) (a b k l size : ℕ) (group : Mf4Group) (channel : Mf4Channel) (out room : Slice)
+module _ (κs : Lfts 2) (f e : Slice) (a b k l size : ℕ) (group : Mf4Group) (channel : Mf4Channel) (out room : Room)
     (h : Fetchable f.now a k size out.now) (i : Fetchable e.now b l size room.now)
     (alike : FieldAlike f.now e.now a b k l size out.now room.now h i (group_given group) (channel_given channel))
     (y z : Mf4ValidValueReply) (after later : List ℕ)

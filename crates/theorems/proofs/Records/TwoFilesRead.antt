@@ -28,7 +28,7 @@ use Rattle.replies.specs.declared.done.Mf4DoneReply.{Mf4DoneReply}
 use Rattle.block_replies.specs.declared.channel.Mf4Channel.{Mf4Channel}
 use Rattle.replies.specs.declared.group.Mf4Group.{Mf4Group}
 use Rattle.replies.specs.declared.valid_values.Mf4ValidValueReply.{Mf4ValidValueReply}
-use Rattle.mf4.specs.Clauses.{Slice}
+use Rattle.mf4.specs.Clauses.{Slice, Room}
 use Rattle.theorems.specs.Clauses.{ReadsLength, ReadsRecord, ReadsRecordValue}
 use Rattle.theorems.specs.ClausesToC.{ReadsLengthC, ReadsRecordC, ReadsRecordValueC}
 use Rattle.theorems.proofs.Calls.AnswersToC.{record_value_zero}
@@ -38,14 +38,14 @@ use Rattle.theorems.proofs.Records.TwoFiles.{Joins, record_in, value_in, length_
 -- the buffer holds afterwards; `meaning` is what those two mean, and `given` what the definitions give on the joined bytes
 -- for what the buffer held before
 module _ {Start Result Meaning : Type 0} (address : Start → ℕ) (j : List ℕ)
-    (Says : Slice → Start → Slice → Result → List ℕ → Type 0) (meaning : Result → List ℕ → Meaning) (given : List ℕ → Meaning) where
+    (Says : Slice → Start → Room → Result → List ℕ → Type 0) (meaning : Result → List ℕ → Meaning) (given : List ℕ → Meaning) where
   abbrev pub OfJoined : Type 0
-  OfJoined = (file : Slice) (start : Start) (buffer : Slice) (y : Result) (after : List ℕ)
+  OfJoined = (file : Slice) (start : Start) (buffer : Room) (y : Result) (after : List ℕ)
       → Joins file.now (address start) j → Says file start buffer y after
       → meaning y after ≡ given buffer.now
 
   abbrev pub Alike : Type 0
-  Alike = (f g : Slice) (s t : Start) (b c : Slice) (y z : Result) (after later : List ℕ)
+  Alike = (f g : Slice) (s t : Start) (b c : Room) (y z : Result) (after later : List ℕ)
       → Joins f.now (address s) j → Joins g.now (address t) j → b.now ≡ c.now
       → Says f s b y after → Says g t c z later
       → (y ≡ z) × (after ≡ later)
@@ -70,7 +70,7 @@ mf4_data_length_of_joined κs j file start y h p = p ∙ ap length_c (length_of_
 module _ (κs : Lfts 2) (j : List ℕ) (number size : ℕ) where
   -- ---- read_record
 
-  abbrev pub RecordSays : Slice → FileAddress → Slice → RecordRead → List ℕ → Type 0
+  abbrev pub RecordSays : Slice → FileAddress → Room → RecordRead → List ℕ → Type 0
   RecordSays file start buffer = ReadsRecord κs file start number size buffer
 
   pub read_record_of_joined : OfJoined (λ (s : FileAddress). s.0) j RecordSays fetched_by (record_in j number size)
@@ -84,7 +84,7 @@ module _ (κs : Lfts 2) (j : List ℕ) (number size : ℕ) where
 
   -- ---- mf4_read_record
 
-  abbrev pub RecordSaysC : Slice → ℕ → Slice → Mf4DoneReply → List ℕ → Type 0
+  abbrev pub RecordSaysC : Slice → ℕ → Room → Mf4DoneReply → List ℕ → Type 0
   RecordSaysC file start buffer = ReadsRecordC κs file start number size buffer
 
   pub mf4_read_record_of_joined : OfJoined (λ s. s) j RecordSaysC returned (λ out. returned_by done_c (record_in j number size out))
@@ -101,7 +101,7 @@ module _ (κs : Lfts 2) (j : List ℕ) (number size : ℕ) where
   -- ---- read_value
 
   module _ (group : Group) (channel : Channel) where
-    abbrev pub ValueSays : Slice → FileAddress → Slice → ValidValueRead → List ℕ → Type 0
+    abbrev pub ValueSays : Slice → FileAddress → Room → ValidValueRead → List ℕ → Type 0
     ValueSays file start buffer = ReadsRecordValue κs file start number size group channel buffer
 
     abbrev value_given : List ℕ → Outcome ValidValue
@@ -118,7 +118,7 @@ module _ (κs : Lfts 2) (j : List ℕ) (number size : ℕ) where
         read_value_of_joined
 
     -- a value is answered only where the record size is the group's sum
-    pub read_value_sized : (file : Slice) (start : FileAddress) (buffer : Slice) (y : ValidValueRead) (after : List ℕ) (v : ValidValue)
+    pub read_value_sized : (file : Slice) (start : FileAddress) (buffer : Room) (y : ValidValueRead) (after : List ℕ) (v : ValidValue)
         → ValueSays file start buffer y after → valid_value_reply y ≡ answer v → size ≡ record_length (group_meant group)
     read_value_sized file start buffer y after v p e =
         value_sized file.now start.0 number size (group_meant group) (channel_meant channel) buffer.now v
@@ -127,7 +127,7 @@ module _ (κs : Lfts 2) (j : List ℕ) (number size : ℕ) where
   -- ---- mf4_record_value
 
   module _ (group : Mf4Group) (channel : Mf4Channel) where
-    abbrev pub ValueSaysC : Slice → ℕ → Slice → Mf4ValidValueReply → List ℕ → Type 0
+    abbrev pub ValueSaysC : Slice → ℕ → Room → Mf4ValidValueReply → List ℕ → Type 0
     ValueSaysC file start buffer = ReadsRecordValueC κs file start number size group channel buffer
 
     abbrev value_given_c : List ℕ → Returned Mf4ValidValueReply
@@ -143,7 +143,7 @@ module _ (κs : Lfts 2) (j : List ℕ) (number size : ℕ) where
         (λ y z after later e. (ap (λ (l : Returned Mf4ValidValueReply). l.result) e, ap (λ (l : Returned Mf4ValidValueReply). l.buffer) e))
         mf4_record_value_of_joined
 
-    pub mf4_record_value_sized : (file : Slice) (start : ℕ) (buffer : Slice) (y : Mf4ValidValueReply) (after : List ℕ)
+    pub mf4_record_value_sized : (file : Slice) (start : ℕ) (buffer : Room) (y : Mf4ValidValueReply) (after : List ℕ)
         → ValueSaysC file start buffer y after → y.reply ≡ 0 → size ≡ record_length (group_given group)
     mf4_record_value_sized file start buffer y after p e =
         ((record_value_zero κs file start number size group channel buffer y after p).only e).area.long

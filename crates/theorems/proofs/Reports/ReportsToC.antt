@@ -18,7 +18,7 @@ use Rattle.replies.specs.declared.group.Mf4Group.{Mf4Group}
 use Rattle.replies.specs.declared.reports.Mf4ReportReply.{Mf4ReportReply}
 use Rattle.block_replies.proofs.ToldToC.{again}
 use Rattle.replies.proofs.ToldToC.{report_again, report_told}
-use Rattle.mf4.specs.Clauses.{Slice}
+use Rattle.mf4.specs.Clauses.{Slice, Room}
 use Rattle.theorems.specs.ClausesToC.{ReportsChannelC}
 use Rattle.theorems.specs.Exactly.{ExactlyZero}
 use Rattle.theorems.specs.Refused.{ToldExactly}
@@ -42,7 +42,7 @@ use Rattle.theorems.proofs.Reports.TwoFilesReports.{report_in, report_of_joined}
 again_zero : {A : Type 0} (n t : ℕ) (r : Reply A) → n ≡ 0 → again n t r ≡ r
 again_zero n t r z = rw z
 
-module _ (κs : Lfts 2) (file : Slice) (start size : ℕ) (group : Mf4Group) (channel : Mf4Channel) (out : Slice) where
+module _ (κs : Lfts 2) (file : Slice) (start size : ℕ) (group : Mf4Group) (channel : Mf4Channel) (out : Room) where
   module _ (y : Mf4ReportReply) (after : List ℕ) (p : ReportsChannelC κs file start size group channel out y after) where
     pub mf4_report_told : report_again y ≡ (reported file.now start size (group_given group) (channel_given channel) out.now).reply
     mf4_report_told =
@@ -94,7 +94,7 @@ module _ (κs : Lfts 2) (file : Slice) (start size : ℕ) (group : Mf4Group) (ch
 -- ---- two files
 
 module _ (κs : Lfts 2) (j : List ℕ) (size : ℕ) (group : Mf4Group) (channel : Mf4Channel) where
-  abbrev pub ReportSaysC : Slice → ℕ → Slice → Mf4ReportReply → List ℕ → Type 0
+  abbrev pub ReportSaysC : Slice → ℕ → Room → Mf4ReportReply → List ℕ → Type 0
   ReportSaysC file start buffer = ReportsChannelC κs file start size group channel buffer
 
   abbrev report_given_c : List ℕ → Returned Mf4ReportReply

@@ -12,34 +12,37 @@ use Rattle.table.specs.declared.layout.TableChanged.{TableChanged}
 use Rattle.block_replies.specs.Replies.{Returned}
 use Rattle.replies.specs.declared.done.Mf4DoneReply.{Mf4DoneReply}
 use Rattle.replies.proofs.ToldToC.{done_again}
-use Rattle.mf4.specs.Clauses.{Slice}
+use Rattle.mf4.specs.Clauses.{Slice, Room}
 use Rattle.theorems.specs.Clauses.{OpensTable, ExtendsTable, ShortensTable}
 use Rattle.theorems.specs.ClausesToC.{OpensTableC, ExtendsTableC, ShortensTableC}
 use Rattle.theorems.specs.Histories.{Afresh, Operation, opens, extends, shortens, addresses_of, Runs}
 use Rattle.theorems.proofs.Tables.TableNumbers.{mf4_open_table_told, mf4_extend_table_told, mf4_shorten_table_told}
 use Rattle.theorems.proofs.Tables.Histories.{Faithful, history, zeros_afresh, open_afresh}
 
--- a slice that holds these
+-- a slice that holds these, and one that is lent to be written to
 abbrev Holding : List ℕ → Type 0
 Holding l = (s : Slice) × (s.now ≡ l)
+
+abbrev Lent : List ℕ → Type 0
+Lent l = (s : Room) × (s.now ≡ l)
 
 -- a reply and a table that a call leaves, over the file f: of the library
 abbrev pub ByCalls : List ℕ → Operation → List ℕ → Reply (Unit {0}) → List ℕ → Type 0
 ByCalls f (opens start) w r v =
-    (κs : Lfts 2) × (file : Holding f) × (table : Holding w) × (y : TableChanged) × (change_reply y ≡ r) × OpensTable κs file.0 (record { 0 = start }) table.0 y v
+    (κs : Lfts 2) × (file : Holding f) × (table : Lent w) × (y : TableChanged) × (change_reply y ≡ r) × OpensTable κs file.0 (record { 0 = start }) table.0 y v
 ByCalls f (extends a) w r v =
-    (κs : Lfts 2) × (file : Holding f) × (table : Holding w) × (y : TableChanged) × (change_reply y ≡ r) × ExtendsTable κs file.0 (record { 0 = a }) table.0 y v
+    (κs : Lfts 2) × (file : Holding f) × (table : Lent w) × (y : TableChanged) × (change_reply y ≡ r) × ExtendsTable κs file.0 (record { 0 = a }) table.0 y v
 ByCalls f shortens w r v =
-    (κs : Lfts 1) × (table : Holding w) × (y : TableChanged) × (change_reply y ≡ r) × ShortensTable κs table.0 y v
+    (κs : Lfts 1) × (table : Lent w) × (y : TableChanged) × (change_reply y ≡ r) × ShortensTable κs table.0 y v
 
 -- and of C
 abbrev pub ToC : List ℕ → Operation → List ℕ → Reply (Unit {0}) → List ℕ → Type 0
 ToC f (opens start) w r v =
-    (κs : Lfts 2) × (file : Holding f) × (table : Holding w) × (y : Mf4DoneReply) × (done_again y ≡ r) × OpensTableC κs file.0 start table.0 y v
+    (κs : Lfts 2) × (file : Holding f) × (table : Lent w) × (y : Mf4DoneReply) × (done_again y ≡ r) × OpensTableC κs file.0 start table.0 y v
 ToC f (extends a) w r v =
-    (κs : Lfts 2) × (file : Holding f) × (table : Holding w) × (y : Mf4DoneReply) × (done_again y ≡ r) × ExtendsTableC κs file.0 a table.0 y v
+    (κs : Lfts 2) × (file : Holding f) × (table : Lent w) × (y : Mf4DoneReply) × (done_again y ≡ r) × ExtendsTableC κs file.0 a table.0 y v
 ToC f shortens w r v =
-    (κs : Lfts 1) × (table : Holding w) × (y : Mf4DoneReply) × (done_again y ≡ r) × ShortensTableC κs table.0 y v
+    (κs : Lfts 1) × (table : Lent w) × (y : Mf4DoneReply) × (done_again y ≡ r) × ShortensTableC κs table.0 y v
 
 -- they do what the definitions say
 replied : {y r : Reply (Unit {0})} (v : List ℕ) {o : Outcome (Unit {0})} → y ≡ r → record { reply = y; buffer = v } ≡ o → record { reply = r; buffer = v } ≡ o

@@ -18,7 +18,7 @@ use Rattle.replies.specs.declared.group.Mf4Group.{Mf4Group}
 use Rattle.replies.specs.declared.valid_values.Mf4ValidValueReply.{Mf4ValidValueReply}
 use Rattle.replies.specs.declared.done.Mf4DoneReply.{Mf4DoneReply}
 use Rattle.replies.proofs.ToldToC.{of_kind_told}
-use Rattle.mf4.specs.Clauses.{Slice}
+use Rattle.mf4.specs.Clauses.{Slice, Room}
 use Rattle.theorems.specs.Exactly.{Exactly, ExactlyZero}
 use Rattle.theorems.specs.TableCauses.{Openable, Extendable, Shortenable, TableFetchable, TableValueFetchable}
 use Rattle.theorems.specs.Clauses.{OpensTable, ExtendsTable, ShortensTable, FetchesRecord, FetchesValue}
@@ -29,23 +29,23 @@ use Rattle.theorems.proofs.Calls.ToldToC.{Judged}
 use Rattle.theorems.proofs.Tables.TableAnswers.{open_exactly, extend_exactly, shorten_exactly, table_record_exactly, table_value_exactly}
 use Rattle.theorems.proofs.Tables.TableNumbers.{mf4_open_table_told, mf4_extend_table_told, mf4_shorten_table_told, mf4_table_record_told, table_value_tellable, mf4_table_value_told}
 
-module _ (κs : Lfts 2) (file : Slice) (at : FileAddress) (table : Slice) (y : TableChanged) (after : List ℕ) where
+module _ (κs : Lfts 2) (file : Slice) (at : FileAddress) (table : Room) (y : TableChanged) (after : List ℕ) where
   pub table_open_exactly : OpensTable κs file at table y after → Exactly (Openable file.now at.0) (change_reply y)
   table_open_exactly p = exactly (of_outcome p) (open_exactly file.now at.0 table.now)
 
   pub table_extend_exactly : ExtendsTable κs file at table y after → Exactly (Extendable file.now at.0 table.now) (change_reply y)
   table_extend_exactly p = exactly (of_outcome p) (extend_exactly file.now at.0 table.now)
 
-pub table_shorten_exactly : (κs : Lfts 1) (table : Slice) (y : TableChanged) (after : List ℕ)
+pub table_shorten_exactly : (κs : Lfts 1) (table : Room) (y : TableChanged) (after : List ℕ)
     → ShortensTable κs table y after → Exactly (Shortenable table.now) (change_reply y)
 table_shorten_exactly κs table y after p = exactly (of_outcome p) (shorten_exactly table.now)
 
 module _ (κs : Lfts 3) (file table : Slice) (number size : ℕ) where
-  pub table_record_read_exactly : (out : Slice) (y : RecordRead) (after : List ℕ) → FetchesRecord κs file table number size out y after
+  pub table_record_read_exactly : (out : Room) (y : RecordRead) (after : List ℕ) → FetchesRecord κs file table number size out y after
       → Exactly (TableFetchable file.now table.now number size out.now) (record_reply y)
   table_record_read_exactly out y after p = exactly (of_outcome p) (table_record_exactly file.now table.now number size out.now)
 
-  pub table_value_read_exactly : (group : Group) (channel : Channel) (out : Slice) (y : ValidValueRead) (after : List ℕ)
+  pub table_value_read_exactly : (group : Group) (channel : Channel) (out : Room) (y : ValidValueRead) (after : List ℕ)
       → FetchesValue κs file table number size group channel out y after
       → Exactly (TableValueFetchable file.now table.now number size (group_meant group) (channel_meant channel) out.now) (valid_value_reply y)
   table_value_read_exactly group channel out y after p =
@@ -53,18 +53,18 @@ module _ (κs : Lfts 3) (file table : Slice) (number size : ℕ) where
 
 -- ---- for C
 
-module _ (κs : Lfts 2) (file : Slice) (at : ℕ) (table : Slice) (y : Mf4DoneReply) (after : List ℕ) where
+module _ (κs : Lfts 2) (file : Slice) (at : ℕ) (table : Room) (y : Mf4DoneReply) (after : List ℕ) where
   pub mf4_open_table_zero : OpensTableC κs file at table y after → ExactlyZero (Openable file.now at) y.reply
   mf4_open_table_zero p = zero_exactly y.reply y.told _ _ (mf4_open_table_told κs file at table y after p) (open_exactly file.now at table.now)
 
   pub mf4_extend_table_zero : ExtendsTableC κs file at table y after → ExactlyZero (Extendable file.now at table.now) y.reply
   mf4_extend_table_zero p = zero_exactly y.reply y.told _ _ (mf4_extend_table_told κs file at table y after p) (extend_exactly file.now at table.now)
 
-pub mf4_shorten_table_zero : (κs : Lfts 1) (table : Slice) (y : Mf4DoneReply) (after : List ℕ)
+pub mf4_shorten_table_zero : (κs : Lfts 1) (table : Room) (y : Mf4DoneReply) (after : List ℕ)
     → ShortensTableC κs table y after → ExactlyZero (Shortenable table.now) y.reply
 mf4_shorten_table_zero κs table y after p = zero_exactly y.reply y.told _ _ (mf4_shorten_table_told κs table y after p) (shorten_exactly table.now)
 
-module _ (κs : Lfts 3) (file table : Slice) (number size : ℕ) (out : Slice) where
+module _ (κs : Lfts 3) (file table : Slice) (number size : ℕ) (out : Room) where
   pub mf4_table_record_zero : (y : Mf4DoneReply) (after : List ℕ) → FetchesRecordC κs file table number size out y after
       → ExactlyZero (TableFetchable file.now table.now number size out.now) y.reply
   mf4_table_record_zero y after p =

@@ -8,7 +8,7 @@ use lib.ListN.{length}
 use borrow.Author.Tests.{le-ltb}
 use Rattle.definitions.specs.Channel.{Channel, Group}
 use Rattle.definitions.specs.Chain.{Block, id_dt, file_limit, joined, fetched, field_of, value_fetched}
-use Rattle.definitions.specs.Table.{table_limit, opened, table_fetched, table_value_fetched}
+use Rattle.definitions.specs.Table.{table_limit, table_fetched, table_value_fetched}
 use Rattle.chain.proofs.Chains.{chain_stands}
 use Rattle.theorems.specs.Histories.{blocks_there, Afresh}
 use Rattle.theorems.proofs.Records.TwoFiles.{Joins, record_in, value_in, record_of_joined}

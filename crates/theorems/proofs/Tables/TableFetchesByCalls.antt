@@ -23,7 +23,7 @@ use Rattle.block_replies.specs.declared.channel.Mf4Channel.{Mf4Channel}
 use Rattle.replies.specs.declared.group.Mf4Group.{Mf4Group}
 use Rattle.replies.specs.declared.valid_values.Mf4ValidValueReply.{Mf4ValidValueReply}
 use Rattle.replies.specs.declared.done.Mf4DoneReply.{Mf4DoneReply}
-use Rattle.mf4.specs.Clauses.{Slice}
+use Rattle.mf4.specs.Clauses.{Slice, Room}
 use Rattle.theorems.specs.Clauses.{ReadsRecord, ReadsRecordValue, FetchesRecord, FetchesValue}
 use Rattle.theorems.specs.ClausesToC.{ReadsRecordC, ReadsRecordValueC, FetchesRecordC, FetchesValueC}
 use Rattle.theorems.specs.Histories.{blocks_there, Afresh, opens}
@@ -43,7 +43,7 @@ opened_to_c f start w v c = opened_from f start w v (c_faithful f (opens start) 
 one_value : (a b : ValidValueRead) (x y : List ℕ) → value_fetched_by a x ≡ value_fetched_by b y → (a ≡ b) × (x ≡ y)
 one_value a b x y e = (valid_value_one a b (ap (λ (o : Outcome ValidValue). o.reply) e), ap (λ (o : Outcome ValidValue). o.buffer) e)
 
-module _ (κs : Lfts 3) (file table : Slice) (number size : ℕ) (out : Slice) where
+module _ (κs : Lfts 3) (file table : Slice) (number size : ℕ) (out : Room) where
   -- ---- what a history left
 
   module _ (xs : List ℕ) (h : Afresh file.now xs table.now) (short : length file.now ≤ file_limit) where
@@ -96,7 +96,7 @@ module _ (κs : Lfts 3) (file table : Slice) (number size : ℕ) (out : Slice) w
 -- ---- two files whose chains join to the same bytes j, each with a table opened from its chain
 
 module _ (κs : Lfts 3) (j : List ℕ) (f g s t : Slice) (a b : ℕ) (h : OpenedFrom f.now a s.now) (i : OpenedFrom g.now b t.now)
-    (hj : Joins f.now a j) (ij : Joins g.now b j) (number size : ℕ) (out room : Slice) (same : out.now ≡ room.now) where
+    (hj : Joins f.now a j) (ij : Joins g.now b j) (number size : ℕ) (out room : Room) (same : out.now ≡ room.now) where
   pub table_record_alike : (y z : RecordRead) (after later : List ℕ) → FetchesRecord κs f s number size out y after → FetchesRecord κs g t number size room z later
       → (y ≡ z) × (after ≡ later)
   table_record_alike y z after later p q =

@@ -1,6 +1,6 @@
 -- Which numbers the refusals of a table have: 30 to 32 and those of blocks, chains and records, and of a value through it also the
 -- field's; so a reply of 0 is an answer. About the definitions, and about the clauses of the calls; and what C is told.
-use mathlib.Core.Path.{◌≡◌, refl, sym, ap, ◌∙◌}
+use mathlib.Core.Path.{◌≡◌, refl, sym, ap}
 use mathlib.Core.Logic.{◌⊎◌, inl, inr, ⊎_elim}
 use mathlib.Core.Bool.{true, not, ◌&&◌, true≢false}
 use mathlib.Core.List.{List}
@@ -31,7 +31,7 @@ use Rattle.replies.specs.declared.valid_values.Mf4ValidValueReply.{Mf4ValidValue
 use Rattle.replies.specs.declared.done.Mf4DoneReply.{Mf4DoneReply}
 use Rattle.block_replies.proofs.ToldToC.{Tellable, Any}
 use Rattle.replies.proofs.ToldToC.{done_again, done_told, valid_value_again, valid_value_told}
-use Rattle.mf4.specs.Clauses.{Slice}
+use Rattle.mf4.specs.Clauses.{Slice, Room}
 use Rattle.theorems.specs.Clauses.{OpensTable, ExtendsTable, ShortensTable, FetchesRecord, FetchesValue}
 use Rattle.theorems.specs.ClausesToC.{OpensTableC, ExtendsTableC, ShortensTableC, FetchesRecordC, FetchesValueC}
 use Rattle.theorems.proofs.Calls.AnswersByCalls.{of_outcome}
@@ -95,21 +95,21 @@ module _ (f w : List ℕ) (k size : ℕ) (out : List ℕ) where
 
 -- ---- the calls
 
-module _ (κs : Lfts 2) (file : Slice) (at : FileAddress) (table : Slice) (y : TableChanged) (after : List ℕ) where
+module _ (κs : Lfts 2) (file : Slice) (at : FileAddress) (table : Room) (y : TableChanged) (after : List ℕ) where
   pub table_open_numbered : OpensTable κs file at table y after → Numbered OfTables (change_reply y)
   table_open_numbered p = numbered (of_outcome p) (opened_numbered file.now at.0 table.now)
 
   pub table_extend_numbered : ExtendsTable κs file at table y after → Numbered OfTables (change_reply y)
   table_extend_numbered p = numbered (of_outcome p) (extended_numbered file.now at.0 table.now)
 
-pub table_shorten_numbered : (κs : Lfts 1) (table : Slice) (y : TableChanged) (after : List ℕ) → ShortensTable κs table y after → Numbered OfTables (change_reply y)
+pub table_shorten_numbered : (κs : Lfts 1) (table : Room) (y : TableChanged) (after : List ℕ) → ShortensTable κs table y after → Numbered OfTables (change_reply y)
 table_shorten_numbered κs table y after p = numbered (of_outcome p) (shortened_numbered table.now)
 
 module _ (κs : Lfts 3) (file table : Slice) (number size : ℕ) where
-  pub table_record_numbered : (out : Slice) (y : RecordRead) (after : List ℕ) → FetchesRecord κs file table number size out y after → Numbered OfTables (record_reply y)
+  pub table_record_numbered : (out : Room) (y : RecordRead) (after : List ℕ) → FetchesRecord κs file table number size out y after → Numbered OfTables (record_reply y)
   table_record_numbered out y after p = numbered (of_outcome p) (table_fetched_numbered file.now table.now number size out.now)
 
-  pub table_value_read_numbered : (group : Grouped) (channel : Description) (out : Slice) (y : ValidValueRead) (after : List ℕ)
+  pub table_value_read_numbered : (group : Grouped) (channel : Description) (out : Room) (y : ValidValueRead) (after : List ℕ)
       → FetchesValue κs file table number size group channel out y after → Numbered OfTableValues (valid_value_reply y)
   table_value_read_numbered group channel out y after p =
       numbered (of_outcome p) (table_value_numbered file.now table.now number size out.now (group_meant group) (channel_meant channel))
@@ -119,7 +119,7 @@ module _ (κs : Lfts 3) (file table : Slice) (number size : ℕ) where
 of_tables : {A : Type 0} (r : Reply A) → Numbered OfTables r → Tellable Any r
 of_tables = by_number OfTables (λ t. ⊎_elim (λ h. true≢false (sym h)) (λ h. true≢false (sym h)))
 
-module _ (κs : Lfts 2) (file : Slice) (at : ℕ) (table : Slice) (y : Mf4DoneReply) (after : List ℕ) where
+module _ (κs : Lfts 2) (file : Slice) (at : ℕ) (table : Room) (y : Mf4DoneReply) (after : List ℕ) where
   pub mf4_open_table_numbered : OpensTableC κs file at table y after → NumberedC OfTables y.reply y.told
   mf4_open_table_numbered p = done _ p (opened_numbered file.now at table.now)
 
@@ -132,14 +132,14 @@ module _ (κs : Lfts 2) (file : Slice) (at : ℕ) (table : Slice) (y : Mf4DoneRe
   pub mf4_extend_table_told : ExtendsTableC κs file at table y after → done_again y ≡ (extended file.now at table.now).reply
   mf4_extend_table_told p = by_result done_c done_again p (done_told _ (of_tables _ (extended_numbered file.now at table.now)))
 
-module _ (κs : Lfts 1) (table : Slice) (y : Mf4DoneReply) (after : List ℕ) (p : ShortensTableC κs table y after) where
+module _ (κs : Lfts 1) (table : Room) (y : Mf4DoneReply) (after : List ℕ) (p : ShortensTableC κs table y after) where
   pub mf4_shorten_table_numbered : NumberedC OfTables y.reply y.told
   mf4_shorten_table_numbered = done _ p (shortened_numbered table.now)
 
   pub mf4_shorten_table_told : done_again y ≡ (shortened table.now).reply
   mf4_shorten_table_told = by_result done_c done_again p (done_told _ (of_tables _ (shortened_numbered table.now)))
 
-module _ (κs : Lfts 3) (file table : Slice) (number size : ℕ) (out : Slice) where
+module _ (κs : Lfts 3) (file table : Slice) (number size : ℕ) (out : Room) where
   module _ (y : Mf4DoneReply) (after : List ℕ) (p : FetchesRecordC κs file table number size out y after) where
     pub mf4_table_record_numbered : NumberedC OfTables y.reply y.told
     mf4_table_record_numbered = done _ p (table_fetched_numbered file.now table.now number size out.now)

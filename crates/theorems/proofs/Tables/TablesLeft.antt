@@ -24,7 +24,7 @@ use Rattle.table.specs.declared.layout.TableChanged.{TableChanged}
 use Rattle.block_replies.specs.Replies.{Returned, returned, returned_by}
 use Rattle.replies.specs.Replies.{done_c}
 use Rattle.replies.specs.declared.done.Mf4DoneReply.{Mf4DoneReply}
-use Rattle.mf4.specs.Clauses.{Slice}
+use Rattle.mf4.specs.Clauses.{Slice, Room}
 use Rattle.theorems.specs.Clauses.{OpensTable, ExtendsTable, ShortensTable, FetchesRecord}
 use Rattle.theorems.specs.ClausesToC.{OpensTableC, ExtendsTableC, ShortensTableC, FetchesRecordC}
 use Rattle.theorems.proofs.Calls.Answers.{size_fits}
@@ -115,17 +115,17 @@ spared y w v o h p q =
     ap (λ (x : Outcome (Unit {0})). x.buffer) p
     ∙ h q.0 q.1 (sym (ap (λ (x : Outcome (Unit {0})). x.reply) p) ∙ q.2)
 
-module _ (κs : Lfts 2) (file : Slice) (at : FileAddress) (table : Slice) (y : TableChanged) (after : List ℕ) where
+module _ (κs : Lfts 2) (file : Slice) (at : FileAddress) (table : Room) (y : TableChanged) (after : List ℕ) where
   pub table_open_spares : OpensTable κs file at table y after → Refused (change_reply y) → after ≡ table.now
   table_open_spares = spared y table.now after _ (open_leaves table.now file.now at.0)
 
   pub table_extend_spares : ExtendsTable κs file at table y after → Refused (change_reply y) → after ≡ table.now
   table_extend_spares = spared y table.now after _ (extend_leaves table.now file.now at.0)
 
-pub table_shorten_spares : (κs : Lfts 1) (table : Slice) (y : TableChanged) (after : List ℕ) → ShortensTable κs table y after → Refused (change_reply y) → after ≡ table.now
+pub table_shorten_spares : (κs : Lfts 1) (table : Room) (y : TableChanged) (after : List ℕ) → ShortensTable κs table y after → Refused (change_reply y) → after ≡ table.now
 table_shorten_spares κs table y after = spared y table.now after _ (shorten_leaves table.now)
 
-module _ (κs : Lfts 3) (file table : Slice) (number size : ℕ) (out : Slice) where
+module _ (κs : Lfts 3) (file table : Slice) (number size : ℕ) (out : Room) where
   pub table_record_spares : Sparing (FetchesRecord κs file table number size out) (λ y. Refused (record_reply y)) (λ y. reported (λ u. size) (record_reply y)) out.now
   table_record_spares = by_calls.sparing record_reply (λ u. size) _ out.now (table_fetch_leaves file.now table.now number size out.now)
 
@@ -140,17 +140,17 @@ spared_to_c y w v o h p some =
     by_reply (answer u) e s = absurd (s refl)
     by_reply (refusal n t) e s = h n t e
 
-module _ (κs : Lfts 2) (file : Slice) (at : ℕ) (table : Slice) (y : Mf4DoneReply) (after : List ℕ) where
+module _ (κs : Lfts 2) (file : Slice) (at : ℕ) (table : Room) (y : Mf4DoneReply) (after : List ℕ) where
   pub mf4_open_table_spares : OpensTableC κs file at table y after → (y.reply ≡ 0 → ⊥) → after ≡ table.now
   mf4_open_table_spares = spared_to_c y table.now after _ (open_leaves table.now file.now at)
 
   pub mf4_extend_table_spares : ExtendsTableC κs file at table y after → (y.reply ≡ 0 → ⊥) → after ≡ table.now
   mf4_extend_table_spares = spared_to_c y table.now after _ (extend_leaves table.now file.now at)
 
-pub mf4_shorten_table_spares : (κs : Lfts 1) (table : Slice) (y : Mf4DoneReply) (after : List ℕ) → ShortensTableC κs table y after → (y.reply ≡ 0 → ⊥) → after ≡ table.now
+pub mf4_shorten_table_spares : (κs : Lfts 1) (table : Room) (y : Mf4DoneReply) (after : List ℕ) → ShortensTableC κs table y after → (y.reply ≡ 0 → ⊥) → after ≡ table.now
 mf4_shorten_table_spares κs table y after = spared_to_c y table.now after _ (shorten_leaves table.now)
 
-module _ (κs : Lfts 3) (file table : Slice) (number size : ℕ) (out : Slice) where
+module _ (κs : Lfts 3) (file table : Slice) (number size : ℕ) (out : Room) where
   pub mf4_table_record_spares : Sparing (FetchesRecordC κs file table number size out) (λ y. y.reply ≡ 0 → ⊥) (λ y. size) out.now
   mf4_table_record_spares =
       to_c.sparing done_c (λ (y : Mf4DoneReply). y.reply) (λ y. size) (λ u. size) (λ u. refl) (λ u. refl)

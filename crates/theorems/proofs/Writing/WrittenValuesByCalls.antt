@@ -4,9 +4,9 @@ use mathlib.Core.Bool.{Bool, true, false}
 use mathlib.Core.List.{List}
 use Prim.Native.Nat.{ℕ, ◌+◌, ◌*◌}
 use contract.Lifetimes.{Lfts}
-use Rattle.definitions.specs.Reply.{Outcome, answer}
+use Rattle.definitions.specs.Reply.{Reply, Outcome, answer}
 use Rattle.definitions.specs.DataType.{kind_of, order_of}
-use Rattle.definitions.specs.Channel.{variable_length, start_of, number_in, is_number, is_floating, value_of, double_in, record_double, valid_of, bounded_valid_of, bit_place}
+use Rattle.definitions.specs.Channel.{Value, variable_length, start_of, number_in, is_number, is_floating, value_of, double_in, record_double, valid_of, bounded_valid_of, bit_place}
 use Rattle.definitions.specs.Overlap.{share_a_bit}
 use Rattle.definitions.specs.WrittenValue.{value_written}
 use Rattle.definitions.proofs.Shared.{Within}
@@ -23,7 +23,7 @@ use Rattle.encoder.specs.declared.number.NumberGiven.{NumberGiven}
 use Rattle.encoder.specs.declared.encode.ValueWritten.{ValueWritten}
 use Rattle.encoder.specs.declared.encode.ValueWritten.TheVariants.{Done}
 use Rattle.encoder.proofs.Back.{written_one}
-use Rattle.mf4.specs.Clauses.{Slice}
+use Rattle.mf4.specs.Clauses.{Slice, Room}
 use Rattle.theorems.specs.Clauses.{ReadsValue, ChecksValidity, ChecksBoundedValidity, ReadsDouble, WritesValue}
 use Rattle.theorems.specs.Exactly.{Exactly, Writable}
 use Rattle.theorems.specs.WrittenValue.{WrittenEnds, IsNumber, Sized, DecodesTo, SameOutside}
@@ -31,7 +31,7 @@ use Rattle.theorems.proofs.Writing.WrittenEnds.{value_ends, written_exactly}
 use Rattle.theorems.proofs.Writing.WrittenValues.{written_decoded, outside_kept, decoded_written}
 use Rattle.theorems.proofs.Calls.AnswersByCalls.{exactly, of_outcome}
 
-module _ (κs : Lfts 1) (id_size : ℕ) (channel : Channel) (given : NumberGiven) (bytes : Slice) (y : ValueWritten) (after : List ℕ)
+module _ (κs : Lfts 1) (id_size : ℕ) (channel : Channel) (given : NumberGiven) (bytes : Room) (y : ValueWritten) (after : List ℕ)
     (p : WritesValue κs id_size channel given bytes y after)
   where
     same_buffer : after ≡ (value_written bytes.now id_size (channel_meant channel) (given_meant given)).buffer
@@ -57,31 +57,33 @@ module _ (κs : Lfts 1) (id_size : ℕ) (channel : Channel) (given : NumberGiven
 
       -- so a fixed number that shares no bit with it keeps its value and its double
       module _ (d : Channel) (fixed : variable_length (channel_meant d) ≡ false) (number : is_number (kind_of (channel_meant d).data_type) ≡ true)
-          (far : share_a_bit (channel_meant channel) (channel_meant d) ≡ false) (ρs σs : Lfts 1) (written : Slice) (same : written.now ≡ after)
+          (far : share_a_bit (channel_meant channel) (channel_meant d) ≡ false) (ρs σs : Lfts 1) (before written : Slice) (held : before.now ≡ bytes.now) (same : written.now ≡ after)
         where
-          pub write_keeps_value : (z w : ValueRead) → ReadsValue ρs bytes id_size d z → ReadsValue σs written id_size d w → w ≡ z
+          pub write_keeps_value : (z w : ValueRead) → ReadsValue ρs before id_size d z → ReadsValue σs written id_size d w → w ≡ z
           write_keeps_value z w q r =
-              value_one w z (r ∙ ap (λ (t : List ℕ). value_of t id_size (channel_meant d)) same ∙ (value_write_keeps.others (channel_meant d) fixed number far).0 ∙ sym q)
+              let value : List ℕ → Reply Value = λ t. value_of t id_size (channel_meant d) in
+              value_one w z (r ∙ ap value same ∙ (value_write_keeps.others (channel_meant d) fixed number far).0 ∙ ap value (sym held) ∙ sym q)
 
-          pub write_keeps_double : (z w : ℕ) → ReadsDouble ρs bytes id_size d z → ReadsDouble σs written id_size d w → w ≡ z
+          pub write_keeps_double : (z w : ℕ) → ReadsDouble ρs before id_size d z → ReadsDouble σs written id_size d w → w ≡ z
           write_keeps_double z w q r =
-              r ∙ ap (λ (t : List ℕ). record_double t id_size (channel_meant d)) same ∙ (value_write_keeps.others (channel_meant d) fixed number far).1 ∙ sym q
+              let double : List ℕ → ℕ = λ t. record_double t id_size (channel_meant d) in
+              r ∙ ap double same ∙ (value_write_keeps.others (channel_meant d) fixed number far).1 ∙ ap double (sym held) ∙ sym q
 
       -- and a channel, this one or another, its validity, where the field has not its invalidation bit
       module _ (group : Group) (d : Channel) (skipped : (group_meant group).id_size ≡ id_size)
           (far : (k : ℕ) → Within (channel_meant channel) k → bit_place (channel_meant channel) k ≡ (group_meant group).data_bytes * 8 + (channel_meant d).invalidation_bit → ⊥)
-          (ρs σs : Lfts 1) (written : Slice) (same : written.now ≡ after)
+          (ρs σs : Lfts 1) (before written : Slice) (held : before.now ≡ bytes.now) (same : written.now ≡ after)
         where
-          pub write_keeps_validity : (z w : Bool) → ChecksValidity ρs bytes group d z → ChecksValidity σs written group d w → w ≡ z
+          pub write_keeps_validity : (z w : Bool) → ChecksValidity ρs before group d z → ChecksValidity σs written group d w → w ≡ z
           write_keeps_validity z w q r =
-              r ∙ ap (λ (t : List ℕ). valid_of t (group_meant group) (channel_meant d)) same
-              ∙ (value_write_keeps.validity (group_meant group) (channel_meant d) skipped far).0 ∙ sym q
+              let valid : List ℕ → Bool = λ t. valid_of t (group_meant group) (channel_meant d) in
+              r ∙ ap valid same ∙ (value_write_keeps.validity (group_meant group) (channel_meant d) skipped far).0 ∙ ap valid (sym held) ∙ sym q
 
-          pub write_keeps_bounded_validity : (z w : ValidityRead) → ChecksBoundedValidity ρs bytes group d z → ChecksBoundedValidity σs written group d w → w ≡ z
+          pub write_keeps_bounded_validity : (z w : ValidityRead) → ChecksBoundedValidity ρs before group d z → ChecksBoundedValidity σs written group d w → w ≡ z
           write_keeps_bounded_validity z w q r =
+              let valid : List ℕ → Reply Bool = λ t. bounded_valid_of t (group_meant group) (channel_meant d) in
               validity_one w z
-              (r ∙ ap (λ (t : List ℕ). bounded_valid_of t (group_meant group) (channel_meant d)) same
-              ∙ (value_write_keeps.validity (group_meant group) (channel_meant d) skipped far).1 ∙ sym q)
+              (r ∙ ap valid same ∙ (value_write_keeps.validity (group_meant group) (channel_meant d) skipped far).1 ∙ ap valid (sym held) ∙ sym q)
 
       module _ (done : y ≡ Done) where
         decodes : DecodesTo after id_size (channel_meant channel) (given_meant given)
@@ -102,7 +104,10 @@ module _ (κs : Lfts 1) (id_size : ℕ) (channel : Channel) (given : NumberGiven
     pub decode_then_write : Bytes bytes.now → variable_length (channel_meant channel) ≡ false → IsNumber (given_meant given)
         → (is_floating (kind_of (channel_meant channel).data_type) ≡ true → (channel_meant channel).bit_count ≡ 32
         → ComesBack (number_in (order_of (channel_meant channel).data_type) bytes.now (start_of id_size (channel_meant channel)) (channel_meant channel)))
-        → (ρs : Lfts 1) (z : ValueRead) → ReadsValue ρs bytes id_size channel z → value_reply z ≡ answer (value_given (given_meant given)) → (y ≡ Done) × (after ≡ bytes.now)
-    decode_then_write b fixed number comes ρs z q e =
-        let same = decoded_written bytes.now id_size (channel_meant channel) (given_meant given) b fixed number (sym q ∙ e) comes in
+        → (ρs : Lfts 1) (before : Slice) (z : ValueRead) → before.now ≡ bytes.now → ReadsValue ρs before id_size channel z
+        → value_reply z ≡ answer (value_given (given_meant given)) → (y ≡ Done) × (after ≡ bytes.now)
+    decode_then_write b fixed number comes ρs before z held q e =
+        let decoded : value_of bytes.now id_size (channel_meant channel) ≡ answer (value_given (given_meant given)) =
+        ap (λ (t : List ℕ). value_of t id_size (channel_meant channel)) (sym held) ∙ sym q ∙ e in
+        let same = decoded_written bytes.now id_size (channel_meant channel) (given_meant given) b fixed number decoded comes in
         (written_one y Done (of_outcome (p ∙ same)), same_buffer ∙ ap (λ (o : Outcome (Unit {0})). o.buffer) same)

@@ -30,7 +30,7 @@ use Rattle.replies.specs.declared.values.Mf4ValueReply.{Mf4ValueReply}
 use Rattle.replies.specs.declared.validity.Mf4ValidityReply.{Mf4ValidityReply}
 use Rattle.replies.specs.declared.stored.Mf4Number.{Mf4Number}
 use Rattle.replies.specs.declared.done.Mf4DoneReply.{Mf4DoneReply}
-use Rattle.mf4.specs.Clauses.{Slice}
+use Rattle.mf4.specs.Clauses.{Slice, Room}
 use Rattle.theorems.specs.ClausesToC.{ReadsValueC, ChecksValidityC, ChecksUnboundedC, ReadsDoubleC, WritesValueC}
 use Rattle.theorems.specs.Exactly.{ExactlyZero, Takes, Writable}
 use Rattle.theorems.specs.WrittenValue.{WrittenEnds, IsNumber, Sized, DecodesTo, SameOutside}
@@ -110,7 +110,7 @@ number_sized kind number l = go (eqb kind 1) (eqb kind 2) (eqb kind 3)
 
 -- ---- the call
 
-module _ (κs : Lfts 1) (id_size : ℕ) (channel : Mf4Channel) (value : Mf4Number) (bytes : Slice) (y : Mf4DoneReply) (after : List ℕ)
+module _ (κs : Lfts 1) (id_size : ℕ) (channel : Mf4Channel) (value : Mf4Number) (bytes : Room) (y : Mf4DoneReply) (after : List ℕ)
     (p : WritesValueC κs id_size channel value bytes y after)
   where
     same_buffer : after ≡ (value_written bytes.now id_size (channel_given channel) (number_given value)).buffer
@@ -143,30 +143,32 @@ module _ (κs : Lfts 1) (id_size : ℕ) (channel : Mf4Channel) (value : Mf4Numbe
 
       -- so a fixed number that shares no bit with it keeps its value and its double
       module _ (d : Mf4Channel) (fixed : variable_length (channel_given d) ≡ false) (number : is_number (kind_of (channel_given d).data_type) ≡ true)
-          (far : share_a_bit (channel_given channel) (channel_given d) ≡ false) (ρs σs : Lfts 1) (written : Slice) (same : written.now ≡ after)
+          (far : share_a_bit (channel_given channel) (channel_given d) ≡ false) (ρs σs : Lfts 1) (before written : Slice) (held : before.now ≡ bytes.now) (same : written.now ≡ after)
         where
-          pub write_keeps_value : (z w : Mf4ValueReply) → ReadsValueC ρs bytes id_size d z → ReadsValueC σs written id_size d w → w ≡ z
+          pub write_keeps_value : (z w : Mf4ValueReply) → ReadsValueC ρs before id_size d z → ReadsValueC σs written id_size d w → w ≡ z
           write_keeps_value z w q r =
-              r ∙ ap (λ (t : List ℕ). value_c (value_of t id_size (channel_given d))) same ∙ ap value_c (value_write_keeps.others (channel_given d) fixed number far).0 ∙ sym q
+              let value : List ℕ → Mf4ValueReply = λ t. value_c (value_of t id_size (channel_given d)) in
+              r ∙ ap value same ∙ ap value_c (value_write_keeps.others (channel_given d) fixed number far).0 ∙ ap value (sym held) ∙ sym q
 
-          pub write_keeps_double : (z w : ℕ) → ReadsDoubleC ρs bytes id_size d z → ReadsDoubleC σs written id_size d w → w ≡ z
+          pub write_keeps_double : (z w : ℕ) → ReadsDoubleC ρs before id_size d z → ReadsDoubleC σs written id_size d w → w ≡ z
           write_keeps_double z w q r =
-              r ∙ ap (λ (t : List ℕ). record_double t id_size (channel_given d)) same ∙ (value_write_keeps.others (channel_given d) fixed number far).1 ∙ sym q
+              let double : List ℕ → ℕ = λ t. record_double t id_size (channel_given d) in
+              r ∙ ap double same ∙ (value_write_keeps.others (channel_given d) fixed number far).1 ∙ ap double (sym held) ∙ sym q
 
       -- and a channel, this one or another, its validity, where the field has not its invalidation bit
       module _ (group : Mf4Group) (d : Mf4Channel) (skipped : (group_given group).id_size ≡ id_size)
           (far : (k : ℕ) → Within (channel_given channel) k → bit_place (channel_given channel) k ≡ (group_given group).data_bytes * 8 + (channel_given d).invalidation_bit → ⊥)
-          (ρs σs : Lfts 1) (written : Slice) (same : written.now ≡ after)
+          (ρs σs : Lfts 1) (before written : Slice) (held : before.now ≡ bytes.now) (same : written.now ≡ after)
         where
-          pub write_keeps_validity : (z w : Mf4ValidityReply) → ChecksValidityC ρs bytes group d z → ChecksValidityC σs written group d w → w ≡ z
+          pub write_keeps_validity : (z w : Mf4ValidityReply) → ChecksValidityC ρs before group d z → ChecksValidityC σs written group d w → w ≡ z
           write_keeps_validity z w q r =
-              r ∙ ap (λ (t : List ℕ). validity_c (bounded_valid_of t (group_given group) (channel_given d))) same
-              ∙ ap validity_c (value_write_keeps.validity (group_given group) (channel_given d) skipped far).1 ∙ sym q
+              let valid : List ℕ → Mf4ValidityReply = λ t. validity_c (bounded_valid_of t (group_given group) (channel_given d)) in
+              r ∙ ap valid same ∙ ap validity_c (value_write_keeps.validity (group_given group) (channel_given d) skipped far).1 ∙ ap valid (sym held) ∙ sym q
 
-          pub write_keeps_unbounded : (z w : ℕ) → ChecksUnboundedC ρs bytes group d z → ChecksUnboundedC σs written group d w → w ≡ z
+          pub write_keeps_unbounded : (z w : ℕ) → ChecksUnboundedC ρs before group d z → ChecksUnboundedC σs written group d w → w ≡ z
           write_keeps_unbounded z w q r =
-              r ∙ ap (λ (t : List ℕ). flag_c (valid_of t (group_given group) (channel_given d))) same
-              ∙ ap flag_c (value_write_keeps.validity (group_given group) (channel_given d) skipped far).0 ∙ sym q
+              let valid : List ℕ → ℕ = λ t. flag_c (valid_of t (group_given group) (channel_given d)) in
+              r ∙ ap valid same ∙ ap flag_c (value_write_keeps.validity (group_given group) (channel_given d) skipped far).0 ∙ ap valid (sym held) ∙ sym q
 
       module _ (done : y.reply ≡ 0) where
         decodes : DecodesTo after id_size (channel_given channel) (number_given value)
@@ -189,11 +191,12 @@ module _ (κs : Lfts 1) (id_size : ℕ) (channel : Mf4Channel) (value : Mf4Numbe
     pub decode_then_write : Bytes bytes.now → variable_length (channel_given channel) ≡ false
         → (is_floating (kind_of (channel_given channel).data_type) ≡ true → (channel_given channel).bit_count ≡ 32
         → ComesBack (number_in (order_of (channel_given channel).data_type) bytes.now (start_of id_size (channel_given channel)) (channel_given channel)))
-        → (ρs : Lfts 1) (z : Mf4ValueReply) → ReadsValueC ρs bytes id_size channel z → z.reply ≡ 0 → 0 < z.kind → z.kind ≤ 3
-        → value.kind ≡ z.kind → value.number ≡ z.number → (y.reply ≡ 0) × (after ≡ bytes.now)
-    decode_then_write b fixed comes ρs z q answered some few ek en =
+        → (ρs : Lfts 1) (before : Slice) (z : Mf4ValueReply) → before.now ≡ bytes.now → ReadsValueC ρs before id_size channel z → z.reply ≡ 0 → 0 < z.kind
+        → z.kind ≤ 3 → value.kind ≡ z.kind → value.number ≡ z.number → (y.reply ≡ 0) × (after ≡ bytes.now)
+    decode_then_write b fixed comes ρs before z held q answered some few ek en =
         let told : value_of bytes.now id_size (channel_given channel) ≡ answer (value_again z.kind z.number z.at z.length) =
-        sym (of_kind_told Reversible z.reply z.told z.kind _ _ (value_tellable bytes.now id_size (channel_given channel)) (mf4_decode_value_told ρs bytes id_size channel z q))
+        ap (λ (t : List ℕ). value_of t id_size (channel_given channel)) (sym held)
+        ∙ sym (of_kind_told Reversible z.reply z.told z.kind _ _ (value_tellable before.now id_size (channel_given channel)) (mf4_decode_value_told ρs before id_size channel z q))
         ∙ ap (λ (r : ℕ). if eqb r 0 then answer (value_again z.kind z.number z.at z.length) else refusal r z.told) answered in
         let is_number_law : IsNumber (number_given value) = subst (λ (k : ℕ). IsNumber (given_by k value.number)) (sym ek) (given_number z.kind value.number some few) in
         let same = decoded_written bytes.now id_size (channel_given channel) (number_given value) b fixed is_number_law
