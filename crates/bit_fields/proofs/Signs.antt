@@ -1,4 +1,5 @@
 -- Two's complement over plain numbers.
+use Rattle.std.specs.Prelude.{if◌then◌else◌}
 use mathlib.Core.Path.{◌≡◌, refl, sym, ap, ◌∙◌, subst}
 use mathlib.Core.Bool.{Bool, true, false}
 use Prim.Native.Nat.{ℕ, suc, ◌+◌, ◌-◌, ◌*◌, ◌/◌, ◌%◌, ◌^◌, ◌≤◌, ◌<◌}
@@ -9,7 +10,6 @@ use lib.IntN.{ℤ, pos, negsuc}
 use lib.Signed.{shr_z}
 use lib.Pow.{pow_pos, pow-add, shl_lt, shl_exact, shl-shr, high}
 use borrow.Author.Tests.{lt-ltb, le-ltb, ltb-true, ltb-false}
-use Rattle.definitions.specs.Reply.{if◌then◌else◌}
 use Rattle.definitions.specs.Bytes.{twos_complement}
 
 -- on either side of the sign bit of a word

@@ -1,4 +1,5 @@
 -- The ways through a header, and what a header tells of the bytes.
+use Rattle.std.specs.Prelude.{if◌then◌else◌}
 use mathlib.Core.Path.{◌≡◌, refl, sym}
 use mathlib.Core.List.{List, ◌++◌}
 use mathlib.Core.Bool.{Bool, true, false}
@@ -8,7 +9,7 @@ use lib.ListN.{length, length-append}
 use lib.Dec.{ltb}
 use lib.Seq.{sets}
 use borrow.Author.Tests.{ltb-false}
-use Rattle.definitions.specs.Reply.{Reply, answer, refusal, if◌then◌else◌, needing, told}
+use Rattle.definitions.specs.Reply.{Reply, answer, refusal, needing, told}
 use Rattle.definitions.specs.Bytes.{u32_at, u64_at, le}
 use Rattle.definitions.specs.Header.{Header, header_in, header_of, header_bytes, header_written}
 use Rattle.definitions.proofs.Replies.{not_answered, needing_short, needing_met, writing_short, writing_met}

@@ -1,11 +1,12 @@
 -- The blocks that a walk has met are the first ones of its chain.
+use Rattle.std.specs.Prelude.{if◌then◌else◌}
 use mathlib.Core.Path.{◌≡◌, sym, ap, ◌∙◌}
 use mathlib.Core.Bool.{Bool, true, false}
 use mathlib.Core.List.{List, [], ◌∷◌, ◌++◌, append_assoc, append-nil}
 use Prim.Native.Nat.{ℕ, zero, suc, ◌+◌, ◌-◌}
 use lib.ListN.{length, drop}
 use lib.Dec.{eqb}
-use Rattle.definitions.specs.Reply.{answer, if◌then◌else◌, and_then}
+use Rattle.definitions.specs.Reply.{answer, and_then}
 use Rattle.definitions.specs.DataList.{DataList}
 use Rattle.definitions.specs.Chain.{Block, list_limit, fragment_of, fragments, list_at, Declaration, chained_at, lists}
 use Rattle.definitions.proofs.Replies.{not_answered}

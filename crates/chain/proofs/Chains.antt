@@ -1,4 +1,5 @@
 -- What is known of the blocks of an accepted chain.
+use Rattle.std.specs.Prelude.{if◌then◌else◌}
 use mathlib.Core.Path.{◌≡◌, refl, subst}
 use mathlib.Core.Bool.{Bool, true, false}
 use mathlib.Core.List.{List, [], ◌∷◌, ◌++◌, append_assoc, append-nil}
@@ -7,7 +8,7 @@ use native.Mathlib.Nat.{suc-mul}
 use native.Mathlib.Omega.{arith}
 use lib.ListN.{length, drop, length-append}
 use lib.Dec.{eqb}
-use Rattle.definitions.specs.Reply.{Reply, answer, if◌then◌else◌}
+use Rattle.definitions.specs.Reply.{Reply, answer}
 use Rattle.definitions.specs.DataList.{DataList}
 use Rattle.definitions.specs.Chain.{Block, file_limit, list_limit, fragment_limit, data_of, joined, total, fragment_of, fragments, list_at, Declaration, declaration_of, chained_at, lists, chain_of}
 use Rattle.definitions.proofs.Replies.{not_answered}

@@ -1,4 +1,5 @@
 -- To go on is what the definitions say of the chain.
+use Rattle.std.specs.Prelude.{if◌then◌else◌}
 use mathlib.Core.Path.{◌≡◌, refl, sym, ap, ◌∙◌}
 use mathlib.Core.Bool.{Bool, true, false}
 use mathlib.Core.List.{List, [], ◌∷◌, ◌++◌}
@@ -7,7 +8,7 @@ use native.Mathlib.Omega.{arith}
 use lib.ListN.{length, drop}
 use lib.Dec.{leb, eqb}
 use borrow.Author.Tests.{ne_eqb, leb-true, leb-false, eqb-false}
-use Rattle.definitions.specs.Reply.{Reply, answer, refusal, if◌then◌else◌, and_then}
+use Rattle.definitions.specs.Reply.{Reply, answer, refusal, and_then}
 use Rattle.definitions.specs.DataList.{DataList}
 use Rattle.definitions.specs.Chain.{Block, list_limit, total, fragment_of, fragments, list_at, Declaration, chained_at, lists}
 use Rattle.places.specs.Places.{Opens, behind, entered, ended}

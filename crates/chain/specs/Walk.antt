@@ -1,6 +1,6 @@
 -- A walk along a chain: what the chain gives from where it stands. f is the file, and id the id of its data blocks.
-use Rattle.std.specs.Prelude.{◌≡◌, false, ℕ, ◌+◌, ◌-◌, ◌≤◌, List, [], ◌∷◌, length, drop, eqb}
-use Rattle.definitions.specs.Reply.{Reply, answer, if◌then◌else◌, and_then}
+use Rattle.std.specs.Prelude.{◌≡◌, false, ℕ, ◌+◌, ◌-◌, ◌≤◌, List, [], ◌∷◌, length, drop, eqb, if◌then◌else◌}
+use Rattle.definitions.specs.Reply.{Reply, answer, and_then}
 use Rattle.definitions.specs.Chain.{Block, file_limit, fragment_limit, list_limit, total, fragments, list_at, Declaration, lists, chain_of}
 use Rattle.places.specs.Places.{ended}
 use Rattle.places.specs.declared.place.Place.{Place}

@@ -1,11 +1,12 @@
 -- A channel laid down anew decodes alike: the general way is handed numbers, and makes a channel of them.
+use Rattle.std.specs.Prelude.{if◌then◌else◌}
 use mathlib.Core.Path.{◌≡◌, refl, sym, ap, ◌∙◌}
 use mathlib.Core.Bool.{Bool, false}
 use mathlib.Core.List.{List}
 use Prim.Native.Nat.{ℕ, ◌+◌, ◌-◌}
 use native.Mathlib.Omega.{arith}
 use lib.ListN.{length, take, drop}
-use Rattle.definitions.specs.Reply.{Reply, if◌then◌else◌}
+use Rattle.definitions.specs.Reply.{Reply}
 use Rattle.definitions.specs.DataType.{DataType, Kind, integer, floating, whole, undecoded}
 use Rattle.definitions.specs.Channel.{Channel, Value, variable_length, span_in, decoded, value_by, value_of, double_in, record_double}
 use Rattle.fields.specs.Form.{form_of, form_kind, form_value}

@@ -1,4 +1,5 @@
 -- The double of an integer field is nearest to the integer.
+use Rattle.std.specs.Prelude.{if◌then◌else◌}
 use mathlib.Core.Path.{◌≡◌, refl, sym, ap, ◌∙◌, subst}
 use mathlib.Core.Bool.{Bool, true, false, not, ◌&&◌, ◌||◌}
 use mathlib.Core.List.{List}
@@ -10,7 +11,7 @@ use lib.ListN.{length}
 use lib.Dec.{ltb, eqb}
 use lib.Pow.{pow_pos, pow_mono}
 use borrow.Author.Tests.{ltb-false}
-use Rattle.definitions.specs.Reply.{answer, if◌then◌else◌}
+use Rattle.definitions.specs.Reply.{answer}
 use Rattle.definitions.specs.Bytes.{number_of, span, bytes_for}
 use Rattle.definitions.specs.Ieee754.{double_of, Nearest}
 use Rattle.definitions.specs.DataType.{DataType, Kind, kind_of}

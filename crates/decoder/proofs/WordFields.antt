@@ -1,4 +1,5 @@
 -- Fields that a word holds.
+use Rattle.std.specs.Prelude.{if◌then◌else◌}
 use mathlib.Core.Path.{◌≡◌, refl, sym, ap, subst, ◌∙◌}
 use mathlib.Core.Bool.{Bool, true, false, not, ◌&&◌, ◌||◌, true≢false}
 use mathlib.Core.List.{List}
@@ -7,7 +8,7 @@ use native.Mathlib.Omega.{arith}
 use lib.ListN.{length}
 use lib.Dec.{ltb, eqb}
 use borrow.Author.Tests.{le-ltb, eq-eqb, ne_eqb}
-use Rattle.definitions.specs.Reply.{answer, refusal, if◌then◌else◌}
+use Rattle.definitions.specs.Reply.{answer, refusal}
 use Rattle.definitions.specs.Bytes.{Order, le_of, le, span, bits, bytes_for, number_of, field_at}
 use Rattle.definitions.specs.Ieee754.{nan_pattern}
 use Rattle.definitions.specs.DataType.{DataType, Kind}

@@ -1,6 +1,5 @@
 // A channel's value in a record as the pattern of a double, with no value made on the way.
-ghost use Rattle.std.specs.Prelude.{◌≡◌, not, ◌||◌, ◌^◌, ◌<◌, eqb};
-ghost use Rattle.definitions.specs.Reply.{if◌then◌else◌};
+ghost use Rattle.std.specs.Prelude.{◌≡◌, not, ◌||◌, ◌^◌, ◌<◌, eqb, if◌then◌else◌};
 ghost use Rattle.definitions.specs.Ieee754.{nan_pattern};
 ghost use Rattle.definitions.specs.Channel.{float_bits, record_double};
 ghost use Rattle.definitions.specs.DataType.{type_of};

@@ -1,7 +1,6 @@
 -- Bytes, and the numbers that they stand for.
-use Rattle.std.specs.Prelude.{ℕ, zero, suc, ◌+◌, ◌-◌, ◌*◌, ◌/◌, ◌%◌, ◌^◌, List, [], ◌∷◌, ◌++◌, reverse, Bool, ◌&&◌, ℤ, pos, negsuc, get_or, take, drop, ltb, eqb}
+use Rattle.std.specs.Prelude.{ℕ, zero, suc, ◌+◌, ◌-◌, ◌*◌, ◌/◌, ◌%◌, ◌^◌, List, [], ◌∷◌, ◌++◌, reverse, Bool, ◌&&◌, ℤ, pos, negsuc, get_or, take, drop, ltb, eqb, if◌then◌else◌}
 use Rattle.std.proofs.lemmas.List.Edits.{sets}
-use Rattle.definitions.specs.Reply.{if◌then◌else◌}
 
 -- the number that bytes stand for, the first the lowest
 unfoldable pub le_of : List ℕ → ℕ

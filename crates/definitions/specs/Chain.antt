@@ -1,7 +1,7 @@
 -- From a chain of data lists to a record: lists in turn, and the fragments of each in turn. f is the file, and id the id
 -- of its data blocks.
-use Rattle.std.specs.Prelude.{ℕ, zero, suc, ◌+◌, ◌-◌, ◌*◌, List, [], ◌∷◌, ◌++◌, Bool, true, false, not, ◌&&◌, ◌||◌, length, take, drop, ltb, leb, eqb}
-use Rattle.definitions.specs.Reply.{Reply, Outcome, answer, refusal, if◌then◌else◌, and_then, on_answer}
+use Rattle.std.specs.Prelude.{ℕ, zero, suc, ◌+◌, ◌-◌, ◌*◌, List, [], ◌∷◌, ◌++◌, Bool, true, false, not, ◌&&◌, ◌||◌, length, take, drop, ltb, leb, eqb, if◌then◌else◌}
+use Rattle.definitions.specs.Reply.{Reply, Outcome, answer, refusal, and_then, on_answer}
 use Rattle.definitions.specs.Bytes.{span, u64_at, id_at}
 use Rattle.definitions.specs.DataList.{DataList, list_of, one_length}
 use Rattle.definitions.specs.Channel.{Channel, Group, ValidValue, bounded_value_of}

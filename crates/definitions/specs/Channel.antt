@@ -1,8 +1,8 @@
 -- A channel's value in a record, as a double too, and its validity.
-use Rattle.std.specs.Prelude.{ℕ, ◌+◌, ◌*◌, ◌/◌, ◌%◌, max, List, Bool, true, false, not, ◌&&◌, ◌||◌, ℤ, pos, length, get_or, ltb, eqb, Float}
+use Rattle.std.specs.Prelude.{ℕ, ◌+◌, ◌*◌, ◌/◌, ◌%◌, max, List, Bool, true, false, not, ◌&&◌, ◌||◌, ℤ, pos, length, get_or, ltb, eqb, Float, if◌then◌else◌}
 use Rattle.std.specs.Float.{binary64}
 use Rattle.std.specs.Float.Ieee.{of_bits}
-use Rattle.definitions.specs.Reply.{Reply, answer, refusal, if◌then◌else◌, and_then, told}
+use Rattle.definitions.specs.Reply.{Reply, answer, refusal, and_then, told}
 use Rattle.definitions.specs.Bytes.{Order, span, bit, bytes_for, byte_with, field_at, twos_complement}
 use Rattle.definitions.specs.Ieee754.{nan_pattern, double_of, widened}
 use Rattle.definitions.specs.Unicode.{stopped}

@@ -1,7 +1,7 @@
 -- A channel block: behind the header eight links, of which the sixth leads to the channel's data, and whatever links follow;
 -- then the fields, 72 bytes.
-use Rattle.std.specs.Prelude.{ℕ, ◌+◌, ◌-◌, ◌*◌, List, [], ◌∷◌, ◌++◌, not, get_or, drop, ltb}
-use Rattle.definitions.specs.Reply.{Reply, Outcome, answer, refusal, if◌then◌else◌, and_then, needing, writing}
+use Rattle.std.specs.Prelude.{ℕ, ◌+◌, ◌-◌, ◌*◌, List, [], ◌∷◌, ◌++◌, not, get_or, drop, ltb, if◌then◌else◌}
+use Rattle.definitions.specs.Reply.{Reply, Outcome, answer, refusal, and_then, needing, writing}
 use Rattle.definitions.specs.Bytes.{le_of, le, les, u16_at, u32_at, u64_at, id_at}
 use Rattle.definitions.specs.Header.{Header, header_of, header_bytes}
 use Rattle.definitions.specs.DataType.{DataType, type_of, code_of}

@@ -1,8 +1,8 @@
 -- A data list: behind the header a link to the next list and the links to its data, then a byte of flags, three reserved
 -- ones and a count of four. The rest, by flag bit 0, is one length of its fragments, or else an offset for each; links,
 -- length and offsets have 8 bytes.
-use Rattle.std.specs.Prelude.{ℕ, ◌+◌, ◌-◌, ◌*◌, List, [], ◌∷◌, ◌++◌, Bool, not, ◌||◌, length, get_or, ltb, eqb}
-use Rattle.definitions.specs.Reply.{Reply, Outcome, answer, refusal, if◌then◌else◌, and_then, needing, writing}
+use Rattle.std.specs.Prelude.{ℕ, ◌+◌, ◌-◌, ◌*◌, List, [], ◌∷◌, ◌++◌, Bool, not, ◌||◌, length, get_or, ltb, eqb, if◌then◌else◌}
+use Rattle.definitions.specs.Reply.{Reply, Outcome, answer, refusal, and_then, needing, writing}
 use Rattle.definitions.specs.Bytes.{le_of, le, les, span, u32_at, u64_at, id_at, bit}
 use Rattle.definitions.specs.Header.{Header, header_of, header_bytes}
 

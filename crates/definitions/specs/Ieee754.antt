@@ -1,10 +1,9 @@
 -- IEEE 754: patterns of doubles, over the values and the rounding of `lib.Ieee`.
-use Rattle.std.specs.Prelude.{◌≡◌, ◌⊎◌, Bool, ℕ, ◌+◌, ◌-◌, ◌*◌, ◌%◌, ◌^◌, ◌≤◌, ℤ, eqb}
+use Rattle.std.specs.Prelude.{◌≡◌, ◌⊎◌, Bool, ℕ, ◌+◌, ◌-◌, ◌*◌, ◌%◌, ◌^◌, ◌≤◌, ℤ, eqb, if◌then◌else◌}
 use Rattle.std.specs.Bool.{beq}
 use Rattle.std.specs.Float.{binary32, binary64}
 use Rattle.std.specs.Float.Ieee.{round, of_int, of_bits, to_bits}
 use Rattle.std.specs.Float.Ieee.Exact.{HasValue}
-use Rattle.definitions.specs.Reply.{if◌then◌else◌}
 
 -- the one NaN that stands for no value
 abbrev pub nan_pattern : ℕ

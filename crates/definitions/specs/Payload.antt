@@ -1,7 +1,7 @@
 -- A value that is kept outside its record: the record holds a position in the joined data of a chain of `##SD` blocks, and
 -- there stand a length of four bytes and so many bytes of payload.
-use Rattle.std.specs.Prelude.{ℕ, ◌+◌, List, [], ◌∷◌, Bool, not, ◌&&◌, length, take, ltb, eqb}
-use Rattle.definitions.specs.Reply.{Reply, Outcome, answer, refusal, if◌then◌else◌, and_then, on_answer, told, writing}
+use Rattle.std.specs.Prelude.{ℕ, ◌+◌, List, [], ◌∷◌, Bool, not, ◌&&◌, length, take, ltb, eqb, if◌then◌else◌}
+use Rattle.definitions.specs.Reply.{Reply, Outcome, answer, refusal, and_then, on_answer, told, writing}
 use Rattle.definitions.specs.Bytes.{span, u32_at, u64_at}
 use Rattle.definitions.specs.Channel.{Channel, Group, Value, variable_length, value_of, valid_of}
 use Rattle.definitions.specs.Chain.{joined, chain_of, fetched}

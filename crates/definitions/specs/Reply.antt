@@ -1,16 +1,10 @@
 -- What a call replies, and what it leaves in a buffer that was lent to it.
-use Rattle.std.specs.Prelude.{ℕ, min, Bool, true, false, List, ◌++◌, length, drop, ltb}
+use Rattle.std.specs.Prelude.{ℕ, min, Bool, true, false, if◌then◌else◌, List, ◌++◌, length, drop, ltb}
 
 -- an answer, or a refusal: its number, and what it tells (0 where it tells nothing)
 pub data Reply (A : Type 0) : Type 0 where
   answer : A → Reply A
   refusal : ℕ → ℕ → Reply A
-
-infix 10 if◌then◌else◌
--- one of two by a test; the tests ltb, leb and eqb are <, ≤ and =
-abbrev pub if◌then◌else◌ : {A : Type 0} → Bool → A → A → A
-if true then a else b = a
-if false then a else b = b
 
 -- go on with an answer; a refusal stays
 abbrev pub and_then : {A B : Type 0} → Reply A → (A → Reply B) → Reply B

@@ -1,9 +1,9 @@
 -- One channel over all records of a chain, in one line: how many of its values are valid, the outermost of their doubles, and
 -- the sum of its integers. f is the file.
-use Rattle.std.specs.Prelude.{ℕ, zero, suc, ◌+◌, ◌-◌, ◌*◌, ◌/◌, List, [], ◌∷◌, ◌++◌, Bool, true, false, not, ◌&&◌, ℤ, pos, ◌+ℤ◌, length, take, drop, ltb, eqb, Float}
+use Rattle.std.specs.Prelude.{ℕ, zero, suc, ◌+◌, ◌-◌, ◌*◌, ◌/◌, List, [], ◌∷◌, ◌++◌, Bool, true, false, not, ◌&&◌, ℤ, pos, ◌+ℤ◌, length, take, drop, ltb, eqb, Float, if◌then◌else◌}
 use Rattle.std.specs.Float.{binary64}
 use Rattle.std.specs.Float.Ieee.{of_bits, lt, is_nan}
-use Rattle.definitions.specs.Reply.{Reply, Outcome, answer, refusal, if◌then◌else◌, and_then, on_answer}
+use Rattle.definitions.specs.Reply.{Reply, Outcome, answer, refusal, and_then, on_answer}
 use Rattle.definitions.specs.Bytes.{span}
 use Rattle.definitions.specs.Channel.{Channel, Group, Value, unsigned, signed, double, text, bytes, sample, stream, unknown_value, ValidValue, is_fixed_number, double_in, area_of, bounded_value_of}
 use Rattle.definitions.specs.Chain.{file_limit, id_dt, joined, chain_of, bad_size}

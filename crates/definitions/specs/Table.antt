@@ -1,6 +1,6 @@
 -- A table of fragments, by which a record is found without a walk along its chain. f is the file, and w the words of the table.
-use Rattle.std.specs.Prelude.{ℕ, zero, suc, ◌+◌, ◌-◌, ◌*◌, List, [], ◌∷◌, ◌++◌, Bool, true, not, ◌&&◌, length, get_or, set, replicate, ltb, leb, eqb}
-use Rattle.definitions.specs.Reply.{Outcome, answer, refusal, if◌then◌else◌, on_answer}
+use Rattle.std.specs.Prelude.{ℕ, zero, suc, ◌+◌, ◌-◌, ◌*◌, List, [], ◌∷◌, ◌++◌, Bool, true, not, ◌&&◌, length, get_or, set, replicate, ltb, leb, eqb, if◌then◌else◌}
+use Rattle.definitions.specs.Reply.{Outcome, answer, refusal, on_answer}
 use Rattle.definitions.specs.Channel.{Channel, Group, ValidValue}
 use Rattle.definitions.specs.Chain.{Block, file_limit, id_dt, total, joined, block_at, chain_of, bad_size, record_of, field_of}
 

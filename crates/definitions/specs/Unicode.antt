@@ -1,6 +1,6 @@
 -- Texts: the Unicode standard, chapter 3 (D76, D91, D92), and where a text in a record stops.
-use Rattle.std.specs.Prelude.{◌≡◌, ℕ, zero, suc, ◌+◌, ◌-◌, ◌*◌, ◌/◌, ◌%◌, List, [], ◌∷◌, ◌++◌, Bool, true, false, ◌&&◌, ◌||◌, length, get_or, leb, ltb, eqb}
-use Rattle.definitions.specs.Reply.{Outcome, if◌then◌else◌, writing}
+use Rattle.std.specs.Prelude.{◌≡◌, ℕ, zero, suc, ◌+◌, ◌-◌, ◌*◌, ◌/◌, ◌%◌, List, [], ◌∷◌, ◌++◌, Bool, true, false, ◌&&◌, ◌||◌, length, get_or, leb, ltb, eqb, if◌then◌else◌}
+use Rattle.definitions.specs.Reply.{Outcome, writing}
 use Rattle.definitions.specs.Bytes.{Order, little, big}
 
 pub data Encoding : Type 0 where

@@ -1,6 +1,6 @@
 -- A number written into a channel's field of a record.
-use Rattle.std.specs.Prelude.{ℕ, suc, ◌-◌, ◌^◌, Bool, List, ℤ, pos, negsuc, ltb, eqb}
-use Rattle.definitions.specs.Reply.{Reply, Outcome, answer, refusal, if◌then◌else◌, and_then, on_answer}
+use Rattle.std.specs.Prelude.{ℕ, suc, ◌-◌, ◌^◌, Bool, List, ℤ, pos, negsuc, ltb, eqb, if◌then◌else◌}
+use Rattle.definitions.specs.Reply.{Reply, Outcome, answer, refusal, and_then, on_answer}
 use Rattle.definitions.specs.Bytes.{field_set}
 use Rattle.definitions.specs.Ieee754.{narrowed, narrows}
 use Rattle.definitions.specs.DataType.{DataType, unsigned_integer, signed_integer, float, complex, string, byte_array, mime_sample, mime_stream, can_open_date, can_open_time, unknown, order_of}

@@ -1,4 +1,5 @@
 -- The bits that are made of a number stand for it, and they are the only ones: made of what some bits stand for, they are these.
+use Rattle.std.specs.Prelude.{if◌then◌else◌}
 use mathlib.Core.Path.{◌≡◌, refl, sym, ap, ◌∙◌, subst}
 use mathlib.Core.Bool.{Bool, true, false}
 use Prim.Native.Nat.{ℕ, suc, ◌-◌, ◌^◌, ◌≤◌, ◌<◌}
@@ -6,7 +7,7 @@ use native.Mathlib.Omega.{arith}
 use lib.IntN.{ℤ, pos, negsuc}
 use lib.Dec.{ltb, eqb}
 use borrow.Author.Tests.{ltb-true, ltb-false, lt-ltb, le-ltb, eqb-true, eqb-false}
-use Rattle.definitions.specs.Reply.{answer, if◌then◌else◌}
+use Rattle.definitions.specs.Reply.{answer}
 use Rattle.definitions.specs.Bytes.{twos_complement}
 use Rattle.definitions.specs.Ieee754.{widened, narrowed, narrows}
 use Rattle.definitions.specs.Channel.{Value, unsigned, signed, double, text, bytes, sample, stream, unknown_value, double_value, float_bits, is_floating}

@@ -1,4 +1,5 @@
 -- The ways to a field, and to each refusal of one.
+use Rattle.std.specs.Prelude.{if◌then◌else◌}
 use mathlib.Core.Path.{◌≡◌, refl, sym, ap, ◌∙◌, subst}
 use mathlib.Core.Logic.{inl, inr}
 use mathlib.Core.Bool.{Bool, true, false, not, ◌&&◌, ◌||◌, true≢false}
@@ -8,7 +9,7 @@ use native.Mathlib.Omega.{arith}
 use lib.ListN.{length}
 use lib.Dec.{ltb, eqb}
 use borrow.Author.Tests.{ltb-false, eqb-false}
-use Rattle.definitions.specs.Reply.{Reply, answer, refusal, if◌then◌else◌, told}
+use Rattle.definitions.specs.Reply.{Reply, answer, refusal, told}
 use Rattle.definitions.specs.DataType.{Kind, integer, floating, whole, undecoded}
 use Rattle.definitions.specs.Channel.{Channel, Value, decoded, is_number, is_integer, is_floating, bit_span, span_in, value_by}
 use Rattle.bit_fields.proofs.Bits.{field_below}

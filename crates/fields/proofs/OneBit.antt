@@ -1,4 +1,5 @@
 -- Validity reads at most one bit of the slice, and that only where the flags say so.
+use Rattle.std.specs.Prelude.{if◌then◌else◌}
 use mathlib.Core.Path.{◌≡◌, refl, ap, ap₂}
 use mathlib.Core.Bool.{Bool, true, false}
 use mathlib.Core.List.{List}
@@ -8,7 +9,7 @@ use native.Mathlib.Omega.{arith}
 use lib.ListN.{length, get_or}
 use lib.Dec.{eqb}
 use borrow.Author.Tests.{eqb-false}
-use Rattle.definitions.specs.Reply.{Reply, answer, if◌then◌else◌, and_then}
+use Rattle.definitions.specs.Reply.{Reply, answer, and_then}
 use Rattle.definitions.specs.Bytes.{bit}
 use Rattle.definitions.specs.Channel.{Channel, Group, valid_of, record_length, has_invalidation_bit, area_of, bounded_valid_of}
 

@@ -1,4 +1,5 @@
 -- The steps of the search: what each gives, that what is left of the definition stays the whole, and that the search ends.
+use Rattle.std.specs.Prelude.{if◌then◌else◌}
 use mathlib.Core.Path.{◌≡◌, refl, sym, ap, subst, ◌∙◌}
 use mathlib.Core.Bool.{Bool, true, false, true≢false}
 use mathlib.Core.List.{List, [], ◌∷◌, map}
@@ -7,7 +8,7 @@ use native.Mathlib.Omega.{arith}
 use lib.Dec.{ltb, eqb}
 use lib.ListN.{length, length-map, get_or, drop, drop_of_length-le}
 use borrow.Author.Tests.{ltb-true, ltb-false, le-ltb, lt-ltb, eqb-true, eqb-false}
-use Rattle.definitions.specs.Reply.{Reply, answer, refusal, if◌then◌else◌}
+use Rattle.definitions.specs.Reply.{Reply, answer, refusal}
 use Rattle.definitions.specs.Channel.{Channel, is_sound_number}
 use Rattle.definitions.specs.Overlap.{share_a_bit, Overlap, pair, none, pair_with, first_pair, all_fixed, channel_limit, overlap_of}
 use Rattle.refusals.specs.declared.Refusal.TheVariants.{TooManyChannels, NoFixedNumber}

@@ -1,6 +1,6 @@
 -- What the code's own types mean in the definitions, and what the contracts cite beside these.
-use Rattle.std.specs.Prelude.{ℕ, ◌+◌, ◌-◌, ◌*◌, ◌/◌, ◌%◌, ◌≤◌, ◌<◌, min, max, ◌≡◌, Bool, true, false, ltb}
-use Rattle.definitions.specs.Reply.{Reply, answer, if◌then◌else◌}
+use Rattle.std.specs.Prelude.{ℕ, ◌+◌, ◌-◌, ◌*◌, ◌/◌, ◌%◌, ◌≤◌, ◌<◌, min, max, ◌≡◌, Bool, true, false, ltb, if◌then◌else◌}
+use Rattle.definitions.specs.Reply.{Reply, answer}
 use Rattle.definitions.specs.Bytes.{Order, bytes_for}
 use Rattle.definitions.specs.DataType.{unsigned_integer, order_of}
 use Rattle.definitions.specs.Channel.{Channel, bit_place, is_sound_number}

@@ -1,6 +1,5 @@
 -- Where a walk along a chain stands, and what it keeps of the list read last.
-use Rattle.std.specs.Prelude.{◌≡◌, Bool, false, ℕ, ◌+◌, eqb}
-use Rattle.definitions.specs.Reply.{if◌then◌else◌}
+use Rattle.std.specs.Prelude.{◌≡◌, Bool, false, ℕ, ◌+◌, eqb, if◌then◌else◌}
 use Rattle.definitions.specs.DataList.{DataList}
 use Rattle.places.specs.declared.place.FileAddress.{FileAddress}
 use Rattle.places.specs.declared.place.DataPosition.{DataPosition}

@@ -1,4 +1,5 @@
 -- From a record that was fetched, or refused, to its field.
+use Rattle.std.specs.Prelude.{if◌then◌else◌}
 use mathlib.Core.Path.{◌≡◌, refl, sym, ap, ◌∙◌}
 use mathlib.Core.Bool.{Bool, true, false, ◌||◌}
 use mathlib.Core.List.{List}
@@ -7,7 +8,7 @@ use native.Mathlib.Omega.{arith}
 use lib.ListN.{length, take}
 use lib.Dec.{ltb, eqb}
 use borrow.Author.Tests.{ltb-false}
-use Rattle.definitions.specs.Reply.{Reply, Outcome, answer, refusal, if◌then◌else◌}
+use Rattle.definitions.specs.Reply.{Reply, Outcome, answer, refusal}
 use Rattle.definitions.specs.Channel.{Channel, Group, ValidValue, bounded_value_of}
 use Rattle.definitions.specs.Chain.{file_limit, record_limit, bad_size, fetched, field_of}
 use Rattle.definitions.proofs.Replies.{not_answered}

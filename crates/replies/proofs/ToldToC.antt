@@ -1,4 +1,5 @@
 -- What C is told is all that the definition gives: from each struct the definition's reply comes back.
+use Rattle.std.specs.Prelude.{if◌then◌else◌}
 use mathlib.Core.Path.{◌≡◌, refl, sym, ap, ap₂, subst, ◌∙◌}
 use mathlib.Core.Bool.{Bool, true, false}
 use mathlib.Core.List.{[], ◌∷◌}
@@ -9,7 +10,7 @@ use lib.ListN.{get_or}
 use lib.Dec.{eqb, ltb}
 use lib.Ieee.{binary64, of_bits}
 use borrow.Author.Tests.{lt-ltb, le-ltb}
-use Rattle.definitions.specs.Reply.{Reply, answer, refusal, if◌then◌else◌}
+use Rattle.definitions.specs.Reply.{Reply, answer, refusal}
 use Rattle.definitions.specs.Bytes.{twos_complement}
 use Rattle.definitions.specs.Unicode.{TextWritten}
 use Rattle.definitions.specs.Payload.{PayloadValue}

@@ -1,6 +1,5 @@
 -- A number that C gives to be written, and the reply.
-use Rattle.std.specs.Prelude.{ℕ, eqb}
-use Rattle.definitions.specs.Reply.{if◌then◌else◌}
+use Rattle.std.specs.Prelude.{ℕ, eqb, if◌then◌else◌}
 use Rattle.definitions.specs.Bytes.{twos_complement}
 use Rattle.definitions.specs.WrittenValue.{Given, given_unsigned, given_signed, given_double, given_other}
 use Rattle.replies.specs.declared.stored.Mf4Number.{Mf4Number}

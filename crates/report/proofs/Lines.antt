@@ -1,4 +1,5 @@
 -- The records of a chain: their readings, what the tally of these records says of them, and the last record.
+use Rattle.std.specs.Prelude.{if◌then◌else◌}
 use mathlib.Core.Path.{◌≡◌, refl, sym, ap, subst, ◌∙◌}
 use mathlib.Core.Bool.{Bool, true, false}
 use mathlib.Core.List.{List, [], ◌∷◌, ◌++◌, append-nil}
@@ -7,7 +8,7 @@ use native.Mathlib.Omega.{arith}
 use native.Mathlib.Nat.{suc-mul, zero-mul, div-mul-le_self}
 use lib.ListN.{length, take, drop, get_or, length-drop, take-append-drop, drop_of_length-le}
 use lib.Seq.{length-take-le, drop-drop}
-use Rattle.definitions.specs.Reply.{Reply, answer, if◌then◌else◌}
+use Rattle.definitions.specs.Reply.{Reply, answer}
 use Rattle.definitions.specs.Bytes.{span}
 use Rattle.definitions.specs.Channel.{Channel, Group, Value, ValidValue, bounded_value_of}
 use Rattle.definitions.specs.Report.{first_records, readings, count, is_invalid, has_no_value, last_record_in}

@@ -1,11 +1,12 @@
 -- The ways through a report.
+use Rattle.std.specs.Prelude.{if◌then◌else◌}
 use mathlib.Core.Path.{◌≡◌, refl, sym, ap, ◌∙◌}
 use mathlib.Core.Bool.{Bool, true, false}
 use mathlib.Core.List.{List, ◌++◌}
 use Prim.Native.Nat.{ℕ, ◌/◌}
 use lib.ListN.{length, take, drop}
 use lib.Dec.{ltb}
-use Rattle.definitions.specs.Reply.{Outcome, answer, refusal, if◌then◌else◌}
+use Rattle.definitions.specs.Reply.{Outcome, answer, refusal}
 use Rattle.definitions.specs.Channel.{Channel, Group, is_fixed_number, area_of}
 use Rattle.definitions.specs.Chain.{file_limit, id_dt, joined, chain_of, total_of, data_length, bad_size}
 use Rattle.definitions.specs.Report.{Report, first_records, readings, report_of, last_record_in, report_on, reported}

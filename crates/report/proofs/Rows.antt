@@ -1,10 +1,10 @@
 -- Records in a row, one more at a time.
+use Rattle.std.specs.Prelude.{if◌then◌else◌}
 use mathlib.Core.Path.{◌≡◌, sym, ap, subst, ◌∙◌}
 use mathlib.Core.Bool.{Bool, true, false}
 use mathlib.Core.List.{List}
 use Prim.Native.Nat.{ℕ, ◌+◌, ◌-◌, ◌*◌, ◌^◌, ◌<◌}
 use native.Mathlib.Omega.{arith}
-use Rattle.definitions.specs.Reply.{if◌then◌else◌}
 use Rattle.definitions.specs.Bytes.{span}
 use Rattle.fields.specs.declared.form.Number.{Number}
 use Rattle.tally.specs.Tallies.{Sane, HasMarks, skipped_tally, counted_tally}

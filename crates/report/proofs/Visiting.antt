@@ -1,4 +1,5 @@
 -- What one record makes of a tally, and what many of them do.
+use Rattle.std.specs.Prelude.{if◌then◌else◌}
 use mathlib.Core.Path.{◌≡◌, refl, sym, ap, subst, ◌∙◌}
 use mathlib.Core.Bool.{Bool, true, false}
 use mathlib.Core.List.{List}
@@ -6,7 +7,6 @@ use Prim.Native.Nat.{ℕ, zero, suc, ◌+◌, ◌-◌, ◌*◌, ◌≤◌, ◌<�
 use native.Mathlib.Omega.{arith}
 use lib.ListN.{length, take, drop, length-take, length-drop}
 use lib.Ieee.{is_nan}
-use Rattle.definitions.specs.Reply.{if◌then◌else◌}
 use Rattle.definitions.specs.Bytes.{span}
 use Rattle.fields.specs.declared.form.Number.{Number}
 use Rattle.tally.specs.Words.{value_at}

@@ -1,6 +1,5 @@
 -- Records that stand end to end, visited in turn.
-use Rattle.std.specs.Prelude.{◌≡◌, List, ℕ, zero, suc, ◌+◌, ◌*◌, ◌^◌, ◌<◌, length, take, drop}
-use Rattle.definitions.specs.Reply.{if◌then◌else◌}
+use Rattle.std.specs.Prelude.{◌≡◌, List, ℕ, zero, suc, ◌+◌, ◌*◌, ◌^◌, ◌<◌, length, take, drop, if◌then◌else◌}
 use Rattle.definitions.specs.Bytes.{span}
 use Rattle.tally.specs.Tallies.{skipped_tally, counted_tally}
 use Rattle.tally.specs.declared.tally.Tally.{Tally}

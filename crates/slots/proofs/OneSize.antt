@@ -1,11 +1,12 @@
 -- In records of one size a fixed number has a value in all or in none, and it lies at one place.
+use Rattle.std.specs.Prelude.{if◌then◌else◌}
 use mathlib.Core.Path.{◌≡◌, refl, sym, ap, subst, ◌∙◌}
 use mathlib.Core.Bool.{Bool, true, false}
 use mathlib.Core.List.{List}
 use Prim.Native.Nat.{ℕ, ◌+◌, ◌^◌, ◌<◌}
 use native.Mathlib.Omega.{arith}
 use lib.ListN.{length}
-use Rattle.definitions.specs.Reply.{answer, refusal, if◌then◌else◌}
+use Rattle.definitions.specs.Reply.{answer, refusal}
 use Rattle.definitions.specs.Bytes.{bit}
 use Rattle.definitions.specs.DataType.{kind_of}
 use Rattle.definitions.specs.Channel.{Channel, Group, Value, start_of, span_in, span_of, number_in, decoded, is_fixed_number, value_of, record_length, valid_of, area_of, bounded_valid_of, bounded_value_of}

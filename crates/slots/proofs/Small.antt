@@ -1,4 +1,5 @@
 -- The word of a number has 64 bits.
+use Rattle.std.specs.Prelude.{if◌then◌else◌}
 use mathlib.Core.Path.{◌≡◌, refl, sym}
 use mathlib.Core.Bool.{Bool, true, false}
 use mathlib.Core.List.{List}
@@ -10,7 +11,6 @@ use lib.Ieee.{binary32, binary64, of_bits}
 use lib.Ieee.Fits.{fits_widens}
 use lib.Ieee.Bits.{of_bits-fits, to_bits-lt}
 use borrow.Author.Tests.{ltb-true, ltb-false}
-use Rattle.definitions.specs.Reply.{if◌then◌else◌}
 use Rattle.definitions.specs.Ieee754.{widened}
 use Rattle.fields.specs.Form.{order_meant}
 use Rattle.fields.specs.Known.{Fitting}

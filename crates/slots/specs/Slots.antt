@@ -1,6 +1,6 @@
 -- Where in each record of one size a channel's number lies, and the bit that tells whether it is valid.
-use Rattle.std.specs.Prelude.{◌≡◌, Bool, true, false, List, ℕ, ◌+◌, ◌-◌, ◌*◌, ◌/◌, ◌%◌, ◌^◌, ◌≤◌, ◌<◌, length, get_or, ltb, eqb}
-use Rattle.definitions.specs.Reply.{answer, if◌then◌else◌}
+use Rattle.std.specs.Prelude.{◌≡◌, Bool, true, false, List, ℕ, ◌+◌, ◌-◌, ◌*◌, ◌/◌, ◌%◌, ◌^◌, ◌≤◌, ◌<◌, length, get_or, ltb, eqb, if◌then◌else◌}
+use Rattle.definitions.specs.Reply.{answer}
 use Rattle.definitions.specs.Bytes.{bit, bytes_for, field_at}
 use Rattle.definitions.specs.Channel.{Channel, Group, Value, float_bits, is_floating, bounded_value_of}
 use Rattle.definitions.specs.Report.{has_no_value}

@@ -1,4 +1,5 @@
 -- What a list declares for its chain, and which lists keep to it.
+use Rattle.std.specs.Prelude.{if◌then◌else◌}
 use mathlib.Core.Path.{◌≡◌, refl, sym, ap, ap₂, ◌∙◌}
 use mathlib.Core.Bool.{Bool, true, false, true≢false, not}
 use mathlib.Core.List.{List, []}
@@ -8,7 +9,7 @@ use native.Mathlib.Omega.{arith}
 use lib.ListN.{drop}
 use lib.Dec.{leb, eqb}
 use borrow.Author.Tests.{eq-eqb, ne_eqb, le-leb, eqb-true, eqb-false, not-false}
-use Rattle.definitions.specs.Reply.{Reply, answer, refusal, if◌then◌else◌, and_then}
+use Rattle.definitions.specs.Reply.{Reply, answer, refusal, and_then}
 use Rattle.definitions.specs.Bytes.{u64_at, bit}
 use Rattle.definitions.specs.DataList.{DataList, one_length}
 use Rattle.definitions.specs.Chain.{Declaration, by_length, by_offsets, declaration_of, keeps_to, list_at, chained_at, lists, list_limit, chain_of}

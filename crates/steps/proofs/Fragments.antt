@@ -1,4 +1,5 @@
 -- The ways through a fragment, and what an answer tells of it.
+use Rattle.std.specs.Prelude.{if◌then◌else◌}
 use mathlib.Core.Path.{◌≡◌, refl, sym, ap, ◌∙◌}
 use mathlib.Core.Bool.{Bool, true, false, not, ◌&&◌}
 use mathlib.Core.List.{List}
@@ -7,7 +8,7 @@ use native.Mathlib.Omega.{arith}
 use lib.ListN.{length, drop}
 use lib.Dec.{leb, eqb}
 use borrow.Author.Tests.{ne_eqb, lt-leb, le-leb, eqb-true, eqb-false}
-use Rattle.definitions.specs.Reply.{answer, refusal, if◌then◌else◌}
+use Rattle.definitions.specs.Reply.{answer, refusal}
 use Rattle.definitions.specs.Bytes.{u64_at}
 use Rattle.definitions.specs.DataList.{DataList}
 use Rattle.definitions.specs.Chain.{Block, block_at, is_last, declared, judged, fragment_of, list_at}

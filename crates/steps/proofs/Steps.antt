@@ -1,4 +1,5 @@
 -- What a walk meets: the list of its place, the ways to the next one, and what that tells.
+use Rattle.std.specs.Prelude.{if◌then◌else◌}
 use mathlib.Core.Path.{◌≡◌, refl, sym, ap, subst, ◌∙◌}
 use mathlib.Core.Bool.{Bool, true, false}
 use mathlib.Core.List.{List}
@@ -7,7 +8,7 @@ use native.Mathlib.Omega.{arith}
 use lib.ListN.{drop}
 use lib.Dec.{leb, eqb}
 use borrow.Author.Tests.{eq-eqb, ne_eqb, lt-leb, le-leb, leb-false}
-use Rattle.definitions.specs.Reply.{Reply, answer, refusal, if◌then◌else◌, and_then}
+use Rattle.definitions.specs.Reply.{Reply, answer, refusal, and_then}
 use Rattle.definitions.specs.DataList.{DataList}
 use Rattle.definitions.specs.Chain.{fragment_limit, list_limit, has_header, list_at, declaration_of, keeps_to, chained_at}
 use Rattle.places.specs.Places.{opened, Opens, behind, entered, ended}

@@ -1,6 +1,6 @@
 -- What a walk meets at a place: the fragment there, or the next list. f is the file, and id the id of its data blocks.
-use Rattle.std.specs.Prelude.{◌≡◌, ℕ, ◌+◌, ◌*◌, ◌%◌, ◌≤◌, ◌<◌, List, length, drop, leb, eqb}
-use Rattle.definitions.specs.Reply.{Reply, answer, refusal, if◌then◌else◌, and_then}
+use Rattle.std.specs.Prelude.{◌≡◌, ℕ, ◌+◌, ◌*◌, ◌%◌, ◌≤◌, ◌<◌, List, length, drop, leb, eqb, if◌then◌else◌}
+use Rattle.definitions.specs.Reply.{Reply, answer, refusal, and_then}
 use Rattle.definitions.specs.Bytes.{u64_at}
 use Rattle.definitions.specs.DataList.{DataList, one_length, rest_count}
 use Rattle.definitions.specs.Chain.{Block, fragment_limit, list_limit, fragment_of, list_at, Declaration, by_length, by_offsets, declaration_of, chained_at}

@@ -1,6 +1,6 @@
 -- The first fragments of a chain, listed in a table.
-use Rattle.std.specs.Prelude.{◌≡◌, ℕ, ◌+◌, ◌≤◌, ◌<◌, List, length, ltb}
-use Rattle.definitions.specs.Reply.{answer, if◌then◌else◌}
+use Rattle.std.specs.Prelude.{◌≡◌, ℕ, ◌+◌, ◌≤◌, ◌<◌, List, length, ltb, if◌then◌else◌}
+use Rattle.definitions.specs.Reply.{answer}
 use Rattle.definitions.specs.Chain.{Block, chain_of}
 use Rattle.definitions.specs.Table.{table_limit, count_of, total_in, with_block, table_of}
 use Rattle.refusals.specs.Meaning.{refused}

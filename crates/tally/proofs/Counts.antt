@@ -1,8 +1,9 @@
 -- One reading more behind the others, in the counts, the points and the sum; and what there is where none is valid.
+use Rattle.std.specs.Prelude.{if◌then◌else◌}
 use Rattle.std.proofs.Common.{◌≡◌, ℕ, suc, ◌+◌, Bool, true, false, not, ◌&&◌, List, [], ◌∷◌, ◌++◌, length, ℤ, pos, ◌+ℤ◌, sym, refl, ap, ◌∙◌, zero-add, arith}
 use lib.IntN.{+ℤ_assoc, +ℤ_idl, +ℤ_idr}
 use lib.Ieee.{is_nan}
-use Rattle.definitions.specs.Reply.{Reply, answer, refusal, if◌then◌else◌}
+use Rattle.definitions.specs.Reply.{Reply, answer, refusal}
 use Rattle.definitions.specs.Channel.{ValidValue}
 use Rattle.definitions.specs.Report.{Point, count, is_valid, is_invalid, has_no_value, double_read, is_valid_nan, points, summand, sum_of}
 use Rattle.tally.proofs.Foremost.{Numerals}

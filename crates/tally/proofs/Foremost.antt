@@ -1,7 +1,7 @@
 -- One point more behind the others: it comes first only where it is before the one that did.
+use Rattle.std.specs.Prelude.{if◌then◌else◌}
 use Rattle.std.proofs.Common.{◌≡◌, Bool, true, false, List, [], ◌∷◌, ◌++◌, sym, refl, ap, ◌∙◌, true≢false}
 use lib.Ieee.{Float, lt, is_nan}
-use Rattle.definitions.specs.Reply.{if◌then◌else◌}
 use Rattle.definitions.specs.Report.{Point, last_point, foremost, smallest, largest}
 use Rattle.tally.proofs.Ordered.{below_through, above_through, lt_asym}
 

@@ -1,8 +1,8 @@
 -- The outermost of the points, and one more behind them, as a tally keeps them.
+use Rattle.std.specs.Prelude.{if◌then◌else◌}
 use Rattle.std.proofs.Common.{◌≡◌, ℕ, suc, ◌+◌, ◌≤◌, Bool, true, false, eqb, List, [], ◌∷◌, ◌++◌, refl, ap, ◌∙◌, add-one, arith, ne_eqb}
 use lib.Dec.{eqb-suc-suc}
 use lib.Ieee.{lt}
-use Rattle.definitions.specs.Reply.{if◌then◌else◌}
 use Rattle.definitions.specs.Report.{Point, Outermost, foremost, last_point, outermost}
 use Rattle.fields.specs.declared.form.Number.{Number}
 use Rattle.tally.specs.Words.{value_at}

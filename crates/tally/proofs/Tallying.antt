@@ -1,8 +1,9 @@
 -- One record more keeps a tally true to the readings, and sane.
+use Rattle.std.specs.Prelude.{if◌then◌else◌}
 use Rattle.std.proofs.Common.{◌≡◌, ℕ, ◌+◌, ◌/◌, ◌%◌, ◌^◌, ◌<◌, ◌≤◌, Bool, true, false, List, [], ◌∷◌, ◌++◌, length, ℤ, pos, ◌+ℤ◌, sym, refl, ap, ◌∙◌, append-nil, add-zero, arith, length-append}
 use lib.IntN.{+ℤ_idr}
 use lib.Ieee.{binary64, of_bits, is_nan}
-use Rattle.definitions.specs.Reply.{Reply, answer, if◌then◌else◌}
+use Rattle.definitions.specs.Reply.{Reply, answer}
 use Rattle.definitions.specs.Channel.{Value, ValidValue}
 use Rattle.definitions.specs.Report.{Point, count, is_valid, has_no_value, double_read, is_valid_nan, points, outermost, sum_of}
 use Rattle.fields.specs.declared.form.Number.{Number}

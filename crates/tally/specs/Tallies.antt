@@ -1,7 +1,7 @@
 -- What one record more makes of a tally, and what a tally knows of the records so far.
-use Rattle.std.specs.Prelude.{◌≡◌, ℕ, ◌+◌, ◌*◌, ◌/◌, ◌%◌, ◌^◌, ◌<◌, ◌≤◌, Bool, true, false, List, length, pos, ◌+ℤ◌, ◌==◌, is_nan, nat_lt}
+use Rattle.std.specs.Prelude.{◌≡◌, ℕ, ◌+◌, ◌*◌, ◌/◌, ◌%◌, ◌^◌, ◌<◌, ◌≤◌, Bool, true, false, List, length, pos, ◌+ℤ◌, ◌==◌, is_nan, nat_lt, if◌then◌else◌}
 use Rattle.std.specs.Float.Ieee.{lt}
-use Rattle.definitions.specs.Reply.{Reply, if◌then◌else◌}
+use Rattle.definitions.specs.Reply.{Reply}
 use Rattle.definitions.specs.Channel.{ValidValue}
 use Rattle.definitions.specs.Report.{Point, Outermost, no_point, count, is_valid, has_no_value, is_valid_nan, points, outermost, sum_of}
 use Rattle.fields.specs.declared.form.Number.{Number}

@@ -1,9 +1,9 @@
 -- The decoders by what their tests tell: each character from the outcomes.
+use Rattle.std.specs.Prelude.{if◌then◌else◌}
 use mathlib.Core.Path.{◌≡◌, sym}
 use mathlib.Core.Bool.{Bool, ◌&&◌}
 use Prim.Native.Nat.{ℕ, ◌+◌, ◌-◌, ◌*◌}
 use lib.Dec.{leb, ltb}
-use Rattle.definitions.specs.Reply.{if◌then◌else◌}
 use Rattle.definitions.specs.Unicode.{is_scalar, scalar, damage, scalar_if, six_bits, utf8_two, utf8_three, utf8_four, utf8_char, utf16_char}
 
 pub two_decided : (a b x : ℕ) (p q : Bool) → x ≡ six_bits b → ltb x 64 ≡ p → leb 0x80 ((a - 0xC0) * 64 + x) ≡ q

@@ -1,4 +1,5 @@
 -- The first character of what is left of a text, from its bytes as the code reads them.
+use Rattle.std.specs.Prelude.{if◌then◌else◌}
 use mathlib.Core.Path.{◌≡◌, refl, sym, ◌∙◌}
 use mathlib.Core.List.{List}
 use mathlib.Core.Bool.{Bool, true, false}
@@ -9,7 +10,6 @@ use borrow.Author.Tests.{le-ltb, lt-ltb}
 use lib.Dec.{ltb}
 use lib.ListN.{length, get_or, drop, length-drop}
 use lib.Seq.{get_or-drop}
-use Rattle.definitions.specs.Reply.{if◌then◌else◌}
 use Rattle.definitions.specs.Bytes.{Order}
 use Rattle.definitions.specs.Unicode.{Encoding, latin1, utf8, utf16, within, unit_of, Char as Character, scalar, damage, scalar_if, utf8_char, utf16_char, char_of, inside, char_at}
 use Rattle.text.specs.Meaning.{char_meant}

@@ -1,4 +1,5 @@
 -- What the public call replies and leaves, from what the passes found.
+use Rattle.std.specs.Prelude.{if◌then◌else◌}
 use mathlib.Core.Path.{◌≡◌, refl, sym, ap, ◌∙◌}
 use mathlib.Core.List.{List}
 use mathlib.Core.Bool.{Bool, true, false}
@@ -7,7 +8,7 @@ use native.Mathlib.Omega.{arith}
 use borrow.Author.Tests.{le-ltb, lt-ltb}
 use lib.ListN.{length}
 use lib.Seq.{sets}
-use Rattle.definitions.specs.Reply.{Outcome, answer, refusal, if◌then◌else◌, told}
+use Rattle.definitions.specs.Reply.{Outcome, answer, refusal, told}
 use Rattle.definitions.specs.Unicode.{Encoding, latin1, utf8, stopped, Char as Character, chars, all_sound, chars_utf8, placeholder, Text, text_from, text_of, TextWritten, written_text, text_written}
 use Rattle.text.specs.Parts.{size_of, as_is, whole_text}
 use Rattle.text.specs.declared.utf16.Size.TheVariants.{Sound, Damaged}

@@ -1,12 +1,12 @@
 -- The room that always suffices for a text: as UTF-8 it has at most twice the bytes that it is given in, or what the longest
 -- placeholder takes.
+use Rattle.std.specs.Prelude.{if◌then◌else◌}
 use mathlib.Core.Path.{◌≡◌, refl, sym}
 use mathlib.Core.List.{List, [], ◌∷◌, ◌++◌}
 use mathlib.Core.Bool.{Bool, true, false}
 use Prim.Native.Nat.{ℕ, zero, suc, ◌-◌, ◌*◌, ◌≤◌, max}
 use native.Mathlib.Omega.{arith}
 use lib.ListN.{length, get_or, take, length-append}
-use Rattle.definitions.specs.Reply.{if◌then◌else◌}
 use Rattle.definitions.specs.Bytes.{little, big}
 use Rattle.definitions.specs.Unicode.{Encoding, latin1, utf8, utf16, stopped, Char as Character, scalar, damage, char_at, more_of, chars, utf8_of, char_utf8, all_sound, chars_utf8, placeholder, Text, text_of}
 use Rattle.text.specs.Parts.{Modest, as_is}

@@ -1,4 +1,5 @@
 -- A character that was read is spelt by the bytes it was read from: they are the encoding of its scalar value.
+use Rattle.std.specs.Prelude.{if◌then◌else◌}
 use mathlib.Core.Path.{◌≡◌, refl, ap, ◌∙◌}
 use mathlib.Core.List.{List, [], ◌∷◌}
 use mathlib.Core.Bool.{Bool, true, false, ◌&&◌}
@@ -8,7 +9,6 @@ use native.Mathlib.Omega.{arith}
 use borrow.Author.Tests.{ltb-true, ltb-false, leb-true, le-ltb, lt-ltb}
 use lib.Dec.{leb, ltb}
 use lib.ListN.{length, get_or, take}
-use Rattle.definitions.specs.Reply.{if◌then◌else◌}
 use Rattle.definitions.specs.Bytes.{Order, little, big}
 use Rattle.definitions.specs.Unicode.{Encoding, latin1, utf8, utf16, within, is_scalar, utf8_of, utf16_of, unit_of, unit_bytes, encoded, scalar, damage, scalar_if, six_bits, utf8_two, utf8_three, utf8_four, utf8_char, utf16_char, char_of, char_at}
 use Rattle.definitions.proofs.Replies.{both}

@@ -1,4 +1,5 @@
 -- What comes out of a text: its scalar values up to the first zero, as UTF-8.
+use Rattle.std.specs.Prelude.{if◌then◌else◌}
 use mathlib.Core.Path.{◌≡◌, refl, sym, ap, ◌∙◌}
 use mathlib.Core.List.{List, [], ◌∷◌, ◌++◌, append-nil}
 use mathlib.Core.Bool.{Bool, true, false, ◌&&◌}
@@ -6,7 +7,6 @@ use Prim.Native.Nat.{ℕ, ◌+◌, ◌<◌}
 use native.Mathlib.Omega.{arith}
 use borrow.Author.Tests.{eqb-true, eqb-false, ltb-true, ltb-false, ne_eqb}
 use lib.Dec.{eqb, ltb}
-use Rattle.definitions.specs.Reply.{if◌then◌else◌}
 use Rattle.definitions.specs.Bytes.{Order, little, big}
 use Rattle.definitions.specs.Unicode.{Encoding, latin1, utf8, utf16, before_nul, before_zero_unit, stopped, is_scalar, utf8_of, utf16_of, unit_bytes, encoded, encoded_all, all_scalar, Char as Character, scalar, damage, chars, all_sound, chars_utf8, Text, text_from, text_of}
 use Rattle.definitions.proofs.Replies.{both}

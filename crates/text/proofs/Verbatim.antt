@@ -1,10 +1,10 @@
 -- UTF-8 that is not damaged comes out as its own bytes, up to the first zero.
+use Rattle.std.specs.Prelude.{if◌then◌else◌}
 use mathlib.Core.Path.{◌≡◌, refl, sym, ◌∙◌}
 use mathlib.Core.List.{List}
 use mathlib.Core.Bool.{Bool, true, false}
 use Prim.Native.Nat.{ℕ}
 use native.Mathlib.Omega.{arith}
-use Rattle.definitions.specs.Reply.{if◌then◌else◌}
 use Rattle.definitions.specs.Unicode.{utf8, before_nul, stopped, Char as Character, chars, all_sound, chars_utf8, placeholder, Text, text_of}
 use Rattle.text.proofs.Wellformed.{utf8_spells}
 use Rattle.text.proofs.Texts.{as_utf8}

@@ -1,6 +1,5 @@
 -- What the parts of the public call promise one another.
-use Rattle.std.specs.Prelude.{◌≡◌, ℕ, suc, ◌*◌, ◌≤◌, ◌<◌, List, Bool, true, false, length}
-use Rattle.definitions.specs.Reply.{if◌then◌else◌}
+use Rattle.std.specs.Prelude.{◌≡◌, ℕ, suc, ◌*◌, ◌≤◌, ◌<◌, List, Bool, true, false, length, if◌then◌else◌}
 use Rattle.definitions.specs.Unicode.{Encoding, Char as Character, scalar, damage, char_at, utf8_of, chars, all_sound, chars_utf8, Text, text_from}
 use Rattle.text.specs.Meaning.{char_meant}
 use Rattle.text.specs.declared.character.Char.{Char}

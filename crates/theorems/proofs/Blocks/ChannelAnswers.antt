@@ -1,4 +1,5 @@
 -- When a channel block is answered: exactly then, with the block that stands in the bytes.
+use Rattle.std.specs.Prelude.{if◌then◌else◌}
 use mathlib.Core.Path.{◌≡◌, refl}
 use mathlib.Core.List.{List}
 use mathlib.Core.Bool.{Bool, true, false, not}
@@ -7,7 +8,7 @@ use native.Mathlib.Omega.{arith}
 use lib.ListN.{length, drop}
 use lib.Dec.{ltb}
 use borrow.Author.Tests.{ltb-false}
-use Rattle.definitions.specs.Reply.{answer, refusal, if◌then◌else◌, needing}
+use Rattle.definitions.specs.Reply.{answer, refusal, needing}
 use Rattle.definitions.specs.Bytes.{u64_at, id_at}
 use Rattle.definitions.specs.Header.{Header, header_in}
 use Rattle.definitions.specs.ChannelBlock.{ChannelBlock, id_cn, fields_at, block_in, fields_of, channel_block_of}

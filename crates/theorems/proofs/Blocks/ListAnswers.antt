@@ -1,4 +1,5 @@
 -- When a data list is answered: exactly then, with the list that stands in the bytes.
+use Rattle.std.specs.Prelude.{if◌then◌else◌}
 use mathlib.Core.Path.{◌≡◌, refl, ◌∙◌}
 use mathlib.Core.List.{List}
 use mathlib.Core.Bool.{Bool, true, false, not}
@@ -7,7 +8,7 @@ use native.Mathlib.Omega.{arith}
 use lib.ListN.{length}
 use lib.Dec.{eqb}
 use borrow.Author.Tests.{eqb-false}
-use Rattle.definitions.specs.Reply.{answer, refusal, if◌then◌else◌, needing}
+use Rattle.definitions.specs.Reply.{answer, refusal, needing}
 use Rattle.definitions.specs.Bytes.{u64_at, id_at}
 use Rattle.definitions.specs.Header.{Header, header_in}
 use Rattle.definitions.specs.DataList.{DataList, id_dl, list_of, links_of, rest_of, list_in, rest_in, flags_at}

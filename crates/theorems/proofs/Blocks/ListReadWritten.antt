@@ -1,5 +1,6 @@
 -- A data list that is read and then written gives its bytes again where it is `Plain`: nothing in the reserved fields or
 -- the upper flags, no more links than can be written, and a count and a block length that fit its fields.
+use Rattle.std.specs.Prelude.{if◌then◌else◌}
 use mathlib.Core.Path.{◌≡◌, refl, sym, ap, ap₂, ◌∙◌, subst}
 use mathlib.Core.Logic.{◌⊎◌, inl, inr}
 use mathlib.Core.Bool.{true, false}
@@ -8,7 +9,7 @@ use Prim.Native.Nat.{ℕ, ◌+◌, ◌-◌, ◌*◌, ◌≤◌, ◌<◌}
 use native.Mathlib.Omega.{arith}
 use lib.ListN.{length, get_or, take}
 use borrow.Author.Tests.{le-ltb, eq-eqb}
-use Rattle.definitions.specs.Reply.{answer, if◌then◌else◌}
+use Rattle.definitions.specs.Reply.{answer}
 use Rattle.definitions.specs.Bytes.{le_of, le, span, u32_at, u64_at, u64s_at}
 use Rattle.definitions.specs.Header.{header_in, header_bytes}
 use Rattle.definitions.specs.DataList.{DataList, link_limit, one_length, list_of, list_in, rest_in, rest_count, flags_at, list_size, header_for, list_bytes, Lengths, equal, variable, flags_for, rest_for, unwritable}

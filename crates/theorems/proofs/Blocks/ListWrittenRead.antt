@@ -1,4 +1,5 @@
 -- Reading gives what a data list was written from, whatever bytes come after it.
+use Rattle.std.specs.Prelude.{if◌then◌else◌}
 use mathlib.Core.Path.{◌≡◌, refl, sym, ap, ap₂, ◌∙◌}
 use mathlib.Core.Bool.{Bool, true, false}
 use mathlib.Core.List.{List, [], ◌∷◌, ◌++◌, append_assoc}
@@ -6,7 +7,7 @@ use Prim.Native.Nat.{ℕ, ◌+◌, ◌-◌, ◌*◌, ◌^◌, ◌≤◌, ◌<◌
 use native.Mathlib.Omega.{arith}
 use lib.ListN.{length, get_or, length-append}
 use lib.Seq.{get_or_at}
-use Rattle.definitions.specs.Reply.{answer, if◌then◌else◌}
+use Rattle.definitions.specs.Reply.{answer}
 use Rattle.definitions.specs.Bytes.{le_of, le, les, span, u32_at, u64_at, u64s_at, id_at}
 use Rattle.definitions.specs.Header.{Header, header_in, header_bytes}
 use Rattle.definitions.specs.DataList.{DataList, id_dl, link_limit, one_length, list_of, list_in, rest_in, rest_count, flags_at, header_for, list_bytes}

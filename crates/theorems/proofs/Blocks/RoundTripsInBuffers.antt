@@ -1,4 +1,5 @@
 -- What was written into a buffer is read from it, and what was read is written again.
+use Rattle.std.specs.Prelude.{if◌then◌else◌}
 use mathlib.Core.Path.{◌≡◌, refl, sym, ap, ◌∙◌}
 use mathlib.Core.Bool.{Bool, true, false}
 use mathlib.Core.List.{List, [], ◌∷◌, ◌++◌}
@@ -7,7 +8,7 @@ use native.Mathlib.Omega.{arith}
 use lib.ListN.{length, take, drop}
 use lib.Seq.{length-take-le}
 use lib.Dec.{ltb}
-use Rattle.definitions.specs.Reply.{Outcome, answer, refusal, if◌then◌else◌, told, writing}
+use Rattle.definitions.specs.Reply.{Outcome, answer, refusal, told, writing}
 use Rattle.definitions.specs.Bytes.{u64s_at}
 use Rattle.definitions.specs.Header.{Header, header_of, header_bytes, header_written}
 use Rattle.definitions.specs.DataList.{DataList, Lengths, equal, variable, list_of, list_bytes, flags_for, rest_for, unwritable, list_written}

@@ -1,4 +1,5 @@
 -- No definition is met by refusing always: each answers exactly where its condition holds.
+use Rattle.std.specs.Prelude.{if◌then◌else◌}
 use mathlib.Core.Path.{◌≡◌, refl, sym, ap, ◌∙◌, subst}
 use mathlib.Core.Logic.{◌⊎◌, inl, inr}
 use mathlib.Core.Bool.{Bool, true, false, not, ◌&&◌, ◌||◌, true≢false}
@@ -8,7 +9,7 @@ use native.Mathlib.Omega.{arith}
 use lib.ListN.{length, drop}
 use lib.Dec.{ltb, eqb}
 use borrow.Author.Tests.{ltb-true, ltb-false, lt-ltb, le-ltb, eqb-true, eqb-false, not-false, ne_eqb, eq-eqb}
-use Rattle.definitions.specs.Reply.{Reply, Outcome, answer, refusal, if◌then◌else◌, and_then, told, writing, on_answer}
+use Rattle.definitions.specs.Reply.{Reply, Outcome, answer, refusal, and_then, told, writing, on_answer}
 use Rattle.definitions.specs.Bytes.{span}
 use Rattle.definitions.specs.Unicode.{Encoding, text_of, written_text, text_written}
 use Rattle.definitions.specs.Header.{Header, header_in, header_of, header_bytes, header_written}

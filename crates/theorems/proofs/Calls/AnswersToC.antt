@@ -1,5 +1,6 @@
 -- When each call for C replies 0, exactly: about its own clause. Of payloads `PayloadsToC` has it, of a number that is written
 -- `WrittenValuesToC`, and of an overlap `OverlapsToC`.
+use Rattle.std.specs.Prelude.{if◌then◌else◌}
 use mathlib.Core.Path.{◌≡◌, refl, sym, ◌∙◌}
 use mathlib.Core.Bool.{Bool, true, false}
 use mathlib.Core.List.{List}
@@ -9,7 +10,7 @@ use contract.Lifetimes.{Lfts}
 use lib.ListN.{length}
 use lib.Dec.{eqb}
 use borrow.Author.Tests.{eqb-true, eqb-false}
-use Rattle.definitions.specs.Reply.{Reply, answer, refusal, if◌then◌else◌}
+use Rattle.definitions.specs.Reply.{Reply, answer, refusal}
 use Rattle.definitions.specs.Unicode.{Encoding, text_of}
 use Rattle.definitions.specs.DataList.{equal, variable}
 use Rattle.definitions.proofs.Replies.{not_answered}

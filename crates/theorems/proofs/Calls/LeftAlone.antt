@@ -1,6 +1,7 @@
 -- What a call leaves of the buffer that it is lent. Where it refuses: every byte. Where it answers: every byte behind those that it
 -- reports as written. Of a fetched record's field `FetchEnds` says it, of payloads `PayloadEnds`, of a report
 -- `ReportsLeft`, of a number that is written `WrittenEnds` and `WrittenValues`.
+use Rattle.std.specs.Prelude.{if◌then◌else◌}
 use mathlib.Core.Path.{◌≡◌, refl, sym, ap, ◌∙◌, subst}
 use mathlib.Core.Bool.{Bool, true, false}
 use mathlib.Core.List.{List, ◌++◌}
@@ -10,7 +11,7 @@ use lib.ListN.{length, drop, length-append, length-drop}
 use lib.Seq.{drop-append_seam}
 use lib.Dec.{ltb}
 use borrow.Author.Tests.{ltb-false}
-use Rattle.definitions.specs.Reply.{Reply, Outcome, answer, refusal, if◌then◌else◌, told, writing, on_answer}
+use Rattle.definitions.specs.Reply.{Reply, Outcome, answer, refusal, told, writing, on_answer}
 use Rattle.definitions.specs.Bytes.{span}
 use Rattle.definitions.specs.Unicode.{Encoding, TextWritten, text_of, written_text, text_written}
 use Rattle.definitions.specs.Header.{Header, header_bytes, header_written}

@@ -1,6 +1,7 @@
 -- Which numbers refusals have: a field's are 18 to 22, its validity's 28 and 29, those of blocks, chains and records 2 to 17 without
 -- 14, and a payload's also 21, 23 and 35; of a number that is written `WrittenEnds` has them, of a list of channels `Overlaps`,
 -- and of a report `ReportNumbers`. So a reply of 0 is an answer.
+use Rattle.std.specs.Prelude.{if◌then◌else◌}
 use mathlib.Core.Path.{◌≡◌, refl, sym}
 use mathlib.Core.Logic.{◌⊎◌, inl, inr}
 use mathlib.Core.Bool.{Bool, true, false, not, ◌&&◌, ◌||◌}
@@ -9,7 +10,7 @@ use Prim.Native.Nat.{ℕ, zero, suc, ◌+◌, ◌*◌, ◌<◌}
 use native.Mathlib.Omega.{arith}
 use lib.ListN.{length, take, drop}
 use lib.Dec.{ltb, leb, eqb}
-use Rattle.definitions.specs.Reply.{Reply, Outcome, answer, refusal, if◌then◌else◌, and_then, told, writing, on_answer}
+use Rattle.definitions.specs.Reply.{Reply, Outcome, answer, refusal, and_then, told, writing, on_answer}
 use Rattle.definitions.specs.Bytes.{u32_at, u64_at, id_at}
 use Rattle.definitions.specs.Unicode.{Encoding, text_of, written_text, text_written}
 use Rattle.definitions.specs.Header.{Header, header_of, header_bytes, header_written}

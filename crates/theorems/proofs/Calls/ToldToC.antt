@@ -1,4 +1,5 @@
 -- From what a call returns to C, the definition's reply comes back: about each call's own clause.
+use Rattle.std.specs.Prelude.{if◌then◌else◌}
 use mathlib.Core.Path.{◌≡◌, refl, sym, ap, ◌∙◌}
 use mathlib.Core.Bool.{Bool, true, false, not, ◌&&◌, ◌||◌, true≢false}
 use mathlib.Core.List.{List}
@@ -11,7 +12,7 @@ use lib.ListN.{length, get_or, take, drop}
 use lib.Dec.{ltb, eqb}
 use lib.Pow.{pow_pos, pow_mono, pow-add}
 use borrow.Author.Tests.{ltb-true, ltb-false, eqb-false}
-use Rattle.definitions.specs.Reply.{Reply, Outcome, answer, refusal, if◌then◌else◌, and_then, told}
+use Rattle.definitions.specs.Reply.{Reply, Outcome, answer, refusal, and_then, told}
 use Rattle.definitions.specs.Bytes.{twos_complement, u64_at}
 use Rattle.definitions.specs.Unicode.{Encoding, text_written}
 use Rattle.definitions.specs.Header.{header_of, header_written}

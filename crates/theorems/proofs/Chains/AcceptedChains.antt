@@ -1,4 +1,5 @@
 -- The walk accepts exactly the chains that `Accepted` describes, and joins their blocks' data end to end.
+use Rattle.std.specs.Prelude.{if◌then◌else◌}
 use mathlib.Core.Path.{◌≡◌, refl, sym, ap, ◌∙◌}
 use mathlib.Core.Bool.{Bool, true, false}
 use mathlib.Core.List.{List, [], ◌∷◌, ◌++◌, append_assoc, append-nil}
@@ -8,7 +9,7 @@ use native.Mathlib.Omega.{arith}
 use lib.ListN.{length, drop, length-append}
 use lib.Dec.{eqb}
 use borrow.Author.Tests.{eqb-true, eq-eqb, ne_eqb}
-use Rattle.definitions.specs.Reply.{answer, if◌then◌else◌}
+use Rattle.definitions.specs.Reply.{answer}
 use Rattle.definitions.specs.DataList.{DataList}
 use Rattle.definitions.specs.Chain.{Block, total, list_limit, fragment_limit, fragment_of, fragments, list_at, Declaration, declaration_of, keeps_to, chained_at, lists, chain_of}
 use Rattle.definitions.specs.Accepted.{Each, Part, blocks_of, link_to, Truthful, BlockListed, PartStands, Accepted}

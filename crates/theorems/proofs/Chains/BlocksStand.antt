@@ -1,5 +1,6 @@
 -- A block is taken at an address exactly where it stands there, a fragment exactly where its list tells the truth of it, and a
 -- list exactly where it stands and agrees.
+use Rattle.std.specs.Prelude.{if◌then◌else◌}
 use mathlib.Core.Path.{◌≡◌, refl, sym, ap, ◌∙◌}
 use mathlib.Core.Bool.{Bool, true, false, not, ◌&&◌}
 use mathlib.Core.Logic.{◌⊎◌, inl, inr}
@@ -9,7 +10,7 @@ use native.Mathlib.Omega.{arith}
 use lib.ListN.{length, drop}
 use lib.Dec.{ltb, leb, eqb}
 use borrow.Author.Tests.{leb-true, leb-false, ltb-false, eqb-true, eqb-false, not-false, le-leb, le-ltb, eq-eqb, ne_eqb}
-use Rattle.definitions.specs.Reply.{answer, if◌then◌else◌}
+use Rattle.definitions.specs.Reply.{answer}
 use Rattle.definitions.specs.Bytes.{u64_at, bit}
 use Rattle.definitions.specs.DataList.{DataList, one_length, list_of}
 use Rattle.definitions.specs.Chain.{Block, fragment_limit, has_header, block_at, is_last, judged, declared, fragment_of, agrees, admitted, list_at}

@@ -1,4 +1,5 @@
 -- When a data block, a fragment or a list of a chain is refused, exactly, and what is read where it is not.
+use Rattle.std.specs.Prelude.{if◌then◌else◌}
 use mathlib.Core.Path.{◌≡◌, refl, sym, ap, ◌∙◌}
 use mathlib.Core.Logic.{◌⊎◌, inl, inr, ⊎_elim}
 use mathlib.Core.Bool.{Bool, true, false, not, ◌&&◌, true≢false}
@@ -8,7 +9,7 @@ use native.Mathlib.Omega.{arith}
 use lib.ListN.{length, drop}
 use lib.Dec.{ltb, leb, eqb}
 use borrow.Author.Tests.{leb-true, leb-false, eqb-true, eqb-false}
-use Rattle.definitions.specs.Reply.{Reply, answer, refusal, if◌then◌else◌}
+use Rattle.definitions.specs.Reply.{Reply, answer, refusal}
 use Rattle.definitions.specs.Bytes.{u64_at, id_at}
 use Rattle.definitions.specs.DataList.{DataList, one_length, list_of}
 use Rattle.definitions.specs.Chain.{Block, fragment_limit, has_header, block_at, is_last, declared, judged, fragment_of, agrees, admitted, list_at, Declaration, by_length, by_offsets, declaration_of, keeps_to, chained_at}

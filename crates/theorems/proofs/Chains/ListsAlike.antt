@@ -1,4 +1,5 @@
 -- Lists keep to the declaration of the first exactly where all declare one length and one count between them, or all offsets.
+use Rattle.std.specs.Prelude.{if◌then◌else◌}
 use mathlib.Core.Path.{◌≡◌, refl, sym, ap₂, subst}
 use mathlib.Core.Bool.{Bool, true, false, true≢false}
 use mathlib.Core.List.{List, [], ◌∷◌, ◌++◌}
@@ -8,7 +9,6 @@ use native.Mathlib.Omega.{arith}
 use lib.ListN.{drop}
 use lib.Dec.{leb, eqb}
 use borrow.Author.Tests.{eq-eqb, ne_eqb, le-leb, leb-true, eqb-true, eqb-false}
-use Rattle.definitions.specs.Reply.{if◌then◌else◌}
 use Rattle.definitions.specs.Bytes.{u64_at, bit}
 use Rattle.definitions.specs.DataList.{one_length}
 use Rattle.definitions.specs.Chain.{Declaration, by_length, by_offsets, declaration_of, keeps_to}

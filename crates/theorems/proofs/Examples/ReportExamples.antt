@@ -1,4 +1,5 @@
 -- Worked examples of reports: the definition computes to what the rows say. Each file has one block of data, behind the list at 8.
+use Rattle.std.specs.Prelude.{if◌then◌else◌}
 use mathlib.Core.Path.{◌≡◌, refl}
 use mathlib.Core.Bool.{Bool}
 use mathlib.Core.List.{List, [], ◌∷◌, ◌++◌, map}
@@ -6,7 +7,7 @@ use Prim.Native.Nat.{ℕ}
 use lib.IntN.{ℤ, pos, negsuc}
 use lib.ListN.{length}
 use lib.Ieee.{binary64, to_bits, of_bits, of_int, lt, is_nan}
-use Rattle.definitions.specs.Reply.{Reply, Outcome, answer, refusal, if◌then◌else◌}
+use Rattle.definitions.specs.Reply.{Reply, Outcome, answer, refusal}
 use Rattle.definitions.specs.Bytes.{little, le_of, le, les}
 use Rattle.definitions.specs.Unicode.{latin1}
 use Rattle.definitions.specs.Header.{header_of, header_bytes}

@@ -1,5 +1,6 @@
 -- The search for the first overlap ends in one of four ways, each exactly where the list is so: the pair given shares a bit and
 -- none before it does, none is given where no pair does, and 26 and 27 are told of lists that cannot be searched.
+use Rattle.std.specs.Prelude.{if◌then◌else◌}
 use mathlib.Core.Path.{◌≡◌, refl, sym, ap, ap₂, subst, ◌∙◌}
 use mathlib.Core.Bool.{Bool, true, false, true≢false}
 use mathlib.Core.Logic.{◌⊎◌, inl, inr, ⊎_elim}
@@ -9,7 +10,7 @@ use native.Mathlib.Omega.{arith}
 use lib.Dec.{ltb, eqb}
 use lib.ListN.{length, get_or}
 use borrow.Author.Tests.{ltb-true, ltb-false, eqb-true, eqb-false}
-use Rattle.definitions.specs.Reply.{Reply, answer, refusal, if◌then◌else◌}
+use Rattle.definitions.specs.Reply.{Reply, answer, refusal}
 use Rattle.definitions.specs.Channel.{Channel, is_sound_number}
 use Rattle.definitions.specs.Overlap.{share_a_bit, Overlap, pair, none, pair_with, first_pair, all_fixed, channel_limit, overlap_of}
 use Rattle.definitions.proofs.Replies.{not_answered}

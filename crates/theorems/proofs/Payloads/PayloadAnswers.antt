@@ -1,4 +1,5 @@
 -- When a call that fetches a payload answers, exactly.
+use Rattle.std.specs.Prelude.{if◌then◌else◌}
 use mathlib.Core.Path.{◌≡◌, refl, sym, ap, ◌∙◌}
 use mathlib.Core.Bool.{Bool, true, false, ◌&&◌}
 use mathlib.Core.List.{List}
@@ -7,7 +8,7 @@ use native.Mathlib.Omega.{arith}
 use lib.ListN.{length}
 use lib.Dec.{ltb}
 use borrow.Author.Tests.{le-ltb, ltb-false}
-use Rattle.definitions.specs.Reply.{answer, refusal, if◌then◌else◌}
+use Rattle.definitions.specs.Reply.{answer, refusal}
 use Rattle.definitions.specs.Bytes.{span, u32_at, u64_at}
 use Rattle.definitions.specs.DataType.{kind_of}
 use Rattle.definitions.specs.Channel.{Channel, Group, Value, is_number, span_in, decoded, value_of, valid_of}

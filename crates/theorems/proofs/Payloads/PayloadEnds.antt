@@ -1,4 +1,5 @@
 -- A call that fetches a payload ends in one of the ways of the table, whatever it is given.
+use Rattle.std.specs.Prelude.{if◌then◌else◌}
 use mathlib.Core.Path.{◌≡◌, refl, sym, ap, subst, ◌∙◌}
 use mathlib.Core.Bool.{Bool, true, false, not, ◌&&◌, true≢false}
 use mathlib.Core.List.{List}
@@ -7,7 +8,7 @@ use native.Mathlib.Omega.{arith}
 use lib.ListN.{length, drop}
 use lib.Dec.{ltb, eqb}
 use borrow.Author.Tests.{eq-eqb, ne_eqb, le-ltb, eqb-true, eqb-false, ltb-true, ltb-false, not-true}
-use Rattle.definitions.specs.Reply.{Reply, Outcome, answer, refusal, if◌then◌else◌, and_then}
+use Rattle.definitions.specs.Reply.{Reply, Outcome, answer, refusal, and_then}
 use Rattle.definitions.specs.DataType.{Kind, integer, floating, whole, undecoded, kind_of}
 use Rattle.definitions.specs.Channel.{Channel, Group, Value, variable_length, span_in, decoded, is_number, value_by, value_of}
 use Rattle.definitions.specs.Chain.{joined, fetched}

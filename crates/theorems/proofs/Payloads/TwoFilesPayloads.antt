@@ -1,6 +1,7 @@
 -- Two files in each of which a chain of records joins to the bytes j, and a chain of payloads, wherever it is linked, to the
 -- bytes s: the calls that fetch a payload, the library's and C's, reply the same for both and, lent buffers that hold the same
 -- bytes, leave the same in both; and it is what the definitions give on j and s. Each theorem is about the call's own clause.
+use Rattle.std.specs.Prelude.{if◌then◌else◌}
 use mathlib.Core.Path.{◌≡◌, refl, sym, ap, ap₂, ◌∙◌}
 use mathlib.Core.Bool.{Bool, not, ◌&&◌}
 use mathlib.Core.List.{List}
@@ -10,7 +11,7 @@ use contract.Lifetimes.{Lfts}
 use lib.ListN.{take}
 use lib.Dec.{eqb}
 use borrow.Author.Tests.{ne_eqb}
-use Rattle.definitions.specs.Reply.{Reply, Outcome, answer, refusal, if◌then◌else◌, and_then}
+use Rattle.definitions.specs.Reply.{Reply, Outcome, answer, refusal, and_then}
 use Rattle.definitions.specs.Channel.{Channel, Group, variable_length, value_of, valid_of}
 use Rattle.definitions.specs.Payload.{id_sd, holds_position, position_of, joined_of, payload_of, stored, PayloadValue, Outcomes, payload_value_of, payload_behind, payload_fetched}
 use Rattle.decoder.proofs.LaidAnew.{laid_anew}

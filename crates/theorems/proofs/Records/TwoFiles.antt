@@ -1,11 +1,12 @@
 -- Two files whose accepted chains join to the same bytes have as much data, give the same records, and the same values in them.
+use Rattle.std.specs.Prelude.{if◌then◌else◌}
 use mathlib.Core.Path.{◌≡◌, sym, ap, ◌∙◌}
 use mathlib.Core.Bool.{false}
 use mathlib.Core.List.{List}
 use Prim.Native.Nat.{ℕ, ◌+◌, ◌*◌, ◌≤◌}
 use lib.ListN.{length}
 use borrow.Author.Tests.{le-ltb}
-use Rattle.definitions.specs.Reply.{Outcome, answer, refusal, if◌then◌else◌}
+use Rattle.definitions.specs.Reply.{Outcome, answer, refusal}
 use Rattle.definitions.specs.Bytes.{span}
 use Rattle.definitions.specs.Channel.{Channel, Group, ValidValue, record_length, bounded_value_of}
 use Rattle.definitions.specs.Chain.{Block, id_dt, file_limit, joined, total, chain_of, total_of, data_length, bad_size, record_of, fetched, field_of, value_fetched}

@@ -1,4 +1,5 @@
 -- Whether a record of the group has a value of a channel depends on its length alone: of one size all have one, or none has.
+use Rattle.std.specs.Prelude.{if◌then◌else◌}
 use mathlib.Core.Path.{◌≡◌, refl, sym, ap, ap₂, subst, ◌∙◌}
 use mathlib.Core.Logic.{◌⊎◌, inl, inr}
 use mathlib.Core.Bool.{Bool, true, false, not, ◌&&◌, ◌||◌}
@@ -8,7 +9,7 @@ use native.Mathlib.Nat.{div-mul-le_self}
 use native.Mathlib.Omega.{arith}
 use lib.Dec.{eqb, ltb}
 use lib.ListN.{length, drop, length-drop}
-use Rattle.definitions.specs.Reply.{Reply, answer, refusal, if◌then◌else◌, and_then, told}
+use Rattle.definitions.specs.Reply.{Reply, answer, refusal, and_then, told}
 use Rattle.definitions.specs.Channel.{Channel, Group, Value, is_number, is_integer, is_floating, start_of, span_in, span_of, variable_length, decoded, value_by, value_of, valid_of, area_of, bounded_valid_of, bounded_value_of}
 use Rattle.definitions.specs.DataType.{kind_of}
 use Rattle.definitions.specs.Report.{first_records, record_count, readings, count, has_no_value, report_of}

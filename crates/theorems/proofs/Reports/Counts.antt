@@ -1,5 +1,6 @@
 -- Every record is counted once: its value is valid, or invalid, or there is none. And each valid one is a NaN or has its place
 -- among the doubles.
+use Rattle.std.specs.Prelude.{if◌then◌else◌}
 use mathlib.Core.Path.{◌≡◌, refl}
 use mathlib.Core.Bool.{Bool, true, false, not, ◌&&◌}
 use mathlib.Core.List.{List, [], ◌∷◌}
@@ -7,7 +8,7 @@ use Prim.Native.Nat.{ℕ, ◌+◌}
 use native.Mathlib.Omega.{arith}
 use lib.ListN.{length}
 use lib.Ieee.{is_nan}
-use Rattle.definitions.specs.Reply.{Reply, answer, refusal, if◌then◌else◌}
+use Rattle.definitions.specs.Reply.{Reply, answer, refusal}
 use Rattle.definitions.specs.Channel.{ValidValue}
 use Rattle.definitions.specs.Report.{Point, count, is_valid, is_invalid, has_no_value, double_read, is_valid_nan, points, report_of}
 

@@ -1,5 +1,6 @@
 -- The smallest and the largest double, said at once: it is one of the doubles, comes before each earlier one, and no later one
 -- comes before it; and there is no second such point. So it is no greater (no less) than any, and no earlier one is level with it.
+use Rattle.std.specs.Prelude.{if◌then◌else◌}
 use mathlib.Core.Path.{◌≡◌, refl, sym, ap, subst, ◌∙◌}
 use mathlib.Core.Bool.{Bool, true, false, not, ◌&&◌, true≢false, false≢true}
 use mathlib.Core.List.{List, [], ◌∷◌, ◌++◌}
@@ -9,7 +10,7 @@ use lib.Dec.{ltb}
 use lib.ListN.{length}
 use borrow.Author.Tests.{lt-ltb, le-ltb}
 use lib.Ieee.{Float, lt, is_nan}
-use Rattle.definitions.specs.Reply.{Reply, if◌then◌else◌}
+use Rattle.definitions.specs.Reply.{Reply}
 use Rattle.definitions.specs.Channel.{ValidValue}
 use Rattle.definitions.specs.Report.{Point, count, is_valid, double_read, is_valid_nan, points, last_point, foremost, smallest, largest, outermost, report_of}
 use Rattle.tally.proofs.Ordered.{Le, not_lt_le, below_through, above_through, lt_asym}

@@ -1,5 +1,6 @@
 -- Which doubles the outermost ones are taken from: exactly those of the valid values that are no NaN, in the order of the records,
 -- each with the number of its record, where every record counts.
+use Rattle.std.specs.Prelude.{if◌then◌else◌}
 use mathlib.Core.Path.{◌≡◌, refl, ap}
 use mathlib.Core.Bool.{Bool, true, false, not, ◌&&◌, true≢false, false≢true}
 use mathlib.Core.List.{List, [], ◌∷◌}
@@ -8,7 +9,7 @@ use native.Mathlib.Nat.{le_of_suc-le-suc}
 use native.Mathlib.Omega.{arith}
 use lib.ListN.{length, get_or}
 use lib.Ieee.{Float, is_nan}
-use Rattle.definitions.specs.Reply.{Reply, refusal, if◌then◌else◌}
+use Rattle.definitions.specs.Reply.{Reply, refusal}
 use Rattle.definitions.specs.Channel.{ValidValue}
 use Rattle.definitions.specs.Report.{Point, is_valid, double_read, points}
 use Rattle.theorems.specs.Reports.{All, Gives, Among, Ascending}

@@ -1,4 +1,5 @@
 -- The sum of fewer than 2^63 integers of at most 64 bits has at most 128 bits, with its sign; and no record gives more bits.
+use Rattle.std.specs.Prelude.{if◌then◌else◌}
 use mathlib.Core.Path.{◌≡◌, refl, sym, subst}
 use mathlib.Core.Bool.{Bool, true, false, not, cond, ◌&&◌, ◌||◌}
 use mathlib.Core.List.{List, [], ◌∷◌}
@@ -11,7 +12,7 @@ use lib.IntN.{ℤ, pos, negsuc, nat_abs, sub_ℕ, ◌+ℤ◌}
 use lib.ListN.{length}
 use lib.Pow.{pow_pos, pow_mono}
 use lib.Signed.{mag}
-use Rattle.definitions.specs.Reply.{Reply, answer, refusal, if◌then◌else◌, and_then, told}
+use Rattle.definitions.specs.Reply.{Reply, answer, refusal, and_then, told}
 use Rattle.definitions.specs.Bytes.{twos_complement}
 use Rattle.definitions.specs.DataType.{DataType, unsigned_integer, signed_integer, float, complex, string, byte_array, mime_sample, mime_stream, can_open_date, can_open_time, unknown, kind_of}
 use Rattle.definitions.specs.Channel.{Channel, Group, Value, ValidValue, unsigned, signed, double, text, bytes, sample, stream, unknown_value, number_in, is_number, is_integer, is_floating, start_of, span_of, decoded, value_by, value_of, bounded_valid_of, bounded_value_of}

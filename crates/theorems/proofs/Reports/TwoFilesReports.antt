@@ -1,11 +1,12 @@
 -- Two files whose accepted chains join to the same bytes give the same report and, of buffers that hold the same bytes, leave the
 -- same.
+use Rattle.std.specs.Prelude.{if◌then◌else◌}
 use mathlib.Core.Path.{◌≡◌, sym, ◌∙◌}
 use mathlib.Core.List.{List}
 use Prim.Native.Nat.{ℕ}
 use lib.ListN.{length}
 use borrow.Author.Tests.{le-ltb}
-use Rattle.definitions.specs.Reply.{Outcome, refusal, if◌then◌else◌}
+use Rattle.definitions.specs.Reply.{Outcome, refusal}
 use Rattle.definitions.specs.Channel.{Channel, Group}
 use Rattle.definitions.specs.Chain.{id_dt, bad_size}
 use Rattle.definitions.specs.Report.{Report, report_on, reported}

@@ -1,5 +1,6 @@
 -- Over one file, whatever operations came before, refused ones among them: the table is the one worked out afresh from the block
 -- addresses that are left.
+use Rattle.std.specs.Prelude.{if◌then◌else◌}
 use mathlib.Core.Path.{◌≡◌, refl, sym, ap, ap₂, subst, ◌∙◌}
 use mathlib.Core.Bool.{Bool, true, false, not}
 use mathlib.Core.List.{List, [], ◌∷◌, ◌++◌, map}
@@ -8,7 +9,7 @@ use native.Mathlib.Omega.{arith}
 use lib.ListN.{length, take, replicate, length-append}
 use lib.Dec.{ltb, leb, eqb}
 use borrow.Author.Tests.{ltb-false, leb-false, eqb-false}
-use Rattle.definitions.specs.Reply.{Reply, Outcome, answer, refusal, if◌then◌else◌, on_answer}
+use Rattle.definitions.specs.Reply.{Reply, Outcome, answer, refusal, on_answer}
 use Rattle.definitions.specs.Bytes.{u64_at}
 use Rattle.definitions.specs.Chain.{Block, id_dt, file_limit, total, block_at, chain_of}
 use Rattle.definitions.specs.Accepted.{Each, Part, blocks_of, BlockStands, BlockListed, PartStands, Accepted}

@@ -1,4 +1,5 @@
 -- When an operation on a table is refused, and a record through one, exactly.
+use Rattle.std.specs.Prelude.{if◌then◌else◌}
 use mathlib.Core.Path.{◌≡◌, refl, sym, ap, subst, ◌∙◌}
 use mathlib.Core.Bool.{Bool, true, false, not}
 use mathlib.Core.List.{List, ◌++◌}
@@ -6,7 +7,7 @@ use Prim.Native.Nat.{ℕ, ◌+◌, ◌*◌, ◌≤◌, ◌<◌}
 use lib.ListN.{length, take, drop}
 use lib.Dec.{ltb, leb, eqb}
 use borrow.Author.Tests.{ltb-true, lt-ltb, ltb-false, leb-true, le-leb, not-false}
-use Rattle.definitions.specs.Reply.{Outcome, answer, if◌then◌else◌}
+use Rattle.definitions.specs.Reply.{Outcome, answer}
 use Rattle.definitions.specs.Bytes.{span}
 use Rattle.definitions.specs.Channel.{Channel, Group, bounded_value_of}
 use Rattle.definitions.specs.Chain.{Block, id_dt, file_limit, joined, block_at, chain_of, bad_size, record_of}

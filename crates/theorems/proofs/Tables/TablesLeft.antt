@@ -1,6 +1,7 @@
 -- What a call leaves of a table. Where it refuses: every word. Where it extends: all but the count, the total and the place that the
 -- block takes; where it gives up: all but the count, the total and the place that is cleared. And a fetch leaves what a fetch
 -- through a chain does.
+use Rattle.std.specs.Prelude.{if◌then◌else◌}
 use mathlib.Core.Path.{◌≡◌, refl, sym, ap, ◌∙◌}
 use mathlib.Core.Bool.{Bool, true, false, not}
 use mathlib.Core.List.{List}
@@ -10,7 +11,7 @@ use lib.ListN.{length, get_or, set, length-set}
 use lib.Seq.{get_or-set_other}
 use lib.Dec.{ltb, leb, eqb}
 use borrow.Author.Tests.{ltb-false}
-use Rattle.definitions.specs.Reply.{Reply, Outcome, answer, refusal, if◌then◌else◌, on_answer}
+use Rattle.definitions.specs.Reply.{Reply, Outcome, answer, refusal, on_answer}
 use Rattle.definitions.specs.Bytes.{span}
 use Rattle.definitions.specs.Channel.{Channel, Group}
 use Rattle.definitions.specs.Chain.{Block, id_dt, file_limit, joined, block_at, chain_of, bad_size, record_of}

@@ -1,5 +1,6 @@
 -- From a code to its type and back every code comes back. From a type to its code and back every type comes back, but an unknown
 -- one that was made with the code of another, 0 to 16: it is read as that other type.
+use Rattle.std.specs.Prelude.{if◌then◌else◌}
 use mathlib.Core.Path.{◌≡◌, refl, sym, ap, ◌∙◌}
 use mathlib.Core.Bool.{Bool, true, false}
 use mathlib.Core.List.{List, [], ◌∷◌, map}
@@ -8,7 +9,6 @@ use native.Mathlib.Omega.{arith}
 use lib.ListN.{get_or, get_or-replicate, get_or-map}
 use lib.Dec.{ltb}
 use borrow.Author.Tests.{ltb-true, ltb-false}
-use Rattle.definitions.specs.Reply.{if◌then◌else◌}
 use Rattle.definitions.specs.DataType.{DataType, unknown, coded, type_of, code_of, owns_code}
 use Rattle.definitions.proofs.Types.{type_unknown, type_back_law}
 

@@ -1,5 +1,6 @@
 -- A number that was written: it is decoded again, and no bit outside its field is changed; and what was decoded is written over
 -- itself.
+use Rattle.std.specs.Prelude.{if◌then◌else◌}
 use mathlib.Core.Path.{◌≡◌, refl, sym, ap, ap₂, ◌∙◌, subst}
 use mathlib.Core.Logic.{inl, inr}
 use mathlib.Core.Bool.{Bool, true, false, not, ◌&&◌, ◌||◌, true≢false}
@@ -8,7 +9,7 @@ use Prim.Native.Nat.{ℕ, ◌+◌, ◌*◌, ◌/◌, ◌%◌, ◌^◌, ◌≤◌
 use native.Mathlib.Omega.{arith}
 use lib.ListN.{length, get_or}
 use lib.Dec.{ltb, eqb}
-use Rattle.definitions.specs.Reply.{Outcome, answer, refusal, if◌then◌else◌}
+use Rattle.definitions.specs.Reply.{Outcome, answer, refusal}
 use Rattle.definitions.specs.Bytes.{Order, number_of, span, bit, bytes_for}
 use Rattle.definitions.specs.Ieee754.{narrowed, narrows}
 use Rattle.definitions.specs.DataType.{DataType, Kind, integer, floating, whole, undecoded, kind_of, order_of}

@@ -1,4 +1,5 @@
 -- The same of the calls for C: the kind and the number that mf4_write_value was given are those that mf4_decode_value tells.
+use Rattle.std.specs.Prelude.{if◌then◌else◌}
 use mathlib.Core.Path.{◌≡◌, refl, sym, ap, ap₂, ◌∙◌, subst}
 use mathlib.Core.Bool.{Bool, true, false}
 use mathlib.Core.List.{List}
@@ -8,7 +9,7 @@ use contract.Lifetimes.{Lfts}
 use lib.IntN.{pos, negsuc}
 use lib.Dec.{ltb, eqb}
 use borrow.Author.Tests.{ltb-false, eqb-true}
-use Rattle.definitions.specs.Reply.{Outcome, answer, refusal, if◌then◌else◌}
+use Rattle.definitions.specs.Reply.{Outcome, answer, refusal}
 use Rattle.definitions.specs.Bytes.{twos_complement}
 use Rattle.definitions.specs.DataType.{DataType, unsigned_integer, signed_integer, float, complex, string, byte_array, mime_sample, mime_stream, can_open_date, can_open_time, unknown, kind_of, order_of}
 use Rattle.definitions.specs.Channel.{variable_length, start_of, number_in, is_number, is_floating, value_of, double_in, record_double, valid_of, bounded_valid_of, bit_place}
