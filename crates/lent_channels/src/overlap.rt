@@ -23,7 +23,7 @@ fn reply_of(search: Search) -> Mf4OverlapReply
     overlap_reply(answer)
 }
 
-// A function that is lent structs is proved by hand, so it has the loop and the reads of the list, and decides nothing.
+// It has the loop and the reads of the lent list, and decides nothing: `step` does.
 pub fn first_overlap(list: &[Mf4Channel]) -> Mf4OverlapReply
     ensures { result ≡ overlap_c (overlap_of (map channel_given list.now)) }
 {

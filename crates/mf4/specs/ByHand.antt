@@ -1,4 +1,4 @@
--- The clause of a call that is proved by hand: `Kinds` and `Reads` are not made of it, but `ended` and `clauses` are.
+-- The clause of a call, by what its contract says, `ended` and `clauses`, and not by `Kinds` and `Reads`.
 use Rattle.std.specs.Prelude.{◌≡◌}
 use contract.Lifetimes.{Lfts}
 use contract.Monad.{fact}

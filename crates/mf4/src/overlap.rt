@@ -8,7 +8,7 @@ use block_replies::Mf4Channel;
 use lent_channels::first_overlap;
 use replies::Mf4OverlapReply;
 
-// What is lent structs is proved by hand, also where it only hands them on. The walk along them is a crate of its own.
+// The walk along what is lent is a crate of its own.
 #[unsafe(no_mangle)]
 pub extern "C" fn mf4_first_overlap(list: &[Mf4Channel]) -> Mf4OverlapReply
     ensures { result ≡ overlap_c (overlap_of (map channel_given list.now)) }

@@ -260,7 +260,7 @@ pub mf4_report_arguments : (κs : Lfts 2) (file : Slice) (start recordSize : ℕ
     ≡ (returned y after ≡ returned_by report_c (reported file.now start recordSize (group_given group) (channel_given channel) buffer.now))
 mf4_report_arguments κs file start recordSize group channel buffer y after = refl
 
--- proved by hand
+-- lent structs: the clause by what the contract itself says, `ended` and `clauses`
 abbrev pub mf4_first_overlap_clauses : ClausesIn mf4_first_overlap.ended
 mf4_first_overlap_clauses w = mf4_first_overlap.clauses w.𝓛 w.𝓜.mem w.𝓡.run
 
