@@ -26,7 +26,7 @@
 // or too few or with a word that cannot be read is a different one. data/wrong.txt holds nothing but such lines, each wrong in
 // one word, so that a program that overlooks something is found out.
 //
-// There is no kind for mf4_first_overlap: it takes a list of structs, and the kit does not check a loan of one yet.
+// There is no kind for mf4_first_overlap: mf4-rs has no such call, so no answer of it is stored.
 #![tactic(auto)]
 
 mod answers;

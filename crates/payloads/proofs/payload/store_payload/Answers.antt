@@ -41,5 +41,4 @@ returns c =
     let l =
     subst (λ (r : Reply (List ℕ)). Lies c.args.file.now r c.in-Payload.place c.in-Payload.first.0 c.in-Payload.length) (sym (payload_at_law _ _ _ _ _ _ (sym c.position_in-read.ensures ∙ ap position_reply c.in-Position.is)))
     (subst (Finds _ _) c.in-Payload.is c.find_payload-found.ensures) in
-   
     stored_in_front _ _ l (omega arith) (c.window.ensures l.walked).0

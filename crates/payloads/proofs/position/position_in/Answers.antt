@@ -14,10 +14,10 @@ returns-then-ends_outside c =
     position_outside _ _ (channel_meant c.args.channel) (sym c.ends_outside.ensures ∙ c.if-ends_outside.true) c.bytes_needed-needed.ensures
 
 pub overflow_add-record_id_size : goal.overflow_add-record_id_size
-overflow_add-record_id_size c = omega (arith, ( let a = c.args in ltb-false (length a.«record».now) (a.record_id_size + a.channel.byte_offset + 8) (sym c.ends_outside.ensures ∙ c.if-ends_outside.false)))
+overflow_add-record_id_size c = omega (arith, (let a = c.args in ltb-false (length a.«record».now) (a.record_id_size + a.channel.byte_offset + 8) (sym c.ends_outside.ensures ∙ c.if-ends_outside.false)))
 
 pub position_at-requires : goal.position_at-requires
-position_at-requires c = omega (arith, ( let a = c.args in ltb-false (length a.«record».now) (a.record_id_size + a.channel.byte_offset + 8) (sym c.ends_outside.ensures ∙ c.if-ends_outside.false)))
+position_at-requires c = omega (arith, (let a = c.args in ltb-false (length a.«record».now) (a.record_id_size + a.channel.byte_offset + 8) (sym c.ends_outside.ensures ∙ c.if-ends_outside.false)))
 
 pub returns : goal.returns
 returns c =
