@@ -17,5 +17,5 @@ pub data FetchEnds (f : List ℕ) (start k size : ℕ) (g : Group) (c : Channel)
   no_value : (h : Fetchable f start k size out) (n t : ℕ) → bounded_value_of (record_bytes f start k size out h) g c ≡ refusal n t
       → o ≡ record { reply = refusal n t; buffer = record_left f start k size out h } → FetchEnds f start k size g c out o
   -- an answer: the record stays too
-  a_value_law : (h : Fetchable f start k size out) (v : ValidValue) → bounded_value_of (record_bytes f start k size out h) g c ≡ answer v
+  a_value : (h : Fetchable f start k size out) (v : ValidValue) → bounded_value_of (record_bytes f start k size out h) g c ≡ answer v
       → o ≡ record { reply = answer v; buffer = record_left f start k size out h } → FetchEnds f start k size g c out o

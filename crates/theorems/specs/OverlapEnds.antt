@@ -20,7 +20,7 @@ module _ (other : Channel) (cs : List Channel) where
   -- the first entry that is none
   pub record FirstOther (i : ℕ) : Type 0 where
     pub inside : i < length cs
-    pub other_kind_law : fixed_at i ≡ false
+    pub other_kind : fixed_at i ≡ false
     pub before : (k : ℕ) → k < i → fixed_at k ≡ true
 
   -- pairs in their order: by the first place, then by the second

@@ -39,7 +39,7 @@ pub data PayloadEnds (f : List ℕ) (start k size : ℕ) (g : Group) (c : Channe
       → length payload ≤ length room → is_number (kind_of c.data_type) ≡ true → length payload < 8
       → EndsSo o (refusal 21 8) (record_left f start k size out h) (payload_left payload room) → PayloadEnds f start k size g c out room o
   -- an answer: the value of the payload alone, and the validity of the record
-  a_value_law : (h : Fetchable f start k size out) (payload : List ℕ) (v : Value) → Positioned c → payload_told f start k size out h g.id_size c ≡ answer payload
+  a_value : (h : Fetchable f start k size out) (payload : List ℕ) (v : Value) → Positioned c → payload_told f start k size out h g.id_size c ≡ answer payload
       → length payload ≤ length room → value_of payload g.id_size c ≡ answer v
       → EndsSo o (answer (record { value = v; valid = valid_of (record_bytes f start k size out h) g c; size = length payload }))
       (record_left f start k size out h) (payload_left payload room) → PayloadEnds f start k size g c out room o

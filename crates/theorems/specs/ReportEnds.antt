@@ -58,7 +58,7 @@ report_refused f start size out g c =
 
 -- each with all that it takes
 pub data Due (f : List ℕ) (start size : ℕ) (g : Group) (c : Channel) (out : List ℕ) (n t : ℕ) : Type 0 where
-  bad_size_law : n ≡ 15 → t ≡ 0 → BadSize size (length out) → Due f start size g c out n t
+  wrong_size : n ≡ 15 → t ≡ 0 → BadSize size (length out) → Due f start size g c out n t
   too_long : n ≡ 7 → t ≡ 0 → Sized size (length out) → file_limit < length f → Due f start size g c out n t
   no_chain : Sized size (length out) → length f ≤ file_limit → chain_refused id_dt f start n t → Due f start size g c out n t
   no_number : n ≡ 33 → t ≡ 0 → Sized size (length out) → Joinable f start → is_fixed_number c ≡ false → Due f start size g c out n t

@@ -48,7 +48,7 @@ pub data WrittenEnds (s : List ℕ) (id_size : ℕ) (c : Channel) (v : Given) (o
   -- 18 to 22: as decoding is refused
   not_decoded : (n t : ℕ) → value_of s id_size c ≡ refusal n t → o ≡ record { reply = refusal n t; buffer = s } → WrittenEnds s id_size c v o
   -- 25: a payload, or a number of another kind than the type's, or a type that is no number's
-  other_kind_law : FieldStands s id_size c → (variable_length c ≡ true) ⊎ (of_kind c.data_type v ≡ false)
+  other_kind : FieldStands s id_size c → (variable_length c ≡ true) ⊎ (of_kind c.data_type v ≡ false)
       → o ≡ record { reply = refusal 25 0; buffer = s } → WrittenEnds s id_size c v o
   -- 24: the right kind, and not in the field's range
   does_not_fit : FieldStands s id_size c → variable_length c ≡ false → of_kind c.data_type v ≡ true → (Takes c.data_type c.bit_count v → ⊥)

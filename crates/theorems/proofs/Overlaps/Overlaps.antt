@@ -227,9 +227,9 @@ module _ (other : Channel) where
           → AllFixed (c ∷ cs) r (if t then all_fixed (p + 1) cs r else refusal 27 p) ⊎ OneOther p (c ∷ cs) (if t then all_fixed (p + 1) cs r else refusal 27 p)
       go true e rest =
           ⊎_elim (λ (f, q). inl (each e (length cs) f, q))
-          (λ (i, (f, q)). inr (suc i, (record { inside = up i (length cs) f.inside; other_kind_law = f.other_kind_law; before = each e i f.before }, q ∙ ap (refusal 27) (place i))))
+          (λ (i, (f, q)). inr (suc i, (record { inside = up i (length cs) f.inside; other_kind = f.other_kind; before = each e i f.before }, q ∙ ap (refusal 27) (place i))))
           rest
-      go false e rest = inr (0, (record { inside = some; other_kind_law = e; before = λ k l. let no : ⊥ = omega arith in nothing no }, ap (refusal 27) here))
+      go false e rest = inr (0, (record { inside = some; other_kind = e; before = λ k l. let no : ⊥ = omega arith in nothing no }, ap (refusal 27) here))
 
   -- ---- the whole
 
@@ -306,7 +306,7 @@ module _ (other : Channel) (cs : List Channel) where
   both_lengths l m = let no : ⊥ = omega arith in nothing no
 
   other_fixed : {A : Type 0} (i : ℕ) → FirstOther other cs i → Searchable other cs → A
-  other_fixed i f s = nothing (true≢false (sym (s.fixed i f.inside) ∙ f.other_kind_law))
+  other_fixed i f s = nothing (true≢false (sym (s.fixed i f.inside) ∙ f.other_kind))
 
   -- a pair is given where it is the first, and nowhere else
   pub pair_is_first : (r : Reply Overlap) → Ends r → (i j : ℕ) → r ≡ answer (pair i j) → Searchable other cs × FirstPair other cs i j
@@ -361,8 +361,8 @@ module _ (other : Channel) (cs : List Channel) where
 
       go : (t : Bool) → eqb i k ≡ t → (u : Bool) → ltb i k ≡ u → i ≡ k
       go true h u e = eqb-true _ _ h
-      go false h true e = nothing (true≢false (sym (g.before i (ltb-true _ _ e)) ∙ f.other_kind_law))
-      go false h false e = nothing (true≢false (sym (f.before k (above (eqb-false _ _ h) (ltb-false _ _ e))) ∙ g.other_kind_law))
+      go false h true e = nothing (true≢false (sym (g.before i (ltb-true _ _ e)) ∙ f.other_kind))
+      go false h false e = nothing (true≢false (sym (f.before k (above (eqb-false _ _ h) (ltb-false _ _ e))) ∙ g.other_kind))
 
   pub other_refused : (r : Reply Overlap) → Ends r → length cs ≤ channel_limit → (i : ℕ) → FirstOther other cs i → r ≡ refusal 27 i
   other_refused r (too_many l e) m i f = both_lengths l m

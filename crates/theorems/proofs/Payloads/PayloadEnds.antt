@@ -19,7 +19,7 @@ use Rattle.places.proofs.Answers.{answered}
 use Rattle.theorems.specs.Exactly.{Fetchable, Positioned, record_bytes}
 use Rattle.theorems.specs.Causes.{Not}
 use Rattle.theorems.specs.FetchEnds.{record_left}
-use Rattle.theorems.specs.PayloadEnds.{payload_told, PayloadEnds, no_position, no_record, no_payload, no_room, no_value, a_value_law}
+use Rattle.theorems.specs.PayloadEnds.{payload_told, PayloadEnds, no_position, no_record, no_payload, no_room, no_value, a_value}
 use Rattle.theorems.proofs.Blocks.Rewritten.{front_of}
 use Rattle.theorems.proofs.Blocks.ListAnswers.{above_zero}
 use Rattle.theorems.proofs.Calls.RefusalNumbers.{Numbered, OfPayloads, of_answer, of_refusal, of_blocks_too, fetched_numbered, payload_numbered}
@@ -117,7 +117,7 @@ module _ (f : List ℕ) (start k size : ℕ) (g : Group) (c : Channel) (out room
         let short = only_too_short payload g.id_size c p n t ev in
         let so : value_of payload g.id_size c ≡ refusal 21 8 = ev ∙ rw (short.2, short.3) in
         no_value h payload p e (ltb-false _ _ fits) short.0 short.1 (by_record ∙ ap found e ∙ rw (fits, so))
-    by_value payload e fits (answer v) ev = a_value_law h payload v p e (ltb-false _ _ fits) ev (by_record ∙ ap found e ∙ rw (fits, ev))
+    by_value payload e fits (answer v) ev = a_value h payload v p e (ltb-false _ _ fits) ev (by_record ∙ ap found e ∙ rw (fits, ev))
 
     by_room : (payload : List ℕ) → payload_told f start k size out h g.id_size c ≡ answer payload → (b : Bool) → ltb (length room) (length payload) ≡ b → Ends
     by_room payload e true l = no_room h payload p e (ltb-true _ _ l) (by_record ∙ ap found e ∙ rw l)
@@ -158,7 +158,7 @@ module _ (f : List ℕ) (start k size : ℕ) (g : Group) (c : Channel) (out room
   by_row o (no_payload h n t p e row) = as_refused n t (payload_numbered f _ g.id_size c n t e) row
   by_row o (no_room h payload p e l row) = as_refused _ _ refl row
   by_row o (no_value h payload p e l number short row) = as_refused _ _ refl row
-  by_row o (a_value_law h payload v p e l ev row) = as_row (of_answer OfPayloads _) row
+  by_row o (a_value h payload v p e l ev row) = as_row (of_answer OfPayloads _) row
 
   pub fetched_payload_numbered : Numbered OfPayloads (payload_fetched f start k size g c out room).reply
   fetched_payload_numbered = by_row _ payload_ends
@@ -183,7 +183,7 @@ module _ (f : List ℕ) (start k size : ℕ) (g : Group) (c : Channel) (out room
     answered_row o (no_payload h n t p r row) e = refused_row e row
     answered_row o (no_room h payload p r l row) e = refused_row e row
     answered_row o (no_value h payload p r l number short row) e = refused_row e row
-    answered_row o (a_value_law h payload v p r fits ev row) e =
+    answered_row o (a_value h payload v p r fits ev row) e =
         let same : v ≡ a.value = ap (λ (x : PayloadValue). x.value) (answered (sym (ap (λ (x : Outcomes PayloadValue). x.reply) row) ∙ e)) in
         record { fetchable = h; payload = payload; positioned = p; told = r; fits = fits; value_is = ev ∙ ap answer same }
 

@@ -24,7 +24,7 @@ use Rattle.replies.specs.declared.valid_values.Mf4ValidValueReply.{Mf4ValidValue
 use Rattle.replies.proofs.ToldToC.{valid_value_again}
 use Rattle.mf4.specs.Clauses.{Slice, Room}
 use Rattle.theorems.specs.Exactly.{Fetchable, record_bytes}
-use Rattle.theorems.specs.FetchEnds.{record_left, FetchEnds, no_record, no_value, a_value_law}
+use Rattle.theorems.specs.FetchEnds.{record_left, FetchEnds, no_record, no_value, a_value}
 use Rattle.theorems.specs.Clauses.{ReadsRecordValue}
 use Rattle.theorems.specs.ClausesToC.{ReadsRecordValueC}
 use Rattle.theorems.proofs.Blocks.Rewritten.{front_of}
@@ -52,7 +52,7 @@ module _ (f : List ℕ) (start k size : ℕ) (g : Group) (c : Channel) (out : Li
   by_field : (h : Fetchable f start k size out) (r : Reply ValidValue) → bounded_value_of (record_bytes f start k size out h) g c ≡ r
       → Ends (value_fetched f start k size g c out)
   by_field h (refusal n t) e = no_value h n t e (by_record h ∙ ap (left h) e)
-  by_field h (answer v) e = a_value_law h v e (by_record h ∙ ap (left h) e)
+  by_field h (answer v) e = a_value h v e (by_record h ∙ ap (left h) e)
 
   by_reply : (r : Reply (Unit {0})) → (fetched f start k size out).reply ≡ r → Ends (value_fetched f start k size g c out)
   unfolding value_fetched
@@ -74,7 +74,7 @@ module _ (f : List ℕ) (start k size : ℕ) (g : Group) (c : Channel) (out : Li
   pub ends_behind : (o : Outcome ValidValue) → Ends o → SameBehind size out o.buffer
   ends_behind o (no_record n t e row) = untouched size out o.buffer (ap leaves row)
   ends_behind o (no_value h n t e row) = laid o h (ap leaves row)
-  ends_behind o (a_value_law h v e row) = laid o h (ap leaves row)
+  ends_behind o (a_value h v e row) = laid o h (ap leaves row)
 
 -- ---- read_value
 

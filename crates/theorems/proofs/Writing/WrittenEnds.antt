@@ -16,7 +16,7 @@ use Rattle.definitions.specs.WrittenValue.{Given, given_unsigned, given_signed, 
 use Rattle.definitions.proofs.Replies.{not_answered, both}
 use Rattle.encoder.proofs.Choosing.{value_refused, payload_given, fixed_given}
 use Rattle.theorems.specs.Exactly.{Exactly, FieldStands, Takes, Writable}
-use Rattle.theorems.specs.WrittenValue.{of_kind, WrittenEnds, not_decoded, other_kind_law, does_not_fit, is_written}
+use Rattle.theorems.specs.WrittenValue.{of_kind, WrittenEnds, not_decoded, other_kind, does_not_fit, is_written}
 use Rattle.theorems.proofs.Calls.Answers.{value_exactly}
 use Rattle.theorems.proofs.Calls.RefusalNumbers.{Numbered, OfFields, of_answer, of_refusal, value_numbered}
 
@@ -91,7 +91,7 @@ module _ (s : List ℕ) (id_size : ℕ) (c : Channel) (v : Given) where
       bits = fixed_given s id_size c v e fixed
 
       go : Made c.data_type c.bit_count v → Ends (value_written s id_size c v)
-      go (of_other_kind k no_field m) = other_kind_law stands (inr k) (left (bits ∙ m))
+      go (of_other_kind k no_field m) = other_kind stands (inr k) (left (bits ∙ m))
       go (too_wide k no_field m) = does_not_fit stands fixed k no_field (left (bits ∙ m))
       go (fits x k takes m) = is_written (record { field = stands; fixed = fixed; takes = takes }) x (bits ∙ m) (written (bits ∙ m))
 
@@ -99,7 +99,7 @@ module _ (s : List ℕ) (id_size : ℕ) (c : Channel) (v : Given) where
   value_ends = go (value_of s id_size c) refl
     where
       on : {old : Value} (payload : Bool) → variable_length c ≡ payload → value_of s id_size c ≡ answer old → FieldStands s id_size c → Ends (value_written s id_size c v)
-      on true p e stands = other_kind_law stands (inl p) (left (payload_given s id_size c v e p))
+      on true p e stands = other_kind stands (inl p) (left (payload_given s id_size c v e p))
       on false p e stands = fixed_ends e stands p
 
       go : (r : Reply Value) → value_of s id_size c ≡ r → Ends (value_written s id_size c v)
@@ -119,7 +119,7 @@ module _ (s : List ℕ) (id_size : ℕ) (c : Channel) (v : Given) where
         answers = λ h. let a = (value_exactly s id_size c).answers h.field in not_answered a.0 n t (sym e ∙ a.1);
         only = λ a q. not_answered a n t (sym (ap replied o) ∙ q);
       }
-      go (other_kind_law stands why o) = record {
+      go (other_kind stands why o) = record {
         answers = λ h. absurd (no_other h why);
         only = λ a q. not_answered a 25 0 (sym (ap replied o) ∙ q);
       }
@@ -150,7 +150,7 @@ module _ (s : List ℕ) (id_size : ℕ) (c : Channel) (v : Given) where
 
       go : Ends (value_written s id_size c v) → (value_written s id_size c v).buffer ≡ s
       go (not_decoded m u e o) = kept o
-      go (other_kind_law stands why o) = kept o
+      go (other_kind stands why o) = kept o
       go (does_not_fit stands fixed k no_field o) = kept o
       go (is_written can x e o) = not_answered tt n t (sym q ∙ ap replied o)
 
@@ -166,6 +166,6 @@ module _ (s : List ℕ) (id_size : ℕ) (c : Channel) (v : Given) where
 
       go : Ends (value_written s id_size c v) → Numbered OfWriting (value_written s id_size c v).reply
       go (not_decoded n t e o) = as_replied o (of_refusal OfWriting n t (fields_too n t (value_numbered s id_size c n t e)))
-      go (other_kind_law stands why o) = as_replied o (of_refusal OfWriting 25 0 refl)
+      go (other_kind stands why o) = as_replied o (of_refusal OfWriting 25 0 refl)
       go (does_not_fit stands fixed k no_field o) = as_replied o (of_refusal OfWriting 24 0 refl)
       go (is_written can x e o) = as_replied o (of_answer OfWriting tt)

@@ -38,7 +38,7 @@ use Rattle.encoder.specs.Meaning.{value_given, number_field}
 use Rattle.encoder.proofs.Standing.{kind_in, stands, made_again}
 use Rattle.encoder.proofs.Choosing.{form_field, field_form, fixed_given, all_passed}
 use Rattle.theorems.specs.Exactly.{Legal, FieldStands, Writable}
-use Rattle.theorems.specs.WrittenValue.{WrittenEnds, not_decoded, other_kind_law, does_not_fit, is_written, IsNumber, Sized, record_place, DecodesTo, SameOutside}
+use Rattle.theorems.specs.WrittenValue.{WrittenEnds, not_decoded, other_kind, does_not_fit, is_written, IsNumber, Sized, record_place, DecodesTo, SameOutside}
 use Rattle.theorems.proofs.Calls.Answers.{value_exactly}
 use Rattle.theorems.proofs.Writing.WrittenEnds.{written, value_ends}
 
@@ -188,7 +188,7 @@ module _ (s : List ℕ) (id_size : ℕ) (c : Channel) (v : Given) (b : Bytes s) 
 
       go : WrittenEnds s id_size c v (value_written s id_size c v) → DecodesTo (value_written s id_size c v).buffer id_size c v
       go (not_decoded n t e o) = refused o
-      go (other_kind_law stand why o) = refused o
+      go (other_kind stand why o) = refused o
       go (does_not_fit stand fixed k no_field o) = refused o
       go (is_written can x e o) = subst (λ (t : Outcome (Unit {0})). DecodesTo t.buffer id_size c v) (sym o) (laid sized can x e).decodes
 
@@ -257,7 +257,7 @@ module _ (s : List ℕ) (id_size : ℕ) (c : Channel) (v : Given) (b : Bytes s) 
 
       go : WrittenEnds s id_size c v (value_written s id_size c v) → SameOutside s (value_written s id_size c v).buffer id_size c
       go (not_decoded n t e o) = as_left o unchanged
-      go (other_kind_law stand why o) = as_left o unchanged
+      go (other_kind stand why o) = as_left o unchanged
       go (does_not_fit stand fixed k no_field o) = as_left o unchanged
       go (is_written can x e o) = as_left o (laid_outside can x e)
 
