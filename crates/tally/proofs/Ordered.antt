@@ -40,19 +40,19 @@ says false a true b h =
 says true a false b h = tt
 says true a true b h = elim (or_e (ltb b a) (eqb a b && true) h) [ inl l ↦ le_of_lt (ltb→lt b a l) | inr e ↦ le_of_eq (sym (eqb→eq a b (and_l (eqb a b) true e))) ]
 
-pub le→LE : (x y : Float) → T (le x y) → Le x y
+pub le_by_test : (x y : Float) → T (le x y) → Le x y
 unfolding le
-le→LE nan y h = h
-le→LE (inf s) nan h = h
-le→LE (inf true) (inf t) h = tt
-le→LE (inf false) (inf false) h = tt
-le→LE (inf false) (inf true) h = h
-le→LE (inf true) (fin t n d) h = tt
-le→LE (inf false) (fin t n d) h = h
-le→LE (fin s m e) nan h = h
-le→LE (fin s m e) (inf true) h = h
-le→LE (fin s m e) (inf false) h = tt
-le→LE (fin s m e) (fin t n d) h = says s (m * up e * down d) t (n * up d * down e) h
+le_by_test nan y h = h
+le_by_test (inf s) nan h = h
+le_by_test (inf true) (inf t) h = tt
+le_by_test (inf false) (inf false) h = tt
+le_by_test (inf false) (inf true) h = h
+le_by_test (inf true) (fin t n d) h = tt
+le_by_test (inf false) (fin t n d) h = h
+le_by_test (fin s m e) nan h = h
+le_by_test (fin s m e) (inf true) h = h
+le_by_test (fin s m e) (inf false) h = tt
+le_by_test (fin s m e) (fin t n d) h = says s (m * up e * down d) t (n * up d * down e) h
 
 -- ---- transitive
 none : (a b : ℕ) → 0 < b → a * b ≡ 0 → a ≡ 0
@@ -77,33 +77,33 @@ fins true t false x y z p q r P Q R a b = tt
 fins true false true x y z p q r P Q R a b = subst (λ (w : ℕ). w ≤ x * r) (sym (zeroed z p (none z q Q b.1))) zero-le
 fins true true true x y z p q r P Q R a b = through z y x r q p Q b a
 
-LE-trans : (x y z : Float) → Le x y → Le y z → Le x z
-LE-trans nan y z a b = absurd a
-LE-trans (inf true) nan z a b = absurd a
-LE-trans (inf true) (inf t) nan a b = absurd b
-LE-trans (inf true) (inf t) (inf u) a b = tt
-LE-trans (inf true) (inf t) (fin u k g) a b = tt
-LE-trans (inf true) (fin t n d) nan a b = absurd b
-LE-trans (inf true) (fin t n d) (inf u) a b = tt
-LE-trans (inf true) (fin t n d) (fin u k g) a b = tt
-LE-trans (inf false) nan z a b = absurd a
-LE-trans (inf false) (inf true) z a b = absurd a
-LE-trans (inf false) (inf false) nan a b = absurd b
-LE-trans (inf false) (inf false) (inf u) a b = b
-LE-trans (inf false) (inf false) (fin u k g) a b = b
-LE-trans (inf false) (fin t n d) z a b = absurd a
-LE-trans (fin s m e) nan z a b = absurd a
-LE-trans (fin s m e) (inf true) z a b = absurd a
-LE-trans (fin s m e) (inf false) nan a b = absurd b
-LE-trans (fin s m e) (inf false) (inf u) a b = b
-LE-trans (fin s m e) (inf false) (fin u k g) a b = absurd b
-LE-trans (fin s m e) (fin t n d) nan a b = absurd b
-LE-trans (fin s m e) (fin t n d) (inf u) a b = b
-LE-trans (fin s m e) (fin t n d) (fin u k g) a b = fins s t u (m * up e) (n * up d) (k * up g) (down e) (down d) (down g) (down_pos e) (down_pos d) (down_pos g) a b
+le_transitive : (x y z : Float) → Le x y → Le y z → Le x z
+le_transitive nan y z a b = absurd a
+le_transitive (inf true) nan z a b = absurd a
+le_transitive (inf true) (inf t) nan a b = absurd b
+le_transitive (inf true) (inf t) (inf u) a b = tt
+le_transitive (inf true) (inf t) (fin u k g) a b = tt
+le_transitive (inf true) (fin t n d) nan a b = absurd b
+le_transitive (inf true) (fin t n d) (inf u) a b = tt
+le_transitive (inf true) (fin t n d) (fin u k g) a b = tt
+le_transitive (inf false) nan z a b = absurd a
+le_transitive (inf false) (inf true) z a b = absurd a
+le_transitive (inf false) (inf false) nan a b = absurd b
+le_transitive (inf false) (inf false) (inf u) a b = b
+le_transitive (inf false) (inf false) (fin u k g) a b = b
+le_transitive (inf false) (fin t n d) z a b = absurd a
+le_transitive (fin s m e) nan z a b = absurd a
+le_transitive (fin s m e) (inf true) z a b = absurd a
+le_transitive (fin s m e) (inf false) nan a b = absurd b
+le_transitive (fin s m e) (inf false) (inf u) a b = b
+le_transitive (fin s m e) (inf false) (fin u k g) a b = absurd b
+le_transitive (fin s m e) (fin t n d) nan a b = absurd b
+le_transitive (fin s m e) (fin t n d) (inf u) a b = b
+le_transitive (fin s m e) (fin t n d) (fin u k g) a b = fins s t u (m * up e) (n * up d) (k * up g) (down e) (down d) (down g) (down_pos e) (down_pos d) (down_pos g) a b
 
 -- ---- one way or the other
 lt_le : (x y : Float) → lt x y ≡ true → Le x y
-lt_le x y h = le→LE x y (by (unfold le in or_l (lt x y) (eq x y) (subst T (sym h) tt)))
+lt_le x y h = le_by_test x y (by (unfold le in or_l (lt x y) (eq x y) (subst T (sym h) tt)))
   where
     by : T (le x y) → T (le x y)
     by t = t
@@ -163,7 +163,7 @@ below_through x y s nx ny ns h k = go (lt y x) refl
   where
     go : (b : Bool) → lt y x ≡ b → b ≡ true
     go true e = refl
-    go false e = absurd (lt_not_le y s h (LE-trans s x y (not_lt_le x s nx ns k) (not_lt_le y x ny nx e)))
+    go false e = absurd (lt_not_le y s h (le_transitive s x y (not_lt_le x s nx ns k) (not_lt_le y x ny nx e)))
 
 -- the same upwards
 pub above_through : (x y s : Float) → is_nan x ≡ false → is_nan y ≡ false → is_nan s ≡ false → lt s y ≡ true → lt s x ≡ false → lt x y ≡ true
@@ -171,7 +171,7 @@ above_through x y s nx ny ns h k = go (lt x y) refl
   where
     go : (b : Bool) → lt x y ≡ b → b ≡ true
     go true e = refl
-    go false e = absurd (lt_not_le s y h (LE-trans y x s (not_lt_le x y nx ny e) (not_lt_le s x ns nx k)))
+    go false e = absurd (lt_not_le s y h (le_transitive y x s (not_lt_le x y nx ny e) (not_lt_le s x ns nx k)))
 
 -- asymmetric and irreflexive in one: what is below is not below again
 pub lt_asym : (x y : Float) → lt x y ≡ true → lt y x ≡ false

@@ -14,7 +14,7 @@ use Rattle.fields.specs.declared.form.Number.{Number}
 use Rattle.fields.specs.contracts.form.Number.{the_type}
 use Rattle.fields.specs.declared.form.Number.TheVariants.{Unsigned, Signed, Float as float}
 use Rattle.tally.specs.Words.{signed_zero, pattern_of, value_at}
-use Rattle.tally.proofs.Ordered.{le→LE, lt_not_le}
+use Rattle.tally.proofs.Ordered.{le_by_test, lt_not_le}
 
 -- ---- a signed integer by its sign and its magnitude
 
@@ -62,7 +62,7 @@ not_above_law x y h = go (lt v w) refl
 
     go : (t : Bool) → lt v w ≡ t → false ≡ t
     go false e = refl
-    go true e = absurd (lt_not_le v w e (le→LE w v (subst T (sym (monotone y x h)) tt)))
+    go true e = absurd (lt_not_le v w e (le_by_test w v (subst T (sym (monotone y x h)) tt)))
 
 -- what is no float is an integer
 pub tag_of_integer : (n : Number) → (n ≡ float → ⊥) → OneOf (0 ∷ 1 ∷ []) (tag_of the_type n)

@@ -38,14 +38,14 @@ pub record FixedInteger (c : Channel) : Type 0 where
 -- ---- of the definitions: a field of a record has the integer z, and the double r
 
 pub record IntegerRead (z : ℤ) (r : ℕ) : Type 0 where
-  pub record_bytes_law : List ℕ
-  pub id_size_law : ℕ
+  pub record_bytes : List ℕ
+  pub id_size : ℕ
   pub channel : Channel
   pub kind : FixedInteger channel
   pub value : Value
-  pub has_value : value_of record_bytes_law id_size_law channel ≡ answer value
+  pub has_value : value_of record_bytes id_size channel ≡ answer value
   pub integer : integer_in value ≡ z
-  pub double : record_double record_bytes_law id_size_law channel ≡ r
+  pub double : record_double record_bytes id_size channel ≡ r
 
 exact_double : (z : ℤ) → nat_abs z ≤ 2 ^ 53 → HasValue (of_bits binary64 (double_of z)) (is_negative z) (nat_abs z) 1
 exact_double (pos n) h = subst (λ (r : ℕ). HasValue (of_bits binary64 r) false n 1) (sym (of_positive n)) (exact false n h)
@@ -55,13 +55,13 @@ module _ (z : ℤ) (r : ℕ) (h : IntegerRead z r) where
   is_double_of : double_of z ≡ r
   is_double_of =
       ap double_of (sym h.integer)
-      ∙ integer_double h.record_bytes_law h.id_size_law h.channel h.value h.kind.fixed h.kind.integer h.has_value ∙ h.double
+      ∙ integer_double h.record_bytes h.id_size h.channel h.value h.kind.fixed h.kind.integer h.has_value ∙ h.double
 
   pub double_nearest : Nearest (is_negative z) (nat_abs z) r
   double_nearest =
       subst (λ (x : ℤ). Nearest (is_negative x) (nat_abs x) r) h.integer
       (subst (Nearest (is_negative (integer_in h.value)) (nat_abs (integer_in h.value))) h.double
-      (nearest_double h.record_bytes_law h.id_size_law h.channel h.value h.kind.fixed h.kind.integer h.has_value))
+      (nearest_double h.record_bytes h.id_size h.channel h.value h.kind.fixed h.kind.integer h.has_value))
 
   pub double_exact : nat_abs z ≤ 2 ^ 53 → HasValue (of_bits binary64 r) (is_negative z) (nat_abs z) 1
   double_exact small = subst (λ (x : ℕ). HasValue (of_bits binary64 x) (is_negative z) (nat_abs z) 1) is_double_of (exact_double z small)
@@ -76,22 +76,22 @@ double_ordered y z q r g h l =
 
 pub record IntegerDecoded (z : ℤ) (r : ℕ) : Type 1 where
   pub lent : Lfts 1
-  pub record_bytes_law : Slice
-  pub id_size_law : ℕ
+  pub record_bytes : Slice
+  pub id_size : ℕ
   pub channel : Description
   pub kind : FixedInteger (channel_meant channel)
   -- decode_channel_value gives y, which has the value, and decode_f64_from_record gives r
   pub y : ValueRead
-  pub reads : ReadsValue lent record_bytes_law id_size_law channel y
+  pub reads : ReadsValue lent record_bytes id_size channel y
   pub value : Value
   pub answers : value_reply y ≡ answer value
   pub integer : integer_in value ≡ z
-  pub doubles : ReadsDouble lent record_bytes_law id_size_law channel r
+  pub doubles : ReadsDouble lent record_bytes id_size channel r
 
 decoded_read : (z : ℤ) (r : ℕ) → IntegerDecoded z r → IntegerRead z r
 decoded_read z r h = record {
-  record_bytes_law = h.record_bytes_law.now;
-  id_size_law = h.id_size_law;
+  record_bytes = h.record_bytes.now;
+  id_size = h.id_size;
   channel = channel_meant h.channel;
   kind = h.kind;
   value = h.value;
@@ -114,26 +114,26 @@ double_read_ordered y z q r g h = double_ordered y z q r (decoded_read y q g) (d
 
 pub record IntegerDecodedC (z : ℤ) (r : ℕ) : Type 1 where
   pub lent : Lfts 1
-  pub record_bytes_law : Slice
-  pub id_size_law : ℕ
+  pub record_bytes : Slice
+  pub id_size : ℕ
   pub channel : Mf4Channel
   pub kind : FixedInteger (channel_given channel)
   -- mf4_decode_value gives y, which tells the value, and mf4_decode_double_bits gives r
   pub y : Mf4ValueReply
-  pub reads : ReadsValueC lent record_bytes_law id_size_law channel y
+  pub reads : ReadsValueC lent record_bytes id_size channel y
   pub value : Value
   pub tells : value_reply_again y ≡ answer value
   pub integer : integer_in value ≡ z
-  pub doubles : ReadsDoubleC lent record_bytes_law id_size_law channel r
+  pub doubles : ReadsDoubleC lent record_bytes id_size channel r
 
 told_read : (z : ℤ) (r : ℕ) → IntegerDecodedC z r → IntegerRead z r
 told_read z r h = record {
-  record_bytes_law = h.record_bytes_law.now;
-  id_size_law = h.id_size_law;
+  record_bytes = h.record_bytes.now;
+  id_size = h.id_size;
   channel = channel_given h.channel;
   kind = h.kind;
   value = h.value;
-  has_value = sym (mf4_decode_value_told h.lent h.record_bytes_law h.id_size_law h.channel h.y h.reads) ∙ h.tells;
+  has_value = sym (mf4_decode_value_told h.lent h.record_bytes h.id_size h.channel h.y h.reads) ∙ h.tells;
   integer = h.integer;
   double = sym h.doubles;
 }
