@@ -8,7 +8,7 @@ by name and number; fields and arguments by name, type and order; sizes and offs
 which the source has as an array, must have each of its words where the struct of C has it. Each struct NAME of the source
 must have its theorem NAME_fields and each call NAME its theorem NAME_arguments, with the fields and arguments in that
 order. A call of the library for C must have the parameters and the clauses, word for word, of the function of that name in
-the library that it hands on to. The code in the header's comments must stand in the C tests, which run it. Exit status: 0 if
+the library that it hands on to, and its theorem NAME_hands_on, that the two clauses are one. The code in the header's comments must stand in the C tests, which run it. Exit status: 0 if
 all agree, 1 if not.
 """
 
@@ -74,9 +74,10 @@ def differences(compiler, build):
     yield from one_by_one("struct", declarations(structs), HEADER, declarations(header.structs))
     yield from one_by_one("the layout of", layout, HEADER, header.measured(compiler, INCLUDE, build))
     yield from one_by_one("call", source.calls, HEADER, header.calls)
-    for crate in CALLS, HANDED_ON_TO:
-        paths = [*FIELDS, f"{crate}/proofs/Border.antt"]
-        yield from one_by_one("theorem", theorems.expected(source), " and ".join(paths), theorems.stated(paths))
+    paths = [*FIELDS, f"{HANDED_ON_TO}/proofs/Border.antt"]
+    yield from one_by_one("theorem", theorems.expected(source), " and ".join(paths), theorems.stated(paths))
+    same = f"{CALLS}/proofs/HandedOn.antt"
+    yield from one_by_one("theorem", theorems.handed_on(source), same, theorems.stated_handed_on(same))
     yield from one_by_one("call", source.calls, HANDED_ON_TO, handed_on_to.calls)
     yield from one_by_one("the clauses of", source.clauses, HANDED_ON_TO, handed_on_to.clauses)
     yield from scheme.broken(header)

@@ -1,1 +1,2 @@
-pub mod Border
+-- The export's clause is that of the call, one by one.
+mod HandedOn

@@ -1,0 +1,2 @@
+-- What an export owes the call that it hands on to.
+pub mod HandedOn
