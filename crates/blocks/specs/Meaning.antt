@@ -1,26 +1,20 @@
--- What each struct and each case of an answer means in the definitions.
-use Rattle.std.specs.Prelude.{ℕ, List}
-use Rattle.definitions.specs.Reply.{Reply, Outcome, answer}
+-- What each struct and each answer means in the definitions.
+use Rattle.std.specs.Prelude.{ℕ, List, Result}
+use Rattle.definitions.specs.Reply.{Reply, Outcome}
 use Rattle.definitions.specs.Header.{Header}
 use Rattle.definitions.specs.DataList.{DataList}
-use Rattle.refusals.specs.Meaning.{refused}
-use Rattle.blocks.specs.declared.written.Written.{Written}
-use Rattle.blocks.specs.declared.written.Written.TheVariants.{Bytes, Refused as NotWritten}
+use Rattle.refusals.specs.Meaning.{replied}
+use Rattle.refusals.specs.declared.Refusal.{Refusal}
 use Rattle.blocks.specs.declared.header.BlockHeader.{BlockHeader}
-use Rattle.blocks.specs.declared.header.HeaderRead.{HeaderRead}
-use Rattle.blocks.specs.declared.header.HeaderRead.TheVariants.{Header as Headed, Refused as NoHeader}
 use Rattle.blocks.specs.declared.data_list.DataListBlock.{DataListBlock}
-use Rattle.blocks.specs.declared.data_list.ListRead.{ListRead}
-use Rattle.blocks.specs.declared.data_list.ListRead.TheVariants.{List as Listed, Refused as NoList}
 
 -- ---- written
 
-abbrev pub written_reply : Written → Reply ℕ
-written_reply (Bytes n) = answer n
-written_reply (NotWritten r) = refused r
+abbrev pub written_reply : Result ℕ Refusal → Reply ℕ
+written_reply = replied (λ n. n)
 
 -- the reply and the buffer that a call leaves
-abbrev pub wrote : Written → List ℕ → Outcome ℕ
+abbrev pub wrote : Result ℕ Refusal → List ℕ → Outcome ℕ
 wrote r out = record { reply = written_reply r; buffer = out }
 
 -- ---- header
@@ -28,9 +22,8 @@ wrote r out = record { reply = written_reply r; buffer = out }
 abbrev pub header_meant : BlockHeader → Header
 header_meant h = record { id = h.id; reserved = h.reserved0; block_length = h.block_len; link_count = h.links_nr }
 
-abbrev pub header_reply : HeaderRead → Reply Header
-header_reply (Headed h) = answer (header_meant h)
-header_reply (NoHeader r) = refused r
+abbrev pub header_reply : Result BlockHeader Refusal → Reply Header
+header_reply = replied header_meant
 
 -- ---- data list
 
@@ -47,6 +40,5 @@ list_meant d = record {
   rest = d.rest;
 }
 
-abbrev pub list_reply : ListRead → Reply DataList
-list_reply (Listed d) = answer (list_meant d)
-list_reply (NoList r) = refused r
+abbrev pub list_reply : Result DataListBlock Refusal → Reply DataList
+list_reply = replied list_meant

@@ -5,8 +5,7 @@ ghost use Rattle.definitions.specs.Reply.{writing};
 ghost use Rattle.definitions.specs.DataList.{link_limit, list_of, rest_of, rest_count, header_for, list_bytes, list_size, list_written, equal, variable};
 ghost use Rattle.blocks.specs.Meaning.{header_meant, list_reply, wrote};
 
-use crate::header::{BlockHeader, HeaderRead, put_header, size_with_links};
-use crate::written::Written;
+use crate::header::{BlockHeader, put_header, size_with_links};
 use refusals::Refusal;
 use words::{id_at, le_bytes, put_all_le, put_u32_le, put_u64_le, read_u32_le, read_u64_le};
 
@@ -29,12 +28,6 @@ pub struct DataListBlock {
     pub rest: u64,
 }
 
-#[derive(Clone, Copy)]
-pub enum ListRead {
-    List(DataListBlock),
-    Refused(Refusal),
-}
-
 // How many numbers stand after the count
 fn rest_count(flags: u8, count: u32) -> u64
     ensures { (result ≡ rest_count flags count) × (result < 4294967296) }
@@ -43,7 +36,7 @@ fn rest_count(flags: u8, count: u32) -> u64
 }
 
 // The list behind its header, where the links and the fixed fields are there
-fn list_rest(bytes: &[u8], header: BlockHeader) -> ListRead
+fn list_rest(bytes: &[u8], header: BlockHeader) -> Result<DataListBlock, Refusal>
     requires { (0 < header.links_nr) × (32 + header.links_nr * 8 ≤ length bytes.now) }
     ensures { list_reply result ≡ rest_of bytes.now (header_meant header) }
 {
@@ -54,9 +47,9 @@ fn list_rest(bytes: &[u8], header: BlockHeader) -> ListRead
     let rest = rest_count(flags, count);
     let need = at as u64 + 8 + rest * 8;
     if (bytes.len() as u64) < need {
-        return ListRead::Refused(Refusal::TooFewBytes(need));
+        return Err(Refusal::TooFewBytes(need));
     }
-    ListRead::List(DataListBlock {
+    Ok(DataListBlock {
         header,
         next: read_u64_le(bytes, 24),
         links_at: 32,
@@ -72,62 +65,75 @@ fn list_rest(bytes: &[u8], header: BlockHeader) -> ListRead
 impl DataListBlock {
     pub const ID: [u8; 4] = *b"##DL";
 
-    pub fn from_bytes(bytes: &[u8]) -> ListRead
+    pub fn from_bytes(bytes: &[u8]) -> Result<DataListBlock, Refusal>
         ensures { list_reply result ≡ list_of bytes.now }
     {
-        let read = BlockHeader::from_bytes(bytes);
-        let HeaderRead::Header(header) = read else {
-            return ListRead::Refused(read.refusal());
-        };
+        let header = BlockHeader::from_bytes(bytes)?;
         if !id_at(bytes, 0, &DataListBlock::ID) {
-            return ListRead::Refused(Refusal::OtherId);
+            return Err(Refusal::OtherId);
         }
         if header.links_nr == 0 {
-            return ListRead::Refused(Refusal::NoLinks);
+            return Err(Refusal::NoLinks);
         }
         let need = size_with_links(32, header.links_nr);
         if (bytes.len() as u64) < need {
-            return ListRead::Refused(Refusal::TooFewBytes(need));
+            return Err(Refusal::TooFewBytes(need));
         }
         list_rest(bytes, header)
     }
 
     // A list with one length for every fragment
-    pub fn write_equal(next: u64, links: &[u64], length: u64, out: &mut [u8]) -> Written
+    pub fn write_equal(
+        next: u64,
+        links: &[u64],
+        length: u64,
+        out: &mut [u8],
+    ) -> Result<u64, Refusal>
         ensures { wrote result out.new ≡ list_written out.old next links.now (equal length) }
     {
         if LINK_LIMIT < links.len() {
-            return Written::Refused(Refusal::UnwritableList);
+            return Err(Refusal::UnwritableList);
         }
         let rest = [length];
         write_fields(next, links, 1, &rest, out)
     }
 
     // A list with an offset for each fragment
-    pub fn write_variable(next: u64, links: &[u64], offsets: &[u64], out: &mut [u8]) -> Written
+    pub fn write_variable(
+        next: u64,
+        links: &[u64],
+        offsets: &[u64],
+        out: &mut [u8],
+    ) -> Result<u64, Refusal>
         ensures { wrote result out.new ≡ list_written out.old next links.now (variable offsets.now) }
     {
         if LINK_LIMIT < links.len() {
-            return Written::Refused(Refusal::UnwritableList);
+            return Err(Refusal::UnwritableList);
         }
         if links.len() != offsets.len() {
-            return Written::Refused(Refusal::UnwritableList);
+            return Err(Refusal::UnwritableList);
         }
         write_fields(next, links, 0, offsets, out)
     }
 }
 
 // The fields of a list, or the bytes that they need
-fn write_fields(next: u64, links: &[u64], flags: u8, rest: &[u64], out: &mut [u8]) -> Written
+fn write_fields(
+    next: u64,
+    links: &[u64],
+    flags: u8,
+    rest: &[u64],
+    out: &mut [u8],
+) -> Result<u64, Refusal>
     requires { (length links.now ≤ link_limit) × (length rest.now ≤ link_limit) }
     ensures { wrote result out.new ≡ writing out.old (list_bytes next links.now flags rest.now) (list_size (length links.now) (length rest.now)) }
 {
     let need = 40 + links.len() * 8 + rest.len() * 8;
     if out.len() < need {
-        return Written::Refused(Refusal::NoRoom(need as u64));
+        return Err(Refusal::NoRoom(need as u64));
     }
     put_fields(out, next, links, flags, rest);
-    Written::Bytes(need as u64)
+    Ok(need as u64)
 }
 
 // The fields, where there is room for them
@@ -154,18 +160,5 @@ fn list_header(links: u64, rest: u64) -> BlockHeader
         reserved0: 0,
         block_len: 40 + links * 8 + rest * 8,
         links_nr: links + 1,
-    }
-}
-
-impl ListRead {
-    // Why the list was refused. Only a refusal is asked, so the second arm is never taken.
-    pub fn refusal(self) -> Refusal
-        requires { (why : Refusal) × (self ≡ ListRead.Refused why) }
-        ensures { self ≡ ListRead.Refused result }
-    {
-        match self {
-            ListRead::Refused(why) => why,
-            ListRead::List(_) => Refusal::OtherId,
-        }
     }
 }

@@ -5,7 +5,6 @@ ghost use Rattle.definitions.specs.Reply.{told};
 ghost use Rattle.definitions.specs.Header.{header_of, header_bytes, header_written};
 ghost use Rattle.blocks.specs.Meaning.{header_meant, header_reply, wrote};
 
-use crate::written::Written;
 use refusals::Refusal;
 use words::{put_u32_le, put_u64_le, read_u32_le, read_u64_le};
 
@@ -18,20 +17,14 @@ pub struct BlockHeader {
     pub links_nr: u64,
 }
 
-#[derive(Clone, Copy)]
-pub enum HeaderRead {
-    Header(BlockHeader),
-    Refused(Refusal),
-}
-
 impl BlockHeader {
-    pub fn from_bytes(bytes: &[u8]) -> HeaderRead
+    pub fn from_bytes(bytes: &[u8]) -> Result<BlockHeader, Refusal>
         ensures { header_reply result ≡ header_of bytes.now }
     {
         if bytes.len() < 24 {
-            return HeaderRead::Refused(Refusal::TooFewBytes(24));
+            return Err(Refusal::TooFewBytes(24));
         }
-        HeaderRead::Header(BlockHeader {
+        Ok(BlockHeader {
             id: read_u32_le(bytes, 0),
             reserved0: read_u32_le(bytes, 4),
             block_len: read_u64_le(bytes, 8),
@@ -39,14 +32,14 @@ impl BlockHeader {
         })
     }
 
-    pub fn to_bytes(self, out: &mut [u8]) -> Written
+    pub fn to_bytes(self, out: &mut [u8]) -> Result<u64, Refusal>
         ensures { wrote result out.new ≡ header_written out.old (header_meant self) }
     {
         if out.len() < 24 {
-            return Written::Refused(Refusal::NoRoom(24));
+            return Err(Refusal::NoRoom(24));
         }
         put_header(out, self);
-        Written::Bytes(24)
+        Ok(24)
     }
 }
 
@@ -71,17 +64,4 @@ pub fn put_header(out: &mut [u8], header: BlockHeader)
     put_u32_le(out, 4, header.reserved0);
     put_u64_le(out, 8, header.block_len);
     put_u64_le(out, 16, header.links_nr);
-}
-
-impl HeaderRead {
-    // Why the header was refused. Only a refusal is asked, so the second arm is never taken.
-    pub fn refusal(self) -> Refusal
-        requires { (why : Refusal) × (self ≡ HeaderRead.Refused why) }
-        ensures { self ≡ HeaderRead.Refused result }
-    {
-        match self {
-            HeaderRead::Refused(why) => why,
-            HeaderRead::Header(_) => Refusal::OtherId,
-        }
-    }
 }

@@ -3,8 +3,6 @@
 
 mod data_list;
 mod header;
-mod written;
 
-pub use data_list::{DataListBlock, ListRead};
-pub use header::{BlockHeader, HeaderRead, put_header, size_with_links};
-pub use written::Written;
+pub use data_list::DataListBlock;
+pub use header::{BlockHeader, put_header, size_with_links};

@@ -4,7 +4,10 @@ use mathlib.Core.List.{List, [], ◌∷◌}
 use Prim.Native.Nat.{ℕ}
 use native.Mathlib.Omega.{arith}
 use lib.ListN.{get_or}
-use Rattle.refusals.specs.Meaning.{refusal_number, told_of}
+use Rattle.std.specs.Prelude.{Result, Ok, Err}
+use Rattle.definitions.specs.Reply.{Reply, answer, refusal}
+use Rattle.definitions.proofs.Replies.{one_by}
+use Rattle.refusals.specs.Meaning.{refusal_number, told_of, replied}
 use Rattle.refusals.specs.declared.Refusal.{Refusal}
 use Rattle.refusals.specs.declared.Refusal.TheVariants.{TooFewBytes, OtherId, NoLinks, UnwritableList, NoRoom, FileTooLong, TooManyLists, TooManyFragments, ListDisagrees, NoBlockThere, BadDataBlock, UntrueDeclaration, BadRecordSize, NoSuchRecord, TooFewLinks, NoBits, BadBitOffset, IntegerTooWide, FieldOutside, BadFloatWidth, PayloadOutside, DoesNotFit, OtherKind, TooManyChannels, NoFixedNumber, OtherLength, BitOutside, TableFull, TableEmpty, BadTable, NoNumberChannel, NoPosition}
 
@@ -65,3 +68,18 @@ unnumbered n none other r e =
 -- 1 and 14 were given once, and no refusal has their numbers
 pub given_no_more : (r : Refusal) → (refusal_number r ≡ 1 → ⊥) × (refusal_number r ≡ 14 → ⊥)
 given_no_more r = (unnumbered 1 (λ t. refl) (λ e. omega arith) r, unnumbered 14 (λ t. refl) (λ e. omega arith) r)
+
+-- ---- answers of the library: a reply gives the answer back, where what an answer means gives it back
+
+abbrev pub result_of : {A B : Type 0} → (B → A) → Reply B → Result A Refusal
+result_of given (answer b) = Ok (given b)
+result_of given (refusal n t) = Err (refusal_of n t)
+
+result_back : {A B : Type 0} (meant : A → B) (given : B → A) → ((a : A) → given (meant a) ≡ a)
+    → (r : Result A Refusal) → result_of given (replied meant r) ≡ r
+result_back meant given law (Ok a) = ap Ok (law a)
+result_back meant given law (Err r) = ap Err (back r)
+
+pub replied_one : {A B : Type 0} (meant : A → B) (given : B → A) → ((a : A) → given (meant a) ≡ a)
+    → (r s : Result A Refusal) → replied meant r ≡ replied meant s → r ≡ s
+replied_one meant given law = one_by (replied meant) (result_of given) (result_back meant given law)

@@ -1,6 +1,6 @@
 -- Which number each refusal has by the rules, and what it tells.
-use Rattle.std.specs.Prelude.{ℕ}
-use Rattle.definitions.specs.Reply.{Reply, refusal}
+use Rattle.std.specs.Prelude.{ℕ, Result, Ok, Err}
+use Rattle.definitions.specs.Reply.{Reply, answer, refusal}
 use Rattle.refusals.specs.declared.Refusal.{Refusal}
 use Rattle.refusals.specs.declared.Refusal.TheVariants.{TooFewBytes, OtherId, NoLinks, UnwritableList, NoRoom, FileTooLong, TooManyLists, TooManyFragments, ListDisagrees, NoBlockThere, BadDataBlock, UntrueDeclaration, BadRecordSize, NoSuchRecord, TooFewLinks, NoBits, BadBitOffset, IntegerTooWide, FieldOutside, BadFloatWidth, PayloadOutside, DoesNotFit, OtherKind, TooManyChannels, NoFixedNumber, OtherLength, BitOutside, TableFull, TableEmpty, BadTable, NoNumberChannel, NoPosition}
 
@@ -74,3 +74,8 @@ told_of NoPosition = 0
 
 abbrev pub refused : {A : Type 0} → Refusal → Reply A
 refused r = refusal (refusal_number r) (told_of r)
+
+-- what an answer of the library replies: an answer as it is meant, and a refusal with its number
+abbrev pub replied : {A B : Type 0} → (A → B) → Result A Refusal → Reply B
+replied meant (Ok a) = answer (meant a)
+replied meant (Err r) = refused r
