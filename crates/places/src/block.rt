@@ -4,21 +4,15 @@ ghost use Rattle.definitions.specs.Chain.{block_at, data_of};
 ghost use Rattle.places.specs.Meaning.{block_meant, block_reply};
 
 use crate::place::{FileAddress, bytes_from, has_header};
-use blocks::{BlockHeader, HeaderRead};
+use blocks::BlockHeader;
 use refusals::Refusal;
 use words::id_at;
 
-#[derive(Clone, Copy)]
+#[derive(Clone, Copy, Debug, PartialEq, Eq)]
 pub struct DataBlock {
     pub address: FileAddress,
     // the bytes of data behind the 24 of the header
     pub size: u64,
-}
-
-#[derive(Clone, Copy)]
-pub enum BlockRead {
-    Block(DataBlock),
-    Refused(Refusal),
 }
 
 impl DataBlock {
@@ -28,30 +22,27 @@ impl DataBlock {
 }
 
 // The data block with that id at an address
-pub fn data_block_at(file: &[u8], address: FileAddress, id: &[u8; 4]) -> BlockRead
+pub fn data_block_at(file: &[u8], address: FileAddress, id: &[u8; 4]) -> Result<DataBlock, Refusal>
     ensures { block_reply result ≡ block_at id.now file.now address.0 }
 {
     if !has_header(file, address) {
-        return BlockRead::Refused(Refusal::NoBlockThere);
+        return Err(Refusal::NoBlockThere);
     }
     let bytes = bytes_from(file, address);
-    let read = BlockHeader::from_bytes(bytes);
-    let HeaderRead::Header(header) = read else {
-        return BlockRead::Refused(read.refusal());
-    };
+    let header = BlockHeader::from_bytes(bytes)?;
     if !id_at(bytes, 0, id) {
-        return BlockRead::Refused(Refusal::BadDataBlock);
+        return Err(Refusal::BadDataBlock);
     }
     if header.links_nr != 0 {
-        return BlockRead::Refused(Refusal::BadDataBlock);
+        return Err(Refusal::BadDataBlock);
     }
     if header.block_len < 24 {
-        return BlockRead::Refused(Refusal::BadDataBlock);
+        return Err(Refusal::BadDataBlock);
     }
     if address.ends_outside(header.block_len, file) {
-        return BlockRead::Refused(Refusal::BadDataBlock);
+        return Err(Refusal::BadDataBlock);
     }
-    BlockRead::Block(DataBlock {
+    Ok(DataBlock {
         address,
         size: header.block_len - 24,
     })
@@ -64,17 +55,4 @@ pub fn data_of(file: &[u8], block: DataBlock) -> &[u8]
 {
     let bytes = bytes_from(file, block.address);
     &bytes[24..24 + block.size as usize]
-}
-
-impl BlockRead {
-    // Why the block was refused. Only a refusal is asked, so the second arm is never taken.
-    pub fn refusal(self) -> Refusal
-        requires { (why : Refusal) × (self ≡ BlockRead.Refused why) }
-        ensures { self ≡ BlockRead.Refused result }
-    {
-        match self {
-            BlockRead::Refused(why) => why,
-            BlockRead::Block(_) => Refusal::BadDataBlock,
-        }
-    }
 }

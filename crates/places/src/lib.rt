@@ -6,7 +6,7 @@ mod limits;
 mod list;
 mod place;
 
-pub use block::{BlockRead, DataBlock, data_block_at, data_of};
+pub use block::{DataBlock, data_block_at, data_of};
 pub use limits::{FILE_LIMIT, LIST_LIMIT};
 pub use list::list_at;
 pub use place::{DataPosition, FileAddress, OpenList, Place, bytes_from};

@@ -5,7 +5,7 @@ ghost use Rattle.blocks.specs.Meaning.{list_meant, list_reply};
 
 use crate::limits::FRAGMENT_LIMIT;
 use crate::place::{FileAddress, bytes_from, has_header, sum_passes};
-use blocks::{DataListBlock, ListRead};
+use blocks::DataListBlock;
 use refusals::Refusal;
 
 // Whether the count is that of the links, and the block long enough for its fields
@@ -20,21 +20,18 @@ fn agrees_with_itself(list: DataListBlock) -> bool
 }
 
 // The list at an address, with so many fragments in the lists before it
-pub fn list_at(file: &[u8], address: FileAddress, fragments: u64) -> ListRead
+pub fn list_at(file: &[u8], address: FileAddress, fragments: u64) -> Result<DataListBlock, Refusal>
     ensures { list_reply result ≡ list_at file.now fragments address.0 }
 {
     if !has_header(file, address) {
-        return ListRead::Refused(Refusal::NoBlockThere);
+        return Err(Refusal::NoBlockThere);
     }
-    let read = DataListBlock::from_bytes(bytes_from(file, address));
-    let ListRead::List(list) = read else {
-        return ListRead::Refused(read.refusal());
-    };
+    let list = DataListBlock::from_bytes(bytes_from(file, address))?;
     if !agrees_with_itself(list) {
-        return ListRead::Refused(Refusal::ListDisagrees);
+        return Err(Refusal::ListDisagrees);
     }
     if sum_passes(fragments, list.links, FRAGMENT_LIMIT) {
-        return ListRead::Refused(Refusal::TooManyFragments);
+        return Err(Refusal::TooManyFragments);
     }
-    ListRead::List(list)
+    Ok(list)
 }

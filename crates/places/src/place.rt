@@ -7,15 +7,15 @@ ghost use Rattle.places.specs.Places.{start_at, further, behind, ended, entered}
 use blocks::DataListBlock;
 
 // where a block stands in the file
-#[derive(Clone, Copy)]
+#[derive(Clone, Copy, Debug, PartialEq, Eq)]
 pub struct FileAddress(pub u64);
 
 // how many bytes of the joined data are before
-#[derive(Clone, Copy)]
+#[derive(Clone, Copy, Debug, PartialEq, Eq)]
 pub struct DataPosition(pub u64);
 
 // What a walk keeps of a list that it has read, so that the list is read once
-#[derive(Clone, Copy)]
+#[derive(Clone, Copy, Debug, PartialEq, Eq)]
 pub struct OpenList {
     pub address: FileAddress,
     // the data links: where in the bytes from the address on, and how many
@@ -28,7 +28,7 @@ pub struct OpenList {
 }
 
 // Before fragment `index` of the list read last. At the start no list is read, and the next one is the first.
-#[derive(Clone, Copy)]
+#[derive(Clone, Copy, Debug, PartialEq, Eq)]
 pub struct Place {
     pub list: OpenList,
     // how many lists are read

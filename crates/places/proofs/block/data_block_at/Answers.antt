@@ -8,9 +8,8 @@ use Rattle.definitions.specs.Bytes.{id_at}
 use Rattle.definitions.specs.Header.{header_of}
 use Rattle.definitions.specs.Chain.{has_header}
 use Rattle.blocks.specs.declared.header.BlockHeader.{BlockHeader}
-use Rattle.blocks.specs.declared.header.HeaderRead.{HeaderRead}
-use Rattle.blocks.specs.declared.header.HeaderRead.TheVariants.{Header as Headed}
-use Rattle.blocks.specs.Meaning.{header_meant, header_reply}
+use Rattle.definitions.specs.Reply.{answer}
+use Rattle.blocks.specs.Meaning.{header_meant}
 use Rattle.places.proofs.Addresses.{header_inside, header_long, id_from}
 use Rattle.places.proofs.Blocks.{Named, header_stands, block_nowhere, block_other, block_named, block_linked, block_short, block_cut, block_read}
 use Rattle.places.proofs.block.data_block_at.Goals as goal
@@ -23,11 +22,11 @@ bytes_from-bytes-requires c =
     header_inside c.args.file.now c.args.address.0 (sym c.has_header.ensures ∙ c.if-not-has_header.false)
 
 -- what was read stands at the address, so it cannot be refused
-pub returns-in_default : goal.returns-in_default
-returns-in_default c =
+pub returns-in_err-header : goal.returns-in_err-header
+returns-in_err-header c =
     let a = c.args in
     header_stands a.id.now a.file.now a.address.0 (sym c.has_header.ensures ∙ c.if-not-has_header.false) _ _
-    (sym (c.from_bytes-read.ensures ∙ ap header_of c.bytes_from-bytes.ensures) ∙ ap header_reply c.in_default.is)
+    (sym (c.in_err-header.ensures ∙ ap header_of c.bytes_from-bytes.ensures))
 
 pub id_at-requires : goal.id_at-requires
 id_at-requires c =
@@ -40,9 +39,8 @@ module _ (f id : List ℕ) (a : ℕ) (s : List ℕ) (from : s ≡ drop a f) (b :
   id_is = same ∙ ap (λ (t : List ℕ). id_at t 0 id) from ∙ id_from f a id
 
   -- the block has the wanted id
-  named : (r : HeaderRead) (x : BlockHeader) → has_header f a ≡ true → header_reply r ≡ header_of s → r ≡ Headed x → b ≡ true → Named id f a (header_meant x)
-  named r x there read is e =
-      block_named id f a _ there (sym (read ∙ ap header_of from) ∙ ap header_reply is) (sym id_is ∙ e)
+  named : (x : BlockHeader) → has_header f a ≡ true → answer (header_meant x) ≡ header_of s → b ≡ true → Named id f a (header_meant x)
+  named x there read e = block_named id f a _ there (sym (read ∙ ap header_of from)) (sym id_is ∙ e)
 
 pub returns-then-not-id_at : goal.returns-then-not-id_at
 returns-then-not-id_at c =
@@ -54,30 +52,30 @@ pub returns-then-header-ne0 : goal.returns-then-header-ne0
 returns-then-header-ne0 c =
     let a = c.args in
     block_linked _ _ _ _
-    (named a.file.now a.id.now a.address.0 _ c.bytes_from-bytes.ensures _ c.id_at.ensures _ _ (sym c.has_header.ensures ∙ c.if-not-has_header.false)
-    c.from_bytes-read.ensures c.in-Header.is c.if-not-id_at.false)
+    (named a.file.now a.id.now a.address.0 _ c.bytes_from-bytes.ensures _ c.id_at.ensures _ (sym c.has_header.ensures ∙ c.if-not-has_header.false)
+    c.in_ok-header.ensures c.if-not-id_at.false)
     c.if-header-ne0.true
 
 pub returns-then-header-lt24 : goal.returns-then-header-lt24
 returns-then-header-lt24 c =
     let a = c.args in
     block_short _ _ _ _
-    (named a.file.now a.id.now a.address.0 _ c.bytes_from-bytes.ensures _ c.id_at.ensures _ _ (sym c.has_header.ensures ∙ c.if-not-has_header.false)
-    c.from_bytes-read.ensures c.in-Header.is c.if-not-id_at.false)
+    (named a.file.now a.id.now a.address.0 _ c.bytes_from-bytes.ensures _ c.id_at.ensures _ (sym c.has_header.ensures ∙ c.if-not-has_header.false)
+    c.in_ok-header.ensures c.if-not-id_at.false)
     c.if-header-ne0.false c.if-header-lt24.true
 
 pub returns-then-ends_outside : goal.returns-then-ends_outside
 returns-then-ends_outside c =
     let a = c.args in
     block_cut _ _ _ _
-    (named a.file.now a.id.now a.address.0 _ c.bytes_from-bytes.ensures _ c.id_at.ensures _ _ (sym c.has_header.ensures ∙ c.if-not-has_header.false)
-    c.from_bytes-read.ensures c.in-Header.is c.if-not-id_at.false)
+    (named a.file.now a.id.now a.address.0 _ c.bytes_from-bytes.ensures _ c.id_at.ensures _ (sym c.has_header.ensures ∙ c.if-not-has_header.false)
+    c.in_ok-header.ensures c.if-not-id_at.false)
     c.if-header-ne0.false c.if-header-lt24.false (sym c.ends_outside.ensures ∙ c.if-ends_outside.true)
 
 pub returns : goal.returns
 returns c =
     let a = c.args in
     block_read _ _ _ _
-    (named a.file.now a.id.now a.address.0 _ c.bytes_from-bytes.ensures _ c.id_at.ensures _ _ (sym c.has_header.ensures ∙ c.if-not-has_header.false)
-    c.from_bytes-read.ensures c.in-Header.is c.if-not-id_at.false)
+    (named a.file.now a.id.now a.address.0 _ c.bytes_from-bytes.ensures _ c.id_at.ensures _ (sym c.has_header.ensures ∙ c.if-not-has_header.false)
+    c.in_ok-header.ensures c.if-not-id_at.false)
     c.if-header-ne0.false c.if-header-lt24.false (sym c.ends_outside.ensures ∙ c.if-ends_outside.false)
