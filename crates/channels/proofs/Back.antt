@@ -1,16 +1,14 @@
 -- The meaning is one-to-one: from what it means the answer comes back.
 use mathlib.Core.Path.{◌≡◌, ap}
-use Rattle.definitions.specs.Reply.{Reply, answer, refusal}
+use Rattle.std.specs.Prelude.{Result}
 use Rattle.definitions.specs.ChannelBlock as blocks
-use Rattle.definitions.proofs.Replies.{one_by}
-use Rattle.refusals.proofs.Back.{refusal_of, back}
+use Rattle.refusals.specs.declared.Refusal.{Refusal}
+use Rattle.refusals.proofs.Back.{replied_one}
 use Rattle.data_types.proofs.Back.{type_back, type_back_law}
 use Rattle.blocks.proofs.Back.{header_back}
 use Rattle.data_types.specs.declared.data_type.DataType.{DataType}
 use Rattle.channels.specs.Meaning.{channel_block_meant, channel_block_reply}
 use Rattle.channels.specs.declared.channel_block.ChannelBlock.{ChannelBlock}
-use Rattle.channels.specs.declared.channel_block.ChannelRead.{ChannelRead}
-use Rattle.channels.specs.declared.channel_block.ChannelRead.TheVariants.{Block, Refused as NoChannel}
 
 -- the block with its type already given back
 abbrev channel_back : DataType → blocks.ChannelBlock → ChannelBlock
@@ -45,13 +43,7 @@ channel_back t b = record {
   upper_ext_limit = b.upper_extended;
 }
 
-abbrev channel_read_back : Reply blocks.ChannelBlock → ChannelRead
-channel_read_back (answer b) = Block (channel_back (type_back b.data_type) b)
-channel_read_back (refusal n t) = NoChannel (refusal_of n t)
-
-channel_back_law : (r : ChannelRead) → channel_read_back (channel_block_reply r) ≡ r
-channel_back_law (Block b) = ap (λ (t : DataType). Block (channel_back t (channel_block_meant b))) (type_back_law b.data_type)
-channel_back_law (NoChannel r) = ap NoChannel (back r)
-
-pub channel_one : (a b : ChannelRead) → channel_block_reply a ≡ channel_block_reply b → a ≡ b
-channel_one = one_by channel_block_reply channel_read_back channel_back_law
+pub channel_one : (a b : Result ChannelBlock Refusal) → channel_block_reply a ≡ channel_block_reply b → a ≡ b
+channel_one =
+    replied_one channel_block_meant (λ b. channel_back (type_back b.data_type) b)
+    (λ b. ap (λ (t : DataType). channel_back t (channel_block_meant b)) (type_back_law b.data_type))

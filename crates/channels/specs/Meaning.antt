@@ -1,12 +1,12 @@
--- What the block and each case of the answer mean in the definitions.
-use Rattle.definitions.specs.Reply.{Reply, answer}
+-- What the block and the answer mean in the definitions.
+use Rattle.std.specs.Prelude.{Result}
+use Rattle.definitions.specs.Reply.{Reply}
 use Rattle.definitions.specs.ChannelBlock as blocks
-use Rattle.refusals.specs.Meaning.{refused}
+use Rattle.refusals.specs.Meaning.{replied}
+use Rattle.refusals.specs.declared.Refusal.{Refusal}
 use Rattle.data_types.specs.Meaning.{type_meant}
 use Rattle.blocks.specs.Meaning.{header_meant}
 use Rattle.channels.specs.declared.channel_block.ChannelBlock.{ChannelBlock}
-use Rattle.channels.specs.declared.channel_block.ChannelRead.{ChannelRead}
-use Rattle.channels.specs.declared.channel_block.ChannelRead.TheVariants.{Block, Refused as NoChannel}
 
 abbrev pub channel_block_meant : ChannelBlock → blocks.ChannelBlock
 channel_block_meant b = record {
@@ -40,6 +40,5 @@ channel_block_meant b = record {
   upper_extended = b.upper_ext_limit;
 }
 
-abbrev pub channel_block_reply : ChannelRead → Reply blocks.ChannelBlock
-channel_block_reply (Block b) = answer (channel_block_meant b)
-channel_block_reply (NoChannel r) = refused r
+abbrev pub channel_block_reply : Result ChannelBlock Refusal → Reply blocks.ChannelBlock
+channel_block_reply = replied channel_block_meant

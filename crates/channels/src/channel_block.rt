@@ -7,7 +7,7 @@ ghost use Rattle.blocks.specs.Meaning.{header_meant, wrote};
 ghost use Rattle.fields.specs.Meaning.{channel_meant};
 ghost use Rattle.channels.specs.Meaning.{channel_block_meant, channel_block_reply};
 
-use blocks::{BlockHeader, HeaderRead, Written, put_header, size_with_links};
+use blocks::{BlockHeader, put_header, size_with_links};
 use data_types::DataType;
 use fields::Channel;
 use refusals::Refusal;
@@ -45,12 +45,6 @@ pub struct ChannelBlock {
     pub upper_limit: u64,
     pub lower_ext_limit: u64,
     pub upper_ext_limit: u64,
-}
-
-#[derive(Clone, Copy)]
-pub enum ChannelRead {
-    Block(ChannelBlock),
-    Refused(Refusal),
 }
 
 // The block behind its header, where all of it is there
@@ -98,24 +92,21 @@ fn read_block(bytes: &[u8], header: BlockHeader) -> ChannelBlock
 impl ChannelBlock {
     pub const ID: [u8; 4] = *b"##CN";
 
-    pub fn from_bytes(bytes: &[u8]) -> ChannelRead
+    pub fn from_bytes(bytes: &[u8]) -> Result<ChannelBlock, Refusal>
         ensures { channel_block_reply result ≡ channel_block_of bytes.now }
     {
-        let read = BlockHeader::from_bytes(bytes);
-        let HeaderRead::Header(header) = read else {
-            return ChannelRead::Refused(read.refusal());
-        };
+        let header = BlockHeader::from_bytes(bytes)?;
         if !id_at(bytes, 0, &ChannelBlock::ID) {
-            return ChannelRead::Refused(Refusal::OtherId);
+            return Err(Refusal::OtherId);
         }
         if header.links_nr < 8 {
-            return ChannelRead::Refused(Refusal::TooFewLinks);
+            return Err(Refusal::TooFewLinks);
         }
         let need = size_with_links(96, header.links_nr);
         if (bytes.len() as u64) < need {
-            return ChannelRead::Refused(Refusal::TooFewBytes(need));
+            return Err(Refusal::TooFewBytes(need));
         }
-        ChannelRead::Block(read_block(bytes, header))
+        Ok(read_block(bytes, header))
     }
 
     // What the block tells of its channel, as the decoder takes it: nobody else copies these fields.
@@ -136,14 +127,14 @@ impl ChannelBlock {
     }
 
     // With a header of its own, eight links and no attachments
-    pub fn to_bytes(self, out: &mut [u8]) -> Written
+    pub fn to_bytes(self, out: &mut [u8]) -> Result<u64, Refusal>
         ensures { wrote result out.new ≡ channel_written out.old (channel_block_meant self) }
     {
         if out.len() < 160 {
-            return Written::Refused(Refusal::NoRoom(160));
+            return Err(Refusal::NoRoom(160));
         }
         put_block(out, self);
-        Written::Bytes(160)
+        Ok(160)
     }
 }
 
@@ -213,17 +204,4 @@ fn put_block(out: &mut [u8], block: ChannelBlock)
     put_all_le(out, 24, &links);
     put_format(out, block);
     put_all_le(out, 112, &limits);
-}
-
-impl ChannelRead {
-    // Why the block was refused. Only a refusal is asked, so the second arm is never taken.
-    pub fn refusal(self) -> Refusal
-        requires { (why : Refusal) × (self ≡ ChannelRead.Refused why) }
-        ensures { self ≡ ChannelRead.Refused result }
-    {
-        match self {
-            ChannelRead::Refused(why) => why,
-            ChannelRead::Block(_) => Refusal::OtherId,
-        }
-    }
 }

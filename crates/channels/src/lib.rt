@@ -3,4 +3,4 @@
 
 mod channel_block;
 
-pub use channel_block::{ChannelBlock, ChannelRead};
+pub use channel_block::ChannelBlock;
