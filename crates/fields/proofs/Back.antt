@@ -3,32 +3,25 @@ use mathlib.Core.Path.{◌≡◌, refl, sym, ap, ap₂, ◌∙◌}
 use mathlib.Core.Bool.{Bool}
 use mathlib.Core.List.{List}
 use Prim.Native.Nat.{ℕ}
+use Rattle.std.specs.Prelude.{Result, Ok, Err}
 use Rattle.definitions.specs.Reply.{Reply, answer, refusal}
 use Rattle.definitions.specs.Channel.{Value, ValidValue, unsigned, signed, double, text, bytes, sample, stream, unknown_value}
 use Rattle.definitions.specs.DataType.{Kind}
 use Rattle.definitions.specs.Channel as channels
 use Rattle.definitions.proofs.Replies.{one_by, not_answered}
-use Rattle.refusals.proofs.Back.{refusal_of, back}
+use Rattle.refusals.proofs.Back.{refusal_of, back, replied_one}
 use Rattle.refusals.specs.Meaning.{refused}
 use Rattle.refusals.specs.declared.Refusal.{Refusal}
 use Rattle.refusals.specs.declared.Refusal.TheVariants.{NoBits}
 use Rattle.data_types.proofs.Back.{type_back, type_back_law}
 use Rattle.data_types.specs.declared.data_type.DataType.{DataType}
 use Rattle.fields.specs.declared.channel.Channel.{Channel}
-use Rattle.fields.specs.Meaning.{channel_meant, value_meant, value_reply, valid_value_reply, area_reply, validity_reply}
+use Rattle.fields.specs.Meaning.{channel_meant, value_meant, value_reply, valid_value_meant, valid_value_reply, area_reply, validity_reply}
 use Rattle.fields.specs.Known.{FieldTold, FieldPlaced}
-use Rattle.fields.specs.declared.area.AreaChecked.{AreaChecked}
-use Rattle.fields.specs.declared.area.AreaChecked.TheVariants.{Inside, Refused as NotInside}
-use Rattle.fields.specs.declared.area.ValidityRead.{ValidityRead}
-use Rattle.fields.specs.declared.area.ValidityRead.TheVariants.{Validity, Refused as NotTold}
-use Rattle.fields.specs.declared.field.FieldFound.{FieldFound}
-use Rattle.fields.specs.declared.field.FieldFound.TheVariants.{Field, Refused}
+use Rattle.fields.specs.declared.field.FieldSpan.{FieldSpan}
 use Rattle.fields.specs.declared.value.DecodedValue.{DecodedValue}
+use Rattle.fields.specs.declared.value.DecodedChannelValue.{DecodedChannelValue}
 use Rattle.fields.specs.declared.value.DecodedValue.TheVariants.{UnsignedInteger, SignedInteger, Float, String, ByteArray, MimeSample, MimeStream, Unknown}
-use Rattle.fields.specs.declared.value.ValueRead.{ValueRead}
-use Rattle.fields.specs.declared.value.ValueRead.TheVariants.{Value as Valued, Refused as NotValued}
-use Rattle.fields.specs.declared.value.ValidValueRead.{ValidValueRead}
-use Rattle.fields.specs.declared.value.ValidValueRead.TheVariants.{Value as Judged, Refused as NotJudged}
 
 -- from what it means the description comes back, its type too
 abbrev description_back : DataType → channels.Channel → Channel
@@ -66,58 +59,31 @@ value_back (MimeSample at n) = refl
 value_back (MimeStream at n) = refl
 value_back Unknown = refl
 
-abbrev pub value_read : Reply Value → ValueRead
-value_read (answer v) = Valued (value_decoded v)
-value_read (refusal n t) = NotValued (refusal_of n t)
+pub value_one : (a b : Result DecodedValue Refusal) → value_reply a ≡ value_reply b → a ≡ b
+value_one = replied_one value_meant value_decoded value_back
 
-value_read_back : (r : ValueRead) → value_read (value_reply r) ≡ r
-value_read_back (Valued v) = ap Valued (value_back v)
-value_read_back (NotValued r) = ap NotValued (back r)
+abbrev pub valid_value_decoded : ValidValue → DecodedChannelValue
+valid_value_decoded v = record { value = value_decoded v.value; is_valid = v.valid }
 
-pub value_one : (a b : ValueRead) → value_reply a ≡ value_reply b → a ≡ b
-value_one = one_by value_reply value_read value_read_back
+pub valid_value_one : (a b : Result DecodedChannelValue Refusal) → valid_value_reply a ≡ valid_value_reply b → a ≡ b
+valid_value_one = replied_one valid_value_meant valid_value_decoded
+    (λ v. ap (λ (x : DecodedValue). record { value = x; is_valid = v.is_valid }) (value_back v.value))
 
-abbrev pub valid_value_read : Reply ValidValue → ValidValueRead
-valid_value_read (answer v) = Judged (record { value = value_decoded v.value; is_valid = v.valid })
-valid_value_read (refusal n t) = NotJudged (refusal_of n t)
+pub area_one : (a b : Result (Unit {0}) Refusal) → area_reply a ≡ area_reply b → a ≡ b
+area_one = replied_one (λ (u : Unit {0}). u) (λ u. u) (λ u. refl)
 
-valid_value_back : (r : ValidValueRead) → valid_value_read (valid_value_reply r) ≡ r
-valid_value_back (Judged v) = ap (λ (x : DecodedValue). Judged (record { value = x; is_valid = v.is_valid })) (value_back v.value)
-valid_value_back (NotJudged r) = ap NotJudged (back r)
-
-pub valid_value_one : (a b : ValidValueRead) → valid_value_reply a ≡ valid_value_reply b → a ≡ b
-valid_value_one = one_by valid_value_reply valid_value_read valid_value_back
-
-abbrev area_checked : Reply (Unit {0}) → AreaChecked
-area_checked (answer u) = Inside
-area_checked (refusal n t) = NotInside (refusal_of n t)
-
-area_back : (r : AreaChecked) → area_checked (area_reply r) ≡ r
-area_back Inside = refl
-area_back (NotInside r) = ap NotInside (back r)
-
-pub area_one : (a b : AreaChecked) → area_reply a ≡ area_reply b → a ≡ b
-area_one = one_by area_reply area_checked area_back
-
-abbrev validity_read : Reply Bool → ValidityRead
-validity_read (answer b) = Validity b
-validity_read (refusal n t) = NotTold (refusal_of n t)
-
-validity_back : (r : ValidityRead) → validity_read (validity_reply r) ≡ r
-validity_back (Validity b) = refl
-validity_back (NotTold r) = ap NotTold (back r)
-
-pub validity_one : (a b : ValidityRead) → validity_reply a ≡ validity_reply b → a ≡ b
-validity_one = one_by validity_reply validity_read validity_back
+pub validity_one : (a b : Result Bool Refusal) → validity_reply a ≡ validity_reply b → a ≡ b
+validity_one = replied_one (λ (b : Bool). b) (λ b. b) (λ b. refl)
 
 -- a field is found in one place, or refused for one cause
 abbrev why_refused : Reply Value → Refusal
 why_refused (answer v) = NoBits
 why_refused (refusal n t) = refusal_of n t
 
-pub field_one : (k : Kind) (reply : Reply Value) (s : List ℕ) (c : channels.Channel) (at n : ℕ) (a b : FieldFound)
+pub field_one : (k : Kind) (reply : Reply Value) (s : List ℕ) (c : channels.Channel) (at n : ℕ) (a b : Result FieldSpan Refusal)
     → FieldTold k reply s c a × FieldPlaced at n a → FieldTold k reply s c b × FieldPlaced at n b → a ≡ b
-field_one k reply s c at n (Field p m) (Field q l) (f, (ep, em)) (g, (eq, el)) = ap₂ Field (ep ∙ sym eq) (em ∙ sym el)
-field_one k reply s c at n (Field p m) (Refused r) (f, x) (g, y) = not_answered _ _ _ (sym g.told ∙ f.told.value)
-field_one k reply s c at n (Refused r) (Field p m) (f, x) (g, y) = not_answered _ _ _ (sym f.told ∙ g.told.value)
-field_one k reply s c at n (Refused r) (Refused q) (f, x) (g, y) = ap Refused (one_by refused why_refused back r q (sym f.told ∙ g.told))
+field_one k reply s c at n (Ok f) (Ok g) (_, (ep, em)) (_, (eq, el)) =
+    ap₂ (λ (p m : ℕ). Ok (record { at = p; length = m })) (ep ∙ sym eq) (em ∙ sym el)
+field_one k reply s c at n (Ok f) (Err r) (t, x) (u, y) = not_answered _ _ _ (sym u.told ∙ t.told.value)
+field_one k reply s c at n (Err r) (Ok f) (t, x) (u, y) = not_answered _ _ _ (sym t.told ∙ u.told.value)
+field_one k reply s c at n (Err r) (Err q) (t, x) (u, y) = ap Err (one_by refused why_refused back r q (sym t.told ∙ u.told))

@@ -1,5 +1,5 @@
 -- The ways to the reply of 28 and 29.
-use mathlib.Core.Path.{◌≡◌, refl, sym, ap, ◌∙◌}
+use mathlib.Core.Path.{◌≡◌, refl, sym, ◌∙◌}
 use mathlib.Core.Bool.{Bool, true, false, not, ◌&&◌}
 use mathlib.Core.List.{List}
 use Prim.Native.Nat.{ℕ, ◌+◌, ◌-◌, ◌*◌, ◌≤◌, ◌<◌}
@@ -12,9 +12,6 @@ use Rattle.definitions.specs.Bytes.{bit}
 use Rattle.definitions.specs.Channel.{Channel, Group, record_length, has_invalidation_bit, valid_of, area_of, bounded_valid_of}
 use Rattle.refusals.specs.Meaning.{refused}
 use Rattle.refusals.specs.declared.Refusal.{Refusal}
-use Rattle.fields.specs.Meaning.{area_reply}
-use Rattle.fields.specs.declared.area.AreaChecked.{AreaChecked}
-use Rattle.fields.specs.declared.area.AreaChecked.TheVariants.{Inside, Refused as NotInside}
 
 -- ---- the length
 
@@ -69,15 +66,11 @@ module _ (n : ℕ) (g : Group) (c : Channel) {long : Bool} (el : long ≡ eqb n 
 
 -- ---- the validity behind them
 
-module _ (s : List ℕ) (g : Group) (c : Channel) {area : AreaChecked} (ea : area_reply area ≡ area_of (length s) g c) where
-  pub not_told : {why : Refusal} → area ≡ NotInside why → refused why ≡ bounded_valid_of s g c
+module _ (s : List ℕ) (g : Group) (c : Channel) where
+  pub not_told : (why : Refusal) → refused why ≡ area_of (length s) g c → refused why ≡ bounded_valid_of s g c
   unfolding bounded_valid_of
-  not_told {why} is =
-      let e : area_of (length s) g c ≡ refused why = sym ea ∙ ap area_reply is in
-      rw e
+  not_told why e = rw (← e)
 
-  pub told_inside : {valid : Bool} → area ≡ Inside → valid ≡ valid_of s g c → answer valid ≡ bounded_valid_of s g c
+  pub told_inside : {valid : Bool} → answer tt ≡ area_of (length s) g c → valid ≡ valid_of s g c → answer valid ≡ bounded_valid_of s g c
   unfolding bounded_valid_of
-  told_inside is ev =
-      let e : area_of (length s) g c ≡ answer tt = sym ea ∙ ap area_reply is in
-      rw (e, ev)
+  told_inside e ev = rw (← e, ev)

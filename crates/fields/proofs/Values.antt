@@ -1,5 +1,5 @@
 -- A value by the field that was found.
-use Rattle.std.specs.Prelude.{if◌then◌else◌}
+use Rattle.std.specs.Prelude.{if◌then◌else◌, Result, Ok, Err}
 use mathlib.Core.Path.{◌≡◌, refl, sym, ap, ap₂, ◌∙◌, subst}
 use mathlib.Core.Bool.{Bool, true, false}
 use mathlib.Core.List.{List}
@@ -16,8 +16,7 @@ use Rattle.refusals.specs.declared.Refusal.{Refusal}
 use Rattle.fields.specs.Form.{form_of, form_kind, form_value}
 use Rattle.fields.specs.Known.{value_at, FieldCase, FieldTold, Sound}
 use Rattle.fields.specs.declared.form.Form.{Form}
-use Rattle.fields.specs.declared.field.FieldFound.{FieldFound}
-use Rattle.fields.specs.declared.field.FieldFound.TheVariants.{Field, Refused}
+use Rattle.fields.specs.declared.field.FieldSpan.{FieldSpan}
 use Rattle.fields.proofs.Forms.{kind_form, value_form}
 
 start : (p : Bool) (a b : ℕ) → (if p then 0 else a) + (if p then 0 else b) ≡ (if p then 0 else (a + b))
@@ -37,22 +36,22 @@ looked_for s id_size c {form} {payload} {skipped} {offset} ef ep es eo =
     ap (λ (j : Kind). value_at j payload s (skipped + offset) c) ek
     ∙ ap₂ (λ (a : ℕ) (p : Bool). value_at k p s a c) ea ep
 
-module _ {k : Kind} {reply : Reply Value} {s : List ℕ} {c : Channel} {found : FieldFound} (h : FieldTold k reply s c found) where
-  pub refused_as : {r : Refusal} → found ≡ Refused r → reply ≡ refused r
+module _ {k : Kind} {reply : Reply Value} {s : List ℕ} {c : Channel} {found : Result FieldSpan Refusal} (h : FieldTold k reply s c found) where
+  pub refused_as : {r : Refusal} → found ≡ Err r → reply ≡ refused r
   refused_as e = subst (FieldCase k reply s c) e h.told
 
-  pub sound_at : {at n : ℕ} → found ≡ Field at n → Sound k s at n c
+  pub sound_at : {f : FieldSpan} → found ≡ Ok f → Sound k s f.at f.length c
   sound_at e = (subst (FieldCase k reply s c) e h.told).sound
 
   -- a refusal is handed on
-  pub handed_on : {r : Refusal} {v : Reply Value} → found ≡ Refused r → reply ≡ v → refused r ≡ v
+  pub handed_on : {r : Refusal} {v : Reply Value} → found ≡ Err r → reply ≡ v → refused r ≡ v
   handed_on e ev = sym (refused_as e) ∙ ev
 
   -- and a field gives the value that its form has
-  pub valued : {at n : ℕ} {form : Form} {x : Value} {v : Reply Value} → found ≡ Field at n → form ≡ form_of c.data_type
-      → x ≡ form_value form s at n c → reply ≡ v → answer x ≡ v
-  valued {at} {n} e ef ex ev =
-      ap answer (ex ∙ ap (λ (f : Form). form_value f s at n c) ef ∙ value_form c.data_type s at n c)
+  pub valued : {f : FieldSpan} {form : Form} {x : Value} {v : Reply Value} → found ≡ Ok f → form ≡ form_of c.data_type
+      → x ≡ form_value form s f.at f.length c → reply ≡ v → answer x ≡ v
+  valued {f} e ef ex ev =
+      ap answer (ex ∙ ap (λ (m : Form). form_value m s f.at f.length c) ef ∙ value_form c.data_type s f.at f.length c)
       ∙ sym (subst (FieldCase k reply s c) e h.told).value ∙ ev
 
 -- a text stops in the part of the slice that is its span

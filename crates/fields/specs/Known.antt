@@ -1,14 +1,14 @@
 -- What is known of a field, and of one that was refused.
-use Rattle.std.specs.Prelude.{◌≡◌, Bool, true, List, ℕ, ◌+◌, ◌^◌, ◌≤◌, ◌<◌, length}
+use Rattle.std.specs.Prelude.{◌≡◌, Bool, true, List, Result, Ok, Err, ℕ, ◌+◌, ◌^◌, ◌≤◌, ◌<◌, length}
 use Rattle.definitions.specs.Reply.{Reply, answer}
 use Rattle.definitions.specs.Bytes.{bytes_for}
 use Rattle.definitions.specs.DataType.{Kind}
 use Rattle.definitions.specs.Channel.{Channel, Value, decoded, is_number, is_floating, span_in, value_by}
 use Rattle.refusals.specs.Meaning.{refused}
+use Rattle.refusals.specs.declared.Refusal.{Refusal}
 use Rattle.fields.specs.Form.{number_kind}
 use Rattle.fields.specs.declared.form.Number.{Number}
-use Rattle.fields.specs.declared.field.FieldFound.{FieldFound}
-use Rattle.fields.specs.declared.field.FieldFound.TheVariants.{Field, Refused}
+use Rattle.fields.specs.declared.field.FieldSpan.{FieldSpan}
 
 -- the value of the field of a kind that starts at `at`
 abbrev pub value_at : Kind → Bool → List ℕ → ℕ → Channel → Reply Value
@@ -31,17 +31,17 @@ pub record Valued (k : Kind) (reply : Reply Value) (s : List ℕ) (at n : ℕ) (
   pub value : reply ≡ answer (decoded c.data_type s at n c)
   pub sound : Sound k s at n c
 
-abbrev pub FieldCase : Kind → Reply Value → List ℕ → Channel → FieldFound → Type 0
-FieldCase k reply s c (Field at n) = Valued k reply s at n c
-FieldCase k reply s c (Refused r) = reply ≡ refused r
+abbrev pub FieldCase : Kind → Reply Value → List ℕ → Channel → Result FieldSpan Refusal → Type 0
+FieldCase k reply s c (Ok f) = Valued k reply s f.at f.length c
+FieldCase k reply s c (Err r) = reply ≡ refused r
 
-pub record FieldTold (k : Kind) (reply : Reply Value) (s : List ℕ) (c : Channel) (found : FieldFound) : Type 0 where
+pub record FieldTold (k : Kind) (reply : Reply Value) (s : List ℕ) (c : Channel) (found : Result FieldSpan Refusal) : Type 0 where
   pub told : FieldCase k reply s c found
 
 -- a field is n bytes at `at`
-abbrev pub FieldPlaced : ℕ → ℕ → FieldFound → Type 0
-FieldPlaced at n (Field p m) = (p ≡ at) × (m ≡ n)
-FieldPlaced at n (Refused r) = Unit {0}
+abbrev pub FieldPlaced : ℕ → ℕ → Result FieldSpan Refusal → Type 0
+FieldPlaced at n (Ok f) = (f.at ≡ at) × (f.length ≡ n)
+FieldPlaced at n (Err r) = Unit {0}
 
 -- x is a field of count bits, and a float that is no pattern of 64 bits has 32
 pub record Fitting (number : Number) (count x : ℕ) : Type 0 where

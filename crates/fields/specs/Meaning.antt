@@ -1,23 +1,16 @@
 -- What the code's own types mean in the definitions.
-use Rattle.std.specs.Prelude.{Bool}
-use Rattle.definitions.specs.Reply.{Reply, answer}
+use Rattle.std.specs.Prelude.{Bool, Result}
+use Rattle.definitions.specs.Reply.{Reply}
 use Rattle.definitions.specs.Channel as channels
 use Rattle.definitions.specs.Channel.{Value, ValidValue, unsigned, signed, double, text, bytes, sample, stream, unknown_value}
-use Rattle.refusals.specs.Meaning.{refused}
+use Rattle.refusals.specs.Meaning.{replied}
+use Rattle.refusals.specs.declared.Refusal.{Refusal}
 use Rattle.data_types.specs.Meaning.{type_meant}
 use Rattle.fields.specs.declared.channel.Channel.{Channel}
 use Rattle.fields.specs.declared.value.DecodedValue.{DecodedValue}
 use Rattle.fields.specs.declared.value.DecodedValue.TheVariants.{UnsignedInteger, SignedInteger, Float, String, ByteArray, MimeSample, MimeStream, Unknown}
-use Rattle.fields.specs.declared.value.ValueRead.{ValueRead}
-use Rattle.fields.specs.declared.value.ValueRead.TheVariants.{Value as Valued, Refused as NotValued}
 use Rattle.fields.specs.declared.value.DecodedChannelValue.{DecodedChannelValue}
 use Rattle.fields.specs.declared.group.Group.{Group}
-use Rattle.fields.specs.declared.area.AreaChecked.{AreaChecked}
-use Rattle.fields.specs.declared.area.AreaChecked.TheVariants.{Inside, Refused as NotInside}
-use Rattle.fields.specs.declared.area.ValidityRead.{ValidityRead}
-use Rattle.fields.specs.declared.area.ValidityRead.TheVariants.{Validity, Refused as NotTold}
-use Rattle.fields.specs.declared.value.ValidValueRead.{ValidValueRead}
-use Rattle.fields.specs.declared.value.ValidValueRead.TheVariants.{Value as Judged, Refused as NotJudged}
 
 abbrev pub channel_meant : Channel → channels.Channel
 channel_meant c = record {
@@ -48,21 +41,17 @@ value_meant (MimeSample at n) = sample at n
 value_meant (MimeStream at n) = stream at n
 value_meant Unknown = unknown_value
 
-abbrev pub value_reply : ValueRead → Reply Value
-value_reply (Valued v) = answer (value_meant v)
-value_reply (NotValued r) = refused r
+abbrev pub value_reply : Result DecodedValue Refusal → Reply Value
+value_reply = replied value_meant
 
 abbrev pub valid_value_meant : DecodedChannelValue → ValidValue
 valid_value_meant v = record { value = value_meant v.value; valid = v.is_valid }
 
-abbrev pub valid_value_reply : ValidValueRead → Reply ValidValue
-valid_value_reply (Judged v) = answer (valid_value_meant v)
-valid_value_reply (NotJudged r) = refused r
+abbrev pub valid_value_reply : Result DecodedChannelValue Refusal → Reply ValidValue
+valid_value_reply = replied valid_value_meant
 
-abbrev pub area_reply : AreaChecked → Reply (Unit {0})
-area_reply Inside = answer tt
-area_reply (NotInside r) = refused r
+abbrev pub area_reply : Result (Unit {0}) Refusal → Reply (Unit {0})
+area_reply = replied (λ u. u)
 
-abbrev pub validity_reply : ValidityRead → Reply Bool
-validity_reply (Validity b) = answer b
-validity_reply (NotTold r) = refused r
+abbrev pub validity_reply : Result Bool Refusal → Reply Bool
+validity_reply = replied (λ b. b)

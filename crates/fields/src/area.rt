@@ -9,44 +9,6 @@ use crate::group::Group;
 use crate::validity::{bit_of, check_value_validity};
 use refusals::Refusal;
 
-#[derive(Clone, Copy)]
-pub enum AreaChecked {
-    Inside,
-    Refused(Refusal),
-}
-
-#[derive(Clone, Copy)]
-pub enum ValidityRead {
-    Validity(bool),
-    Refused(Refusal),
-}
-
-impl AreaChecked {
-    // Why it is not inside. Only a refusal is asked, so the second arm is never taken.
-    pub fn refusal(self) -> Refusal
-        requires { (why : Refusal) × (self ≡ AreaChecked.Refused why) }
-        ensures { self ≡ AreaChecked.Refused result }
-    {
-        match self {
-            AreaChecked::Refused(why) => why,
-            AreaChecked::Inside => Refusal::OtherLength,
-        }
-    }
-}
-
-impl ValidityRead {
-    // The same of a validity
-    pub fn refusal(self) -> Refusal
-        requires { (why : Refusal) × (self ≡ ValidityRead.Refused why) }
-        ensures { self ≡ ValidityRead.Refused result }
-    {
-        match self {
-            ValidityRead::Refused(why) => why,
-            ValidityRead::Validity(_) => Refusal::OtherLength,
-        }
-    }
-}
-
 // By subtraction, since the sum with the id may be past every number that fits; that of two numbers of 32 bits is not.
 fn is_record_length(length: usize, group: Group) -> bool
     ensures { result ≡ eqb length (record_length (group_meant group)) }
@@ -73,24 +35,25 @@ fn is_bit_outside(group: Group, channel: Channel) -> bool
     bits <= channel.pos_invalidation_bit as u64
 }
 
-pub fn check_area(length: usize, group: Group, channel: Channel) -> AreaChecked
+pub fn check_area(length: usize, group: Group, channel: Channel) -> Result<(), Refusal>
     ensures { area_reply result ≡ area_of length (group_meant group) (channel_meant channel) }
 {
     if !is_record_length(length, group) {
-        return AreaChecked::Refused(Refusal::OtherLength);
+        return Err(Refusal::OtherLength);
     }
     if is_bit_outside(group, channel) {
-        return AreaChecked::Refused(Refusal::BitOutside);
+        return Err(Refusal::BitOutside);
     }
-    AreaChecked::Inside
+    Ok(())
 }
 
-pub fn check_bounded_validity(record: &[u8], group: Group, channel: Channel) -> ValidityRead
+pub fn check_bounded_validity(
+    record: &[u8],
+    group: Group,
+    channel: Channel,
+) -> Result<bool, Refusal>
     ensures { validity_reply result ≡ bounded_valid_of «record».now (group_meant group) (channel_meant channel) }
 {
-    let area = check_area(record.len(), group, channel);
-    let AreaChecked::Inside = area else {
-        return ValidityRead::Refused(area.refusal());
-    };
-    ValidityRead::Validity(check_value_validity(record, group, channel))
+    check_area(record.len(), group, channel)?;
+    Ok(check_value_validity(record, group, channel))
 }

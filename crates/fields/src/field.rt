@@ -10,23 +10,11 @@ use crate::form::{Content, Form, Number};
 use crate::span::{bit_span, bytes_needed, content_span, ends_outside};
 use refusals::Refusal;
 
-#[derive(Clone, Copy)]
-pub enum FieldFound {
-    Field { at: usize, length: usize },
-    Refused(Refusal),
-}
-
-impl FieldFound {
-    // Why there is no field. Only a refusal is asked, so the second arm is never taken.
-    pub fn refusal(self) -> Refusal
-        requires { (why : Refusal) × (self ≡ FieldFound.Refused why) }
-        ensures { self ≡ FieldFound.Refused result }
-    {
-        match self {
-            FieldFound::Refused(why) => why,
-            FieldFound::Field { .. } => Refusal::NoBits,
-        }
-    }
+// A field's place in the slice
+#[derive(Clone, Copy, Debug, PartialEq, Eq)]
+pub struct FieldSpan {
+    pub at: usize,
+    pub length: usize,
 }
 
 pub fn is_over_a_word(number: Number, bit_count: u32) -> bool
@@ -81,7 +69,7 @@ fn find_number(
     byte_offset: usize,
     number: Number,
     channel: Channel,
-) -> FieldFound
+) -> Result<FieldSpan, Refusal>
     ensures { FieldTold (number_kind number) (value_by (number_kind number) (skipped + byte_offset) (bit_span (channel_meant channel)) «record».now (channel_meant channel)) «record».now (channel_meant channel) result × FieldPlaced (skipped + byte_offset) (bit_span (channel_meant channel)) result }
 {
     let length = bit_span(channel);
@@ -92,24 +80,24 @@ fn find_number(
     let needed = bytes_needed(skipped, byte_offset, length);
     let no_float_width = is_no_float_width(number, channel.bit_count);
     if no_bits {
-        return FieldFound::Refused(Refusal::NoBits);
+        return Err(Refusal::NoBits);
     }
     if past_a_byte {
-        return FieldFound::Refused(Refusal::BadBitOffset);
+        return Err(Refusal::BadBitOffset);
     }
     if over_a_word {
-        return FieldFound::Refused(Refusal::IntegerTooWide);
+        return Err(Refusal::IntegerTooWide);
     }
     if outside {
-        return FieldFound::Refused(Refusal::FieldOutside(needed));
+        return Err(Refusal::FieldOutside(needed));
     }
     if no_float_width {
-        return FieldFound::Refused(Refusal::BadFloatWidth);
+        return Err(Refusal::BadFloatWidth);
     }
-    FieldFound::Field {
+    Ok(FieldSpan {
         at: skipped + byte_offset,
         length,
-    }
+    })
 }
 
 // What is no number has only to end inside the slice.
@@ -120,18 +108,18 @@ fn find_content(
     payload: bool,
     content: Content,
     channel: Channel,
-) -> FieldFound
+) -> Result<FieldSpan, Refusal>
     ensures { FieldTold (content_kind content) (value_at (content_kind content) payload «record».now (skipped + byte_offset) (channel_meant channel)) «record».now (channel_meant channel) result × FieldPlaced (skipped + byte_offset) (span_in payload (content_kind content) (length «record».now) (channel_meant channel)) result }
 {
     let length = content_span(payload, content, record.len(), channel);
     if ends_outside(record.len(), skipped, byte_offset, length) {
         let bytes = bytes_needed(skipped, byte_offset, length);
-        return FieldFound::Refused(Refusal::FieldOutside(bytes));
+        return Err(Refusal::FieldOutside(bytes));
     }
-    FieldFound::Field {
+    Ok(FieldSpan {
         at: skipped + byte_offset,
         length,
-    }
+    })
 }
 
 // The field of a form. All refusals of a value are decided here.
@@ -142,7 +130,7 @@ pub fn find_field(
     payload: bool,
     form: Form,
     channel: Channel,
-) -> FieldFound
+) -> Result<FieldSpan, Refusal>
     ensures { FieldTold (form_kind form) (value_at (form_kind form) payload «record».now (skipped + byte_offset) (channel_meant channel)) «record».now (channel_meant channel) result × FieldPlaced (skipped + byte_offset) (span_in payload (form_kind form) (length «record».now) (channel_meant channel)) result }
 {
     match form {

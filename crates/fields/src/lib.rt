@@ -12,13 +12,13 @@ mod span;
 mod validity;
 mod value;
 
-pub use area::{AreaChecked, ValidityRead, check_area, check_bounded_validity};
+pub use area::{check_area, check_bounded_validity};
 pub use channel::Channel;
 pub use content::content_at;
-pub use field::{FieldFound, find_field, is_no_float_width, is_over_a_word, is_well_described};
+pub use field::{FieldSpan, find_field, is_no_float_width, is_over_a_word, is_well_described};
 pub use form::{Content, Form, Number, form_of};
 pub use group::Group;
 pub use number::{float_bits, number_at, number_value};
 pub use span::{bytes_needed, ends_outside};
 pub use validity::check_value_validity;
-pub use value::{DecodedChannelValue, DecodedValue, ValidValueRead, ValueRead};
+pub use value::{DecodedChannelValue, DecodedValue};
