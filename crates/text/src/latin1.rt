@@ -5,7 +5,7 @@ ghost use Rattle.definitions.specs.Unicode.{latin1, chars, chars_utf8, written_t
 ghost use Rattle.text.specs.Meaning.{wrote};
 ghost use Rattle.text.specs.Parts.{whole_text};
 
-use crate::answer::TextWrite;
+use crate::answer::TextWritten;
 use crate::encode::put_utf8;
 use crate::unchanged::write_unchanged;
 use refusals::Refusal;
@@ -35,7 +35,7 @@ fn put_latin1(text: &[u8], out: &mut [u8])
     }
 }
 
-pub fn write_latin1(text: &[u8], out: &mut [u8]) -> TextWrite
+pub fn write_latin1(text: &[u8], out: &mut [u8]) -> Result<TextWritten, Refusal>
     ensures { wrote result out.new ≡ written_text out.old (whole_text latin1 text.now) }
 {
     let size = latin1_size(text);
@@ -45,11 +45,11 @@ pub fn write_latin1(text: &[u8], out: &mut [u8]) -> TextWrite
     }
     let count = size as u64;
     if out.len() < size {
-        return TextWrite::Refused(Refusal::NoRoom(count));
+        return Err(Refusal::NoRoom(count));
     }
     put_latin1(text, out);
-    TextWrite::Written {
+    Ok(TextWritten {
         count,
         damaged: false,
-    }
+    })
 }

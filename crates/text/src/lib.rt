@@ -11,5 +11,5 @@ mod utf16;
 mod utf8;
 mod write;
 
-pub use answer::TextWrite;
+pub use answer::TextWritten;
 pub use write::write_text;

@@ -5,7 +5,7 @@ ghost use Rattle.definitions.specs.Unicode.{written_text};
 ghost use Rattle.text.specs.Meaning.{wrote};
 ghost use Rattle.text.specs.Parts.{as_is};
 
-use crate::answer::TextWrite;
+use crate::answer::TextWritten;
 use refusals::Refusal;
 
 fn copy(from: &[u8], out: &mut [u8])
@@ -19,13 +19,13 @@ fn copy(from: &[u8], out: &mut [u8])
     }
 }
 
-pub fn write_unchanged(text: &[u8], damaged: bool, out: &mut [u8]) -> TextWrite
+pub fn write_unchanged(text: &[u8], damaged: bool, out: &mut [u8]) -> Result<TextWritten, Refusal>
     ensures { wrote result out.new ≡ written_text out.old (as_is text.now damaged) }
 {
     let count = text.len() as u64;
     if out.len() < text.len() {
-        return TextWrite::Refused(Refusal::NoRoom(count));
+        return Err(Refusal::NoRoom(count));
     }
     copy(text, out);
-    TextWrite::Written { count, damaged }
+    Ok(TextWritten { count, damaged })
 }

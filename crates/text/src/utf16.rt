@@ -6,7 +6,7 @@ ghost use Rattle.encodings.specs.Meaning.{order_meant};
 ghost use Rattle.text.specs.Meaning.{char_meant, wrote};
 ghost use Rattle.text.specs.Parts.{high_byte, CharRead, size_of, whole_text};
 
-use crate::answer::TextWrite;
+use crate::answer::TextWritten;
 use crate::character::{Char, inside};
 use crate::damaged::write_damaged_utf16;
 use crate::encode::{put_utf8, utf8_width};
@@ -132,7 +132,7 @@ fn put_utf16(text: &[u8], big_endian: bool, out: &mut [u8])
     }
 }
 
-pub fn write_utf16(text: &[u8], big_endian: bool, out: &mut [u8]) -> TextWrite
+pub fn write_utf16(text: &[u8], big_endian: bool, out: &mut [u8]) -> Result<TextWritten, Refusal>
     ensures { wrote result out.new ≡ written_text out.old (whole_text (utf16 (order_meant big_endian)) text.now) }
 {
     let Size::Sound(size) = measure(text, big_endian) else {
@@ -140,11 +140,11 @@ pub fn write_utf16(text: &[u8], big_endian: bool, out: &mut [u8]) -> TextWrite
     };
     let count = size as u64;
     if out.len() < size {
-        return TextWrite::Refused(Refusal::NoRoom(count));
+        return Err(Refusal::NoRoom(count));
     }
     put_utf16(text, big_endian, out);
-    TextWrite::Written {
+    Ok(TextWritten {
         count,
         damaged: false,
-    }
+    })
 }

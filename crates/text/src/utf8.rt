@@ -4,10 +4,11 @@ ghost use Rattle.definitions.specs.Unicode.{utf8, six_bits, is_scalar, utf8_two,
 ghost use Rattle.text.specs.Meaning.{char_meant, wrote};
 ghost use Rattle.text.specs.Parts.{CharRead, whole_text};
 
-use crate::answer::TextWrite;
+use crate::answer::TextWritten;
 use crate::character::{Char, inside};
 use crate::damaged::write_damaged_utf8;
 use crate::unchanged::write_unchanged;
+use refusals::Refusal;
 
 // 64 for a byte that continues nothing, so that no sum below wants a guard
 #[tactic(auto, unfolding(definitions::specs::Unicode::six_bits))]
@@ -161,7 +162,7 @@ fn is_sound(text: &[u8]) -> bool
 }
 
 // UTF-8 that is sound is its own bytes, so nothing is encoded anew
-pub fn write_utf8(text: &[u8], out: &mut [u8]) -> TextWrite
+pub fn write_utf8(text: &[u8], out: &mut [u8]) -> Result<TextWritten, Refusal>
     ensures { wrote result out.new ≡ written_text out.old (whole_text utf8 text.now) }
 {
     if is_sound(text) {

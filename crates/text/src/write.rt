@@ -4,13 +4,14 @@ ghost use Rattle.definitions.specs.Unicode.{text_written};
 ghost use Rattle.encodings.specs.Meaning.{encoding_of};
 ghost use Rattle.text.specs.Meaning.{wrote};
 
-use crate::answer::TextWrite;
+use crate::answer::TextWritten;
 use crate::latin1::write_latin1;
 use crate::utf8::write_utf8;
 use crate::utf16::write_utf16;
 use encodings::{Encoding, text_end};
+use refusals::Refusal;
 
-pub fn write_text(encoding: Encoding, bytes: &[u8], out: &mut [u8]) -> TextWrite
+pub fn write_text(encoding: Encoding, bytes: &[u8], out: &mut [u8]) -> Result<TextWritten, Refusal>
     ensures { wrote result out.new ≡ text_written out.old (encoding_of encoding) bytes.now }
 {
     let end = text_end(encoding, bytes);
