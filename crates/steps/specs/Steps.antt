@@ -1,15 +1,16 @@
 -- What a walk meets at a place: the fragment there, or the next list. f is the file, and id the id of its data blocks.
-use Rattle.std.specs.Prelude.{◌≡◌, ℕ, ◌+◌, ◌*◌, ◌%◌, ◌≤◌, ◌<◌, List, length, drop, leb, eqb, if◌then◌else◌}
+use Rattle.std.specs.Prelude.{◌≡◌, ℕ, ◌+◌, ◌*◌, ◌%◌, ◌≤◌, ◌<◌, List, length, drop, leb, eqb, if◌then◌else◌, Result}
 use Rattle.definitions.specs.Reply.{Reply, answer, refusal, and_then}
 use Rattle.definitions.specs.Bytes.{u64_at}
 use Rattle.definitions.specs.DataList.{DataList, one_length, rest_count}
 use Rattle.definitions.specs.Chain.{Block, fragment_limit, list_limit, fragment_of, list_at, Declaration, by_length, by_offsets, declaration_of, chained_at}
-use Rattle.refusals.specs.Meaning.{refused}
+use Rattle.refusals.specs.Meaning.{replied}
+use Rattle.refusals.specs.declared.Refusal.{Refusal}
 use Rattle.places.specs.Places.{Opens, entered, ended}
 use Rattle.places.specs.declared.place.OpenList.{OpenList}
 use Rattle.places.specs.declared.place.Place.{Place}
-use Rattle.steps.specs.declared.next.NextRead.{NextRead}
-use Rattle.steps.specs.declared.next.NextRead.TheVariants.{List as AList, End, Refused}
+use Rattle.steps.specs.declared.next.Next.{Next}
+use Rattle.steps.specs.declared.next.Next.TheVariants.{List as AList, End}
 
 -- ---- what can be read of a list that is kept
 
@@ -55,10 +56,12 @@ pub data Onward : Type 0 where
   a_list : Place → Onward
   the_end : ℕ → Onward
 
-abbrev pub next_reply : NextRead → Reply Onward
-next_reply (AList p) = answer (a_list p)
-next_reply (End q) = answer (the_end q.0)
-next_reply (Refused r) = refused r
+abbrev pub next_meant : Next → Onward
+next_meant (AList p) = a_list p
+next_meant (End q) = the_end q.0
+
+abbrev pub next_reply : Result Next Refusal → Reply Onward
+next_reply = replied next_meant
 
 -- what the list read last declares, and before the first list what that one will
 unfoldable pub declared_before : List ℕ → Place → Declaration

@@ -7,7 +7,7 @@ ghost use Rattle.places.specs.Meaning.{block_reply};
 ghost use Rattle.places.specs.Places.{Opens};
 ghost use Rattle.steps.specs.Steps.{LinkWithin, ListKnown, fragment_at};
 
-use places::{BlockRead, FileAddress, OpenList, Place, bytes_from, data_block_at};
+use places::{DataBlock, FileAddress, OpenList, Place, bytes_from, data_block_at};
 use refusals::Refusal;
 use words::read_u64_le;
 
@@ -58,23 +58,20 @@ fn truly_declared(bytes: &[u8], place: Place, size: u64) -> bool
 }
 
 // The fragment at a place, where `bytes` is the file from its list on. The link alone says where it is.
-fn fragment_in(file: &[u8], bytes: &[u8], place: Place, id: &[u8; 4]) -> BlockRead
+fn fragment_in(file: &[u8], bytes: &[u8], place: Place, id: &[u8; 4]) -> Result<DataBlock, Refusal>
     requires { LinkWithin bytes.now place.list place.index }
     ensures { (d : DataList) → Opens place.list d → block_reply result ≡ fragment_of id.now file.now bytes.now d place.index place.position.0 }
 {
     let link = link_at(bytes, place);
-    let read = data_block_at(file, link, id);
-    let BlockRead::Block(block) = read else {
-        return BlockRead::Refused(read.refusal());
-    };
+    let block = data_block_at(file, link, id)?;
     if !truly_declared(bytes, place, block.size) {
-        return BlockRead::Refused(Refusal::UntrueDeclaration);
+        return Err(Refusal::UntrueDeclaration);
     }
-    BlockRead::Block(block)
+    Ok(block)
 }
 
 // The fragment at a place inside a list
-pub fn fragment_at(file: &[u8], place: Place, id: &[u8; 4]) -> BlockRead
+pub fn fragment_at(file: &[u8], place: Place, id: &[u8; 4]) -> Result<DataBlock, Refusal>
     requires { (ListKnown file.now place) × (place.index < place.list.links) }
     ensures { block_reply result ≡ fragment_at id.now file.now place }
 {

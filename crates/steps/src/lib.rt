@@ -5,4 +5,4 @@ mod fragment;
 mod next;
 
 pub use fragment::fragment_at;
-pub use next::{NextRead, next_list};
+pub use next::{Next, next_list};

@@ -5,17 +5,15 @@ ghost use Rattle.definitions.specs.Chain.{keeps_to};
 ghost use Rattle.steps.specs.Steps.{LengthWithin, ListKnown, declaration_in, next_reply, next_of};
 
 use crate::fragment::one_length;
-use blocks::ListRead;
 use places::{DataPosition, LIST_LIMIT, OpenList, Place, bytes_from, list_at};
 use refusals::Refusal;
 
-#[derive(Clone, Copy)]
-pub enum NextRead {
+#[derive(Clone, Copy, Debug, PartialEq, Eq)]
+pub enum Next {
     // before the first fragment of the next list
     List(Place),
     // the chain is done, with so much data
     End(DataPosition),
-    Refused(Refusal),
 }
 
 // The one length of a list's fragments, from the file
@@ -50,30 +48,27 @@ fn keeps_to(file: &[u8], earlier: OpenList, list: OpenList) -> bool
 
 // The next list is read here, once, and its fragments then by index. Each list but the last declares what the first does, so
 // the list before stands for the first one, of which the place keeps nothing.
-pub fn next_list(file: &[u8], place: Place) -> NextRead
+pub fn next_list(file: &[u8], place: Place) -> Result<Next, Refusal>
     requires { ListKnown file.now place }
     ensures { next_reply result ≡ next_of file.now place }
 {
     let position = place.position;
     if place.has_ended() {
-        return NextRead::End(position);
+        return Ok(Next::End(position));
     }
     if LIST_LIMIT <= place.lists {
-        return NextRead::Refused(Refusal::TooManyLists);
+        return Err(Refusal::TooManyLists);
     }
     let last = place.list;
     let address = last.next;
-    let read = list_at(file, address, place.fragments + place.index);
-    let ListRead::List(list) = read else {
-        return NextRead::Refused(read.refusal());
-    };
+    let list = list_at(file, address, place.fragments + place.index)?;
     let entered = place.enter(list);
     if place.lists == 0 {
-        return NextRead::List(entered);
+        return Ok(Next::List(entered));
     }
     let here = entered.list;
     if !keeps_to(file, last, here) {
-        return NextRead::Refused(Refusal::UntrueDeclaration);
+        return Err(Refusal::UntrueDeclaration);
     }
-    NextRead::List(entered)
+    Ok(Next::List(entered))
 }

@@ -1,3 +1,4 @@
+use Rattle.std.proofs.lemmas.Result.{err_from_is_err_and}
 use mathlib.Core.Path.{◌≡◌, sym, ap, ◌∙◌}
 use mathlib.Core.Bool.{Bool}
 use mathlib.Core.List.{List}
@@ -6,7 +7,7 @@ use lib.Dec.{eqb}
 use Rattle.definitions.specs.Reply.{answer}
 use Rattle.definitions.specs.DataList.{DataList}
 use Rattle.definitions.specs.Chain.{keeps_to}
-use Rattle.blocks.specs.Meaning.{list_meant, list_reply}
+use Rattle.blocks.specs.Meaning.{list_meant}
 use Rattle.places.specs.Places.{opened, entered}
 use Rattle.steps.specs.Steps.{declaration_in, a_list}
 use Rattle.places.specs.declared.place.Place.{Place}
@@ -20,19 +21,20 @@ pub returns-then-place-ge-LIST_LIMIT : goal.returns-then-place-ge-LIST_LIMIT
 returns-then-place-ge-LIST_LIMIT c = next_many _ _ (sym c.has_ended.ensures ∙ c.if-has_ended.false) c.if-place-ge-LIST_LIMIT.true
 
 -- a refused list is handed on
-pub returns-in_default : goal.returns-in_default
-returns-in_default c =
-    next_refused _ _ (sym c.has_ended.ensures ∙ c.if-has_ended.false) c.if-place-ge-LIST_LIMIT.false _ _ (sym c.list_at-read.ensures ∙ ap list_reply c.refusal.ensures)
+pub returns-in_err-list : goal.returns-in_err-list
+returns-in_err-list c =
+    let p = err_from_is_err_and c.from_residual.result c.from_residual.ensures.1 in
+    rw (p.1, p.2) (next_refused _ _ (sym c.has_ended.ensures ∙ c.if-has_ended.false) c.if-place-ge-LIST_LIMIT.false _ _ (sym c.in_err-list.ensures))
 
 -- the first list is held to nothing
 pub returns-then-place-eq0 : goal.returns-then-place-eq0
 returns-then-place-eq0 c =
     ap (λ (q : Place). answer (a_list q)) c.enter-entered.ensures
-    ∙ next_first _ _ (sym c.has_ended.ensures ∙ c.if-has_ended.false) c.if-place-ge-LIST_LIMIT.false _ (sym c.list_at-read.ensures ∙ ap list_reply c.in-List.is) c.if-place-eq0.true
+    ∙ next_first _ _ (sym c.has_ended.ensures ∙ c.if-has_ended.false) c.if-place-ge-LIST_LIMIT.false _ (sym c.in_ok-list.ensures) c.if-place-eq0.true
 
 pub keeps_to-requires : goal.keeps_to-requires
 keeps_to-requires c =
-    lengths_within _ _ c.requires c.if-place-eq0.false _ (sym c.list_at-read.ensures ∙ ap list_reply c.in-List.is) _ c.enter-entered.ensures
+    lengths_within _ _ c.requires c.if-place-eq0.false _ (sym c.in_ok-list.ensures) _ c.enter-entered.ensures
 
 -- whether it keeps to the list before
 kept : (f : List ℕ) (p : Place) (d : DataList) (q : Place) (b : Bool) → q ≡ entered p d
@@ -42,9 +44,9 @@ kept f p d q b is e = e ∙ ap (λ (x : Place). keeps_to (declaration_in f p.lis
 
 pub returns-then-not-keeps_to : goal.returns-then-not-keeps_to
 returns-then-not-keeps_to c =
-    next_untrue _ _ (sym c.has_ended.ensures ∙ c.if-has_ended.false) c.if-place-ge-LIST_LIMIT.false _ (sym c.list_at-read.ensures ∙ ap list_reply c.in-List.is) c.if-place-eq0.false _ (kept c.args.file.now c.args.place (list_meant c.in-List.list) _ _ c.enter-entered.ensures c.keeps_to.ensures) (c.if-not-keeps_to.true)
+    next_untrue _ _ (sym c.has_ended.ensures ∙ c.if-has_ended.false) c.if-place-ge-LIST_LIMIT.false _ (sym c.in_ok-list.ensures) c.if-place-eq0.false _ (kept c.args.file.now c.args.place (list_meant c.in_ok-list.list) _ _ c.enter-entered.ensures c.keeps_to.ensures) (c.if-not-keeps_to.true)
 
 pub returns : goal.returns
 returns c =
     ap (λ (q : Place). answer (a_list q)) c.enter-entered.ensures
-    ∙ next_kept _ _ (sym c.has_ended.ensures ∙ c.if-has_ended.false) c.if-place-ge-LIST_LIMIT.false _ (sym c.list_at-read.ensures ∙ ap list_reply c.in-List.is) c.if-place-eq0.false _ (kept c.args.file.now c.args.place (list_meant c.in-List.list) _ _ c.enter-entered.ensures c.keeps_to.ensures) (c.if-not-keeps_to.false)
+    ∙ next_kept _ _ (sym c.has_ended.ensures ∙ c.if-has_ended.false) c.if-place-ge-LIST_LIMIT.false _ (sym c.in_ok-list.ensures) c.if-place-eq0.false _ (kept c.args.file.now c.args.place (list_meant c.in_ok-list.list) _ _ c.enter-entered.ensures c.keeps_to.ensures) (c.if-not-keeps_to.false)
