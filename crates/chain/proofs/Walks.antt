@@ -1,4 +1,5 @@
 -- What every reader's loop keeps: where it stands, the blocks so far, and that the chain gives what it gives from here on.
+use Rattle.std.specs.Prelude.{Ok, Err}
 use mathlib.Core.Path.{◌≡◌, refl, sym, ap, subst, ◌∙◌}
 use mathlib.Core.Bool.{true, false}
 use mathlib.Core.List.{List, [], ◌∷◌, ◌++◌}
@@ -17,9 +18,8 @@ use Rattle.places.specs.Places.{start_at, behind, entered, ended}
 use Rattle.steps.specs.Steps.{fragment_at, Onward, a_list, the_end, declared_at, declared_before, next_of}
 use Rattle.chain.specs.Walk.{Inside, At, fragments_left, lists_behind, chain_from, go_on}
 use Rattle.places.specs.declared.place.FileAddress.{FileAddress}
-use Rattle.places.specs.declared.place.DataPosition.{DataPosition}
 use Rattle.places.specs.declared.place.Place.{Place}
-use Rattle.chain.specs.declared.acceptance.Located.TheVariants.{Whole as AtPlace, Refused as NoPlace}
+use Rattle.chain.specs.declared.acceptance.Located.{Located}
 use Rattle.places.proofs.Answers.{followed}
 use Rattle.steps.proofs.Fragments.{fragment_inside}
 use Rattle.chain.proofs.Chains.{total_more, stand_more, data_bound}
@@ -172,17 +172,14 @@ module _ (id f : List ℕ) (start : ℕ) (short : length f ≤ file_limit) where
 -- ---- a position that was looked for
 
 module _ (id f : List ℕ) (start wanted : ℕ) (reply : Reply ℕ) where
-  pub located_refused : (why : Refusal) → refused why ≡ reply → Locates id f start wanted reply (NoPlace why)
-  located_refused why e = record {
-    replied = e;
-    place = λ n p is. let z : ◌≡◌ {A = ℕ} 0 1 = cc in let no : ⊥ = omega arith in absurd no;
-  }
+  pub located_refused : (why : Refusal) → refused why ≡ reply → Locates id f start wanted reply (Err why)
+  located_refused why e = record { replied = e; place = λ l is. cc }
 
-  pub located_whole : (n : DataPosition) (p : Place) (before : List Block) → answer n.0 ≡ reply → At id f start p before → p.position.0 ≤ wanted
-      → Locates id f start wanted reply (AtPlace n p)
-  located_whole n p before e m l = record {
+  pub located_whole : (l : Located) (before : List Block) → answer l.total.0 ≡ reply → At id f start l.place before → l.place.position.0 ≤ wanted
+      → Locates id f start wanted reply (Ok l)
+  located_whole l before e m below = record {
     replied = e;
-    place = λ k q is.
-        let same : p ≡ q = cc in
-        (before, subst (λ (x : Place). At id f start x before) same m, subst (λ (x : Place). x.position.0 ≤ wanted) same l);
+    place = λ k is.
+        let same : l ≡ k = cc in
+        (before, subst (λ (x : Located). At id f start x.place before) same m, subst (λ (x : Located). x.place.position.0 ≤ wanted) same below);
   }

@@ -1,17 +1,14 @@
--- What each struct and each case of an answer means in the definitions.
-use Rattle.std.specs.Prelude.{ℕ}
-use Rattle.definitions.specs.Reply.{Reply, answer}
-use Rattle.refusals.specs.Meaning.{refused}
-use Rattle.chain.specs.declared.acceptance.ChainRead.{ChainRead}
-use Rattle.chain.specs.declared.acceptance.ChainRead.TheVariants.{Whole, Refused as NoChain}
+-- What each answer means in the definitions.
+use Rattle.std.specs.Prelude.{ℕ, Result}
+use Rattle.definitions.specs.Reply.{Reply}
+use Rattle.refusals.specs.Meaning.{replied}
+use Rattle.refusals.specs.declared.Refusal.{Refusal}
+use Rattle.places.specs.declared.place.DataPosition.{DataPosition}
 use Rattle.chain.specs.declared.acceptance.Located.{Located}
-use Rattle.chain.specs.declared.acceptance.Located.TheVariants.{Whole as AtPlace, Refused as NoPlace}
 
-abbrev pub chain_reply : ChainRead → Reply ℕ
-chain_reply (Whole q) = answer q.0
-chain_reply (NoChain r) = refused r
+abbrev pub chain_reply : Result DataPosition Refusal → Reply ℕ
+chain_reply = replied (λ q. q.0)
 
 -- the same of a chain in which a position was looked for
-abbrev pub located_reply : Located → Reply ℕ
-located_reply (AtPlace q p) = answer q.0
-located_reply (NoPlace r) = refused r
+abbrev pub located_reply : Result Located Refusal → Reply ℕ
+located_reply = replied (λ l. l.total.0)

@@ -4,8 +4,6 @@
 
 mod acceptance;
 
-pub use acceptance::{ChainRead, Located, data_length, locate_data};
-pub use places::{
-    BlockRead, DataBlock, DataPosition, FileAddress, OpenList, Place, data_block_at, data_of,
-};
-pub use steps::{NextRead, fragment_at, next_list};
+pub use acceptance::{Located, data_length, locate_data};
+pub use places::{DataBlock, DataPosition, FileAddress, OpenList, Place, data_block_at, data_of};
+pub use steps::{Next, fragment_at, next_list};
