@@ -1,5 +1,6 @@
 -- The line of a channel: of a tally, and of records none of which is valid.
-use Rattle.std.proofs.Common.{◌≡◌, ℕ, ◌+◌, ◌-◌, true, List, [], length, pos, ◌+ℤ◌, sym, refl, ap, ◌∙◌, arith, eq-eqb, ne_eqb}
+use Rattle.std.proofs.Common.{◌≡◌, ℕ, ◌+◌, ◌-◌, true, Bool, false, not, ◌==◌, List, [], length, pos, ◌+ℤ◌, sym, refl, ap, ◌∙◌, arith, eq-eqb, ne_eqb}
+use Rattle.std.specs.Prelude.{Option, Some, None}
 use lib.Ieee.{Float}
 use Rattle.definitions.specs.Reply.{Reply}
 use Rattle.definitions.specs.Channel.{ValidValue}
@@ -8,11 +9,13 @@ use Rattle.fields.specs.declared.form.Number.{Number}
 use Rattle.tally.specs.Words.{value_at}
 use Rattle.tally.specs.declared.report.Point.{Point}
 use Rattle.tally.specs.declared.report.Outermost.{Outermost}
+use Rattle.tally.specs.declared.report.Report.{Report}
 use Rattle.tally.specs.declared.sum.Sum.{Sum}
 use Rattle.tally.specs.declared.tally.Mark.{Mark}
 use Rattle.tally.specs.declared.tally.Tally.{Tally}
 use Rattle.tally.specs.Tallies.{total_of, excess_of, no_outermost, point_at, outermost_in, Tallied}
 use Rattle.tally.specs.Meaning.{point_meant, outermost_meant, sum_meant, report_meant}
+use Rattle.tally.proofs.Kept.{some_marks, no_marks}
 use Rattle.tally.proofs.Sums.{same_more}
 use Rattle.tally.proofs.Counts.{each_once, no_nan, no_points, no_sum}
 
@@ -21,14 +24,14 @@ use Rattle.tally.proofs.Counts.{each_once, no_nan, no_points, no_sum}
 pub point_told : (n : Number) (m : Mark) (v : Float) → v ≡ value_at n m.word → point_meant (record { number = m.number; value = v }) ≡ point_at n m
 point_told n m v e = rw e refl
 
-module _ (n : Number) (t : Tally) where
-  pub no_doubles_told : (o : Outermost) → t.valid ≡ t.nan → outermost_meant o ≡ no_outermost → outermost_meant o ≡ outermost_in n t
-  no_doubles_told o h e = rw (eq-eqb t.valid t.nan h) e
+module _ (n : Number) (t : Tally) {marks : Bool} (em : marks ≡ not (t.valid == t.nan)) where
+  pub no_doubles_told : marks ≡ false → no_outermost ≡ outermost_in n t
+  no_doubles_told h = rw (eq-eqb t.valid t.nan (no_marks t em h)) refl
 
-  pub doubles_told : (first last smallest largest : Point) → (t.valid ≡ t.nan → ⊥) → point_meant first ≡ point_at n t.first
+  pub doubles_told : (first last smallest largest : Point) → marks ≡ true → point_meant first ≡ point_at n t.first
       → point_meant last ≡ point_at n t.last → point_meant smallest ≡ point_at n t.smallest → point_meant largest ≡ point_at n t.largest
-      → outermost_meant (record { any = true; first = first; last = last; smallest = smallest; largest = largest }) ≡ outermost_in n t
-  doubles_told first last smallest largest h e f g i = rw (ne_eqb t.valid t.nan h, e, f, g, i) refl
+      → outermost_meant (Some (record { first = first; last = last; smallest = smallest; largest = largest })) ≡ outermost_in n t
+  doubles_told first last smallest largest h e f g i = rw (ne_eqb t.valid t.nan (some_marks t em h), e, f, g, i) refl
 
 -- ---- the whole line
 
@@ -36,7 +39,7 @@ nothing : no_outermost ≡ outermost []
 unfolding outermost
 nothing = refl
 
-module _ (xs : List (Reply ValidValue)) (o : Outermost) (s : Sum) where
+module _ (xs : List (Reply ValidValue)) (o : Option Outermost) (s : Sum) where
   told : {records valid invalid without nan : ℕ} → records ≡ length xs → valid ≡ count is_valid xs → invalid ≡ count is_invalid xs
       → without ≡ count has_no_value xs → nan ≡ count is_valid_nan xs → outermost_meant o ≡ outermost (points 0 xs) → sum_meant s ≡ sum_of xs
       → report_meant (record { records = records; valid = valid; invalid = invalid; without_value = without; nan = nan; doubles = o; sum = s }) ≡ report_of xs
@@ -48,7 +51,7 @@ module _ (xs : List (Reply ValidValue)) (o : Outermost) (s : Sum) where
 rest_invalid : (valid invalid without records : ℕ) → valid + invalid + without ≡ records → without ≡ 0 → records - valid ≡ invalid
 rest_invalid valid invalid without records e f = omega arith
 
-pub tallied_report : (n : Number) (t : Tally) (o : Outermost) (s : Sum) → outermost_meant o ≡ outermost_in n t
+pub tallied_report : (n : Number) (t : Tally) (o : Option Outermost) (s : Sum) → outermost_meant o ≡ outermost_in n t
     → sum_meant s +ℤ pos (excess_of n t.valid) ≡ pos (total_of t.total) → (xs : List (Reply ValidValue)) → Tallied n xs t
     → report_meant (record {
       records = t.records;
@@ -73,44 +76,51 @@ none_left valid other invalid records e f = (omega arith, omega arith)
 regroup : (valid invalid without records : ℕ) → valid + invalid + without ≡ records → valid + without + invalid ≡ records
 regroup valid invalid without records e = omega arith
 
-module _ (o : Outermost) (d : outermost_meant o ≡ no_outermost) (xs : List (Reply ValidValue)) where
+-- as the default is
+abbrev Nothing : Report → Type 0
+Nothing r =
+    (r.records ≡ 0) × ((r.valid ≡ 0) × ((r.invalid ≡ 0) × ((r.without_value ≡ 0) × ((r.nan ≡ 0) × ((r.doubles ≡ None) × ((r.sum.high ≡ pos 0) × (r.sum.low ≡ 0)))))))
+
+module _ (none : Report) (all_none : Nothing none) (xs : List (Reply ValidValue)) where
   silent : count is_valid xs ≡ 0 → {records invalid without : ℕ} → records ≡ length xs → invalid ≡ count is_invalid xs → without ≡ count has_no_value xs
       → report_meant (record {
         records = records;
-        valid = 0;
+        valid = none.valid;
         invalid = invalid;
         without_value = without;
-        nan = 0;
-        doubles = o;
-        sum = record { high = pos 0; low = 0 };
+        nan = none.nan;
+        doubles = none.doubles;
+        sum = none.sum;
       }) ≡ report_of xs
-  silent e f g h = told xs o (record { high = pos 0; low = 0 }) f (sym e) g h (sym (no_nan xs e)) (d ∙ nothing ∙ ap outermost (sym (no_points 0 xs e))) (sym (no_sum xs e))
+  silent e f g h =
+      rw (all_none.1.0, all_none.1.1.1.1.0, all_none.1.1.1.1.1.0, all_none.1.1.1.1.1.1.0, all_none.1.1.1.1.1.1.1)
+      (told xs None (record { high = pos 0; low = 0 }) f (sym e) g h (sym (no_nan xs e)) (nothing ∙ ap outermost (sym (no_points 0 xs e))) (sym (no_sum xs e)))
 
   pub valueless : {k : ℕ} → length xs ≡ k → count has_no_value xs ≡ k
       → report_meant (record {
         records = k;
-        valid = 0;
-        invalid = 0;
+        valid = none.valid;
+        invalid = none.invalid;
         without_value = k;
-        nan = 0;
-        doubles = o;
-        sum = record { high = pos 0; low = 0 };
+        nan = none.nan;
+        doubles = none.doubles;
+        sum = none.sum;
       }) ≡ report_of xs
   valueless e f =
       let left = none_left (count is_valid xs) (count has_no_value xs) (count is_invalid xs) (length xs) (each_once xs) (f ∙ sym e) in
-      silent left.0 (sym e) (sym left.1) (sym f)
+      silent left.0 (sym e) (all_none.1.1.0 ∙ sym left.1) (sym f)
 
   pub invalid_only : {k : ℕ} → length xs ≡ k → count is_invalid xs ≡ k
       → report_meant (record {
         records = k;
-        valid = 0;
+        valid = none.valid;
         invalid = k;
-        without_value = 0;
-        nan = 0;
-        doubles = o;
-        sum = record { high = pos 0; low = 0 };
+        without_value = none.without_value;
+        nan = none.nan;
+        doubles = none.doubles;
+        sum = none.sum;
       }) ≡ report_of xs
   invalid_only e f =
       let all = regroup (count is_valid xs) (count is_invalid xs) (count has_no_value xs) (length xs) (each_once xs) in
       let left = none_left (count is_valid xs) (count is_invalid xs) (count has_no_value xs) (length xs) all (f ∙ sym e) in
-      silent left.0 (sym e) (sym f) (sym left.1)
+      silent left.0 (sym e) (sym f) (all_none.1.1.1.0 ∙ sym left.1)

@@ -1,6 +1,7 @@
 -- What the code's report means in the definitions.
-use Rattle.std.specs.Prelude.{ℤ, pos, ◌+ℤ◌, ◌*ℤ◌}
+use Rattle.std.specs.Prelude.{ℤ, pos, ◌+ℤ◌, ◌*ℤ◌, true, Option, Some, None}
 use Rattle.definitions.specs.Report as defined
+use Rattle.tally.specs.Tallies.{no_outermost}
 use Rattle.tally.specs.declared.report.Point.{Point}
 use Rattle.tally.specs.declared.report.Outermost.{Outermost}
 use Rattle.tally.specs.declared.report.Report.{Report}
@@ -9,9 +10,11 @@ use Rattle.tally.specs.declared.sum.Sum.{Sum}
 abbrev pub point_meant : Point → defined.Point
 point_meant p = record { number = p.number; value = p.value }
 
-abbrev pub outermost_meant : Outermost → defined.Outermost
-outermost_meant o = record {
-  any = o.any;
+-- with none, all is 0
+abbrev pub outermost_meant : Option Outermost → defined.Outermost
+outermost_meant None = no_outermost
+outermost_meant (Some o) = record {
+  any = true;
   first = point_meant o.first;
   last = point_meant o.last;
   smallest = point_meant o.smallest;

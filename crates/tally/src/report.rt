@@ -3,32 +3,31 @@ ghost use Rattle.std.specs.Prelude.{◌≡◌, ◌^◌, ◌<◌, List, length};
 ghost use Rattle.definitions.specs.Reply.{Reply};
 ghost use Rattle.definitions.specs.Channel.{ValidValue};
 ghost use Rattle.definitions.specs.Report.{count, has_no_value, is_invalid, report_of};
-ghost use Rattle.tally.specs.Tallies.{Sane, Tallied, no_outermost, point_at, outermost_in};
+ghost use Rattle.tally.specs.Tallies.{Sane, Tallied, point_at, outermost_in};
 ghost use Rattle.tally.specs.Meaning.{point_meant, outermost_meant, report_meant};
 
 use crate::order::value_at;
 use crate::sum::{Sum, sum_of};
-use crate::tally::{Mark, Tally};
+use crate::tally::{Mark, Tally, has_marks};
 use fields::Number;
 
 // A double, and the number of its record
-#[derive(Clone, Copy)]
+#[derive(Clone, Copy, Debug, PartialEq)]
 pub struct Point {
     pub number: u64,
     pub value: f64,
 }
 
-// The valid doubles that are no NaN. Without any, all is 0.
-#[derive(Clone, Copy)]
+// The valid doubles that are no NaN, where there are any
+#[derive(Clone, Copy, Debug, PartialEq)]
 pub struct Outermost {
-    pub any: bool,
     pub first: Point,
     pub last: Point,
     pub smallest: Point,
     pub largest: Point,
 }
 
-#[derive(Clone, Copy)]
+#[derive(Clone, Copy, Debug, Default, PartialEq)]
 pub struct Report {
     pub records: u64,
     pub valid: u64,
@@ -36,25 +35,9 @@ pub struct Report {
     pub without_value: u64,
     // of the valid ones
     pub nan: u64,
-    pub doubles: Outermost,
+    pub doubles: Option<Outermost>,
     // of the valid integers
     pub sum: Sum,
-}
-
-fn no_doubles() -> Outermost
-    ensures { outermost_meant result ≡ no_outermost }
-{
-    let none = Point {
-        number: 0,
-        value: 0.0,
-    };
-    Outermost {
-        any: false,
-        first: none,
-        last: none,
-        smallest: none,
-        largest: none,
-    }
 }
 
 fn point_at(number: Number, mark: Mark) -> Point
@@ -66,39 +49,32 @@ fn point_at(number: Number, mark: Mark) -> Point
     }
 }
 
-fn doubles_of(number: Number, tally: Tally) -> Outermost
+fn doubles_of(number: Number, tally: Tally) -> Option<Outermost>
     ensures { outermost_meant result ≡ outermost_in number tally }
 {
-    if tally.valid == tally.nan {
-        return no_doubles();
+    if !has_marks(tally) {
+        return None;
     }
-    let first = point_at(number, tally.first);
-    let last = point_at(number, tally.last);
-    let smallest = point_at(number, tally.smallest);
-    let largest = point_at(number, tally.largest);
-    Outermost {
-        any: true,
-        first,
-        last,
-        smallest,
-        largest,
-    }
+    Some(Outermost {
+        first: point_at(number, tally.first),
+        last: point_at(number, tally.last),
+        smallest: point_at(number, tally.smallest),
+        largest: point_at(number, tally.largest),
+    })
 }
 
 pub fn report_of(number: Number, tally: Tally) -> Report
     requires { (tally.records < 2 ^ 63) × (Sane tally) }
     ensures { (xs : List (Reply ValidValue)) → Tallied number xs tally → report_meant result ≡ report_of xs }
 {
-    let doubles = doubles_of(number, tally);
-    let sum = sum_of(number, tally.total, tally.valid);
     Report {
         records: tally.records,
         valid: tally.valid,
         invalid: tally.records - tally.valid,
         without_value: 0,
         nan: tally.nan,
-        doubles,
-        sum,
+        doubles: doubles_of(number, tally),
+        sum: sum_of(number, tally.total, tally.valid),
     }
 }
 
@@ -106,15 +82,10 @@ pub fn report_of(number: Number, tally: Tally) -> Report
 pub fn valueless_report(records: u64) -> Report
     ensures { (xs : List (Reply ValidValue)) → length xs ≡ records → count has_no_value xs ≡ records → report_meant result ≡ report_of xs }
 {
-    let doubles = no_doubles();
     Report {
         records,
-        valid: 0,
-        invalid: 0,
         without_value: records,
-        nan: 0,
-        doubles,
-        sum: Sum { high: 0, low: 0 },
+        ..Report::default()
     }
 }
 
@@ -122,14 +93,9 @@ pub fn valueless_report(records: u64) -> Report
 pub fn invalid_report(records: u64) -> Report
     ensures { (xs : List (Reply ValidValue)) → length xs ≡ records → count is_invalid xs ≡ records → report_meant result ≡ report_of xs }
 {
-    let doubles = no_doubles();
     Report {
         records,
-        valid: 0,
         invalid: records,
-        without_value: 0,
-        nan: 0,
-        doubles,
-        sum: Sum { high: 0, low: 0 },
+        ..Report::default()
     }
 }

@@ -8,14 +8,14 @@ use fields::Number;
 use std::num::{wrapping_add_u64, wrapping_sub_u64};
 
 // high * 2^64 + low
-#[derive(Clone, Copy)]
+#[derive(Clone, Copy, Debug, Default, PartialEq, Eq)]
 pub struct Total {
     pub high: u64,
     pub low: u64,
 }
 
 // high * 2^64 + low, in two's complement of 128 bits
-#[derive(Clone, Copy)]
+#[derive(Clone, Copy, Debug, Default, PartialEq, Eq)]
 pub struct Sum {
     pub high: i64,
     pub low: u64,

@@ -9,13 +9,13 @@ use doubles::value_of;
 use fields::Number;
 
 // A number as a word, and the number of its record
-#[derive(Clone, Copy)]
+#[derive(Clone, Copy, Debug, Default, PartialEq, Eq)]
 pub struct Mark {
     pub number: u64,
     pub word: u64,
 }
 
-#[derive(Clone, Copy)]
+#[derive(Clone, Copy, Debug, Default, PartialEq, Eq)]
 pub struct Tally {
     // of all of which `valid` are valid, and of these `nan` are NaN
     pub records: u64,
@@ -33,17 +33,7 @@ pub struct Tally {
 pub fn empty_tally() -> Tally
     ensures { result ≡ empty_tally }
 {
-    let none = Mark { number: 0, word: 0 };
-    Tally {
-        records: 0,
-        valid: 0,
-        nan: 0,
-        total: Total { high: 0, low: 0 },
-        first: none,
-        last: none,
-        smallest: none,
-        largest: none,
-    }
+    Tally::default()
 }
 
 // One record more whose value is invalid

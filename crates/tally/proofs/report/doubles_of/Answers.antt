@@ -1,10 +1,9 @@
 use Rattle.tally.proofs.Reports.{no_doubles_told, doubles_told}
 use Rattle.tally.proofs.report.doubles_of.Goals as goal
 
-pub returns-then-tally : goal.returns-then-tally
-returns-then-tally c =
-    no_doubles_told c.args.number c.args.tally _ c.if-tally.true c.no_doubles.ensures
+pub returns-then-not-has_marks : goal.returns-then-not-has_marks
+returns-then-not-has_marks c = no_doubles_told c.args.number c.args.tally c.has_marks.ensures c.if-not-has_marks.true
 
 pub returns : goal.returns
 returns c =
-    doubles_told c.args.number c.args.tally _ _ _ _ c.if-tally.false c.point_at-first.ensures c.point_at-last.ensures c.point_at-smallest.ensures c.point_at-largest.ensures
+    doubles_told c.args.number c.args.tally c.has_marks.ensures _ _ _ _ c.if-not-has_marks.false c.point_at.ensures c.point_at-2.ensures c.point_at-3.ensures c.point_at-4.ensures
