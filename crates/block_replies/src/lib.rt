@@ -8,8 +8,8 @@ mod header;
 mod list;
 mod written;
 
-pub use channel::{Mf4Channel, channel_of};
-pub use channel_block::{Mf4ChannelBlock, Mf4ChannelReply, block_of, channel_reply};
-pub use header::{Mf4Header, Mf4HeaderReply, header_of, header_reply};
-pub use list::{Mf4ListReply, list_reply};
-pub use written::{Mf4WrittenReply, written_reply};
+pub use channel::Mf4Channel;
+pub use channel_block::{Mf4ChannelBlock, Mf4ChannelReply};
+pub use header::{Mf4Header, Mf4HeaderReply};
+pub use list::Mf4ListReply;
+pub use written::Mf4WrittenReply;

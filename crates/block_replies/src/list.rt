@@ -3,11 +3,12 @@ ghost use Rattle.std.specs.Prelude.{◌≡◌};
 ghost use Rattle.blocks.specs.Meaning.{list_reply};
 ghost use Rattle.block_replies.specs.Replies.{list_c};
 
-use crate::header::{Mf4Header, header_told, no_header};
-use blocks::ListRead;
+use crate::header::Mf4Header;
+use blocks::DataListBlock;
+use refusals::Refusal;
 
 #[repr(C)]
-#[derive(Clone, Copy)]
+#[derive(Clone, Copy, Debug, Default, PartialEq, Eq)]
 pub struct Mf4ListReply {
     pub reply: u32,
     pub told: u64,
@@ -22,36 +23,29 @@ pub struct Mf4ListReply {
     pub rest_count: u64,
 }
 
-pub fn list_reply(read: ListRead) -> Mf4ListReply
-    ensures { result ≡ list_c (list_reply read) }
-{
-    let ListRead::List(d) = read else {
-        let why = read.refusal();
-        return Mf4ListReply {
-            reply: why.number(),
-            told: why.told(),
-            header: no_header(),
-            next_addr: 0,
-            data_links_at: 0,
-            data_link_count: 0,
-            flags: 0,
-            reserved1: 0,
-            data_block_count: 0,
-            rest_at: 0,
-            rest_count: 0,
-        };
-    };
-    Mf4ListReply {
-        reply: 0,
-        told: 0,
-        header: header_told(d.header),
-        next_addr: d.next,
-        data_links_at: d.links_at,
-        data_link_count: d.links,
-        flags: d.flags,
-        reserved1: d.reserved1,
-        data_block_count: d.data_block_nr,
-        rest_at: d.rest_at,
-        rest_count: d.rest,
+impl From<Result<DataListBlock, Refusal>> for Mf4ListReply {
+    ghost from_gives = { λ read reply. reply ≡ list_c (list_reply read) };
+
+    fn from(read: Result<DataListBlock, Refusal>) -> Mf4ListReply {
+        match read {
+            Ok(d) => Mf4ListReply {
+                reply: 0,
+                told: 0,
+                header: d.header.into(),
+                next_addr: d.next,
+                data_links_at: d.links_at,
+                data_link_count: d.links,
+                flags: d.flags,
+                reserved1: d.reserved1,
+                data_block_count: d.data_block_nr,
+                rest_at: d.rest_at,
+                rest_count: d.rest,
+            },
+            Err(why) => Mf4ListReply {
+                reply: why.number(),
+                told: why.told(),
+                ..Mf4ListReply::default()
+            },
+        }
     }
 }

@@ -3,10 +3,10 @@ ghost use Rattle.std.specs.Prelude.{◌≡◌};
 ghost use Rattle.blocks.specs.Meaning.{written_reply};
 ghost use Rattle.block_replies.specs.Replies.{written_c};
 
-use blocks::Written;
+use refusals::Refusal;
 
 #[repr(C)]
-#[derive(Clone, Copy)]
+#[derive(Clone, Copy, Debug, Default, PartialEq, Eq)]
 pub struct Mf4WrittenReply {
     // 0: the bytes were written; else the refusal's number
     pub reply: u32,
@@ -14,20 +14,21 @@ pub struct Mf4WrittenReply {
     pub count: u64,
 }
 
-pub fn written_reply(written: Written) -> Mf4WrittenReply
-    ensures { result ≡ written_c (written_reply written) }
-{
-    let Written::Bytes(count) = written else {
-        let why = written.refusal();
-        return Mf4WrittenReply {
-            reply: why.number(),
-            told: why.told(),
-            count: 0,
-        };
-    };
-    Mf4WrittenReply {
-        reply: 0,
-        told: 0,
-        count,
+impl From<Result<u64, Refusal>> for Mf4WrittenReply {
+    ghost from_gives = { λ written reply. reply ≡ written_c (written_reply written) };
+
+    fn from(written: Result<u64, Refusal>) -> Mf4WrittenReply {
+        match written {
+            Ok(count) => Mf4WrittenReply {
+                reply: 0,
+                told: 0,
+                count,
+            },
+            Err(why) => Mf4WrittenReply {
+                reply: why.number(),
+                told: why.told(),
+                count: 0,
+            },
+        }
     }
 }
