@@ -6,7 +6,8 @@ use native.Mathlib.Omega.{arith}
 use lib.ListN.{length, get_or}
 use lib.Pow.{high, shr-shr}
 use Rattle.definitions.specs.Bytes.{Order, little, big, number_of, le, span, bits, bytes_for, field_at}
-use Rattle.words.proofs.Numbers.{Bytes, lower, upper, length_le, bytes_le}
+use Rattle.words.specs.Sides.{lower, upper}
+use Rattle.words.proofs.Numbers.{Bytes, length_le, bytes_le}
 use Rattle.words.proofs.Spans.{split, more, span_below, span_whole}
 use Rattle.bit_fields.proofs.Bits.{above}
 
@@ -59,9 +60,8 @@ module _ (o : Order) (s : List ℕ) (p count : ℕ) {r word : ℕ} where
       er ∙ ap (λ (x : ℕ). bits x offset count)
       (ap₂ (λ (x y : ℕ). x * 2 ^ 64 + y) eb ew ∙ sym (more o s p 8 (omega arith)) ∙ ap (λ (n : ℕ). number_of o (span s p n)) (sym en))
 
--- the bits below that field in the word, in either order
-pub low_le : (from : ℕ) → from ≡ 8 * (from / 8) + from % 8
-low_le from = omega arith
-
-pub low_be : (from count : ℕ) → from + count ≤ 64 → (64 - from - count) / 8 * 8 + from % 8 ≡ 8 * (8 - from / 8 - bytes_for (from % 8) count) + from % 8
-low_be from count h = omega arith
+-- the bits below that field in the word: those of the bytes that weigh less, and those of its own first byte
+pub low : (o : Order) (from count : ℕ) {below : ℕ} → from + count ≤ 64 → below ≡ lower o (from / 8) ((64 - from - count) / 8)
+    → below * 8 + from % 8 ≡ 8 * lower o (from / 8) (8 - from / 8 - bytes_for (from % 8) count) + from % 8
+low little from count h e = omega arith
+low big from count h e = omega arith

@@ -1,16 +1,18 @@
 -- The ways in which a field is replaced: the word, or the word and the byte, that a way stores.
-use mathlib.Core.Path.{◌≡◌, sym, ap, ap₂, ◌∙◌}
+use mathlib.Core.Path.{◌≡◌, refl, sym, ap, ap₂, ◌∙◌}
 use mathlib.Core.List.{List, [], ◌∷◌}
-use Prim.Native.Nat.{ℕ, ◌+◌, ◌-◌, ◌*◌, ◌/◌, ◌%◌, ◌^◌, ◌≤◌, ◌<◌}
+use Prim.Native.Nat.{ℕ, suc, ◌+◌, ◌-◌, ◌*◌, ◌/◌, ◌%◌, ◌^◌, ◌≤◌, ◌<◌}
 use native.Mathlib.Nat.{div-one, mod-lt}
 use native.Mathlib.Numerals.{add-one}
 use native.Mathlib.Omega.{arith}
 use lib.ListN.{length, get_or, set}
 use lib.Seq.{sets}
+use Rattle.std.proofs.lemmas.List.{set_comm}
 use lib.Pow.{pow_pos, shr_lt}
 use Rattle.definitions.specs.Bytes.{Order, little, big, le, number_of, bytes_of, span, bits, bytes_for, with_bits, field_set}
 use Rattle.definitions.proofs.Stores.{sets_then}
-use Rattle.words.proofs.Numbers.{Bytes, lower, upper, length_le}
+use Rattle.words.specs.Sides.{lower, upper}
+use Rattle.words.proofs.Numbers.{Bytes, length_le}
 use Rattle.words.proofs.Spans.{more, span_below}
 use Rattle.bit_fields.proofs.Replaced.{stays_below, in_two}
 use Rattle.words.proofs.BytesOf.{nine_bytes, with_top}
@@ -72,12 +74,19 @@ module _ (o : Order) (s : List ℕ) (at offset count x : ℕ) where
           (nine_bytes o b w (rw eb (high_byte byte offset count x (rw ebyte (bs (upper o at (at + 8)))) starts few over fits))
           (rw ew (stays_below word offset (64 - offset) (x % 2 ^ (64 - offset)) (mod-lt x (pow_pos (64 - offset))) 64 (omega arith) word_below)))
 
--- the word first, then the byte
-pub far_le : (s : List ℕ) (at b w : ℕ) {t u : List ℕ} → t ≡ sets s at (le 8 w) → u ≡ set t (at + 8) b → u ≡ sets s at (with_top little (b ∷ []) (bytes_of little 8 w))
-far_le s at b w et eu =
+-- a byte stored below others may as well be stored first
+byte_first : (vs l : List ℕ) (i j b : ℕ) → i < j → set (sets l j vs) i b ≡ sets (set l i b) j vs
+byte_first [] l i j b h = refl
+byte_first (v ∷ vs) l i j b h =
+    byte_first vs (set l j v) i (suc j) b (omega arith)
+    ∙ ap (λ (x : List ℕ). sets x (suc j) vs) (set_comm l j i v b (λ e. omega arith))
+
+-- the word, and then the byte above it
+pub far_stored : (o : Order) (s : List ℕ) (at b w : ℕ) {t u : List ℕ} → t ≡ sets s (lower o at (at + 1)) (bytes_of o 8 w) → u ≡ set t (upper o at (at + 8)) b
+    → u ≡ sets s at (with_top o (b ∷ []) (bytes_of o 8 w))
+far_stored little s at b w et eu =
     eu ∙ ap (λ (l : List ℕ). set l (at + 8) b) et
     ∙ sets_then s at (at + 8) (le 8 w) (b ∷ []) (ap (λ (k : ℕ). at + k) (sym (length_le 8 w)))
-
--- the byte first, then the word
-pub far_be : (s : List ℕ) (at b w : ℕ) {t u : List ℕ} → t ≡ set s at b → u ≡ sets t (at + 1) (bytes_of big 8 w) → u ≡ sets s at (with_top big (b ∷ []) (bytes_of big 8 w))
-far_be s at b w et eu = eu ∙ ap₂ (λ (l : List ℕ) (k : ℕ). sets l k (bytes_of big 8 w)) et (add-one at)
+far_stored big s at b w et eu =
+    eu ∙ ap (λ (l : List ℕ). set l at b) et ∙ byte_first (bytes_of big 8 w) s at (at + 1) b (omega arith)
+    ∙ ap (λ (k : ℕ). sets (set s at b) k (bytes_of big 8 w)) (add-one at)

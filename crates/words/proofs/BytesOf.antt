@@ -9,7 +9,7 @@ use lib.Seq.{take_at}
 use lib.Arith.{digits_lt}
 use Rattle.definitions.specs.Bytes.{Order, little, big, le_of, number_of, le, bytes_of}
 use Rattle.words.proofs.Numbers.{Bytes, append, bytes_append, bytes_cons, bytes_reverse, length_le, bytes_le, le_back, back_le, one_number}
-use Rattle.words.proofs.ByteOrder.{le_split}
+use Rattle.words.proofs.OtherOrder.{le_split}
 use Rattle.words.proofs.Shifts.{keep}
 
 pub length_of : (o : Order) (n x : ℕ) → length (bytes_of o n x) ≡ n

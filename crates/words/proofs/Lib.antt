@@ -1,7 +1,7 @@
 -- The laws of bytes and words, for the proofs here and in the crates above.
 pub mod Numbers
 pub mod Spans
-pub mod ByteOrder
+pub mod OtherOrder
 pub mod Loads
 pub mod Stores
 pub mod Shifts

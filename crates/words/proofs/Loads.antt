@@ -9,7 +9,7 @@ use lib.Bits.{bit_or, or_shifted}
 use Rattle.definitions.specs.Bytes.{little, le_of, number_of, le, span}
 use Rattle.words.proofs.Numbers.{Bytes}
 use Rattle.words.proofs.Spans.{length_span, span_middle, span_split, split, span_below}
-use Rattle.words.proofs.ByteOrder.{lower_bytes}
+use Rattle.words.proofs.OtherOrder.{lower_bytes}
 
 -- n bytes by two loads of `size` bytes: the second ends with them, and what the first has too is shifted out of it
 module _ (s : List ℕ) (at n size : ℕ) (bs : Bytes s) (room : at + n ≤ length s) (some : size ≤ n) (few : n ≤ 2 * size) (word : n ≤ 8) where

@@ -8,19 +8,11 @@ use lib.ListN.{length, get_or, length-append, length-reverse}
 use lib.Arith.{digits_lt}
 use lib.Pow.{pow-add, mod-pow-add, high, low}
 use Rattle.definitions.specs.Bytes.{Order, little, big, le_of, number_of, le, les, u64s_at}
+use Rattle.words.specs.Sides.{lower, upper}
 
 -- every element is a byte, as the logic says it of a slice of them
 abbrev pub Bytes : List ℕ → Type 0
 Bytes xs = (i : ℕ) → get_or xs i 0 < 256
-
--- of two neighbours in the bytes, the one that weighs less, and the other
-abbrev pub lower : {A : Type 0} → Order → A → A → A
-lower little x y = x
-lower big x y = y
-
-abbrev pub upper : {A : Type 0} → Order → A → A → A
-upper little x y = y
-upper big x y = x
 
 -- one byte more of weight
 pub up : (n : ℕ) → 2 ^ (8 * suc n) ≡ 2 ^ (8 * n) * 256

@@ -6,7 +6,8 @@ use native.Mathlib.Omega.{arith}
 use lib.ListN.{length, take, drop, get_or, length-take, length-drop}
 use lib.Seq.{drop-cons, get_or-drop, get_or-take, drop-drop, take_all, take-add, take-append_seam, drop-append_seam}
 use Rattle.definitions.specs.Bytes.{Order, little, big, le_of, number_of, span}
-use Rattle.words.proofs.Numbers.{Bytes, lower, upper, append, below}
+use Rattle.words.specs.Sides.{lower, upper}
+use Rattle.words.proofs.Numbers.{Bytes, append, below}
 
 bytes_take : (n : ℕ) (xs : List ℕ) → Bytes xs → Bytes (take n xs)
 bytes_take zero xs h i = omega arith

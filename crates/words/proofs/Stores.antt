@@ -10,7 +10,7 @@ use Rattle.definitions.specs.Bytes.{le_of, le, les, span, u64_at, u64s_at}
 use Rattle.definitions.proofs.Stores.{sets_append, sets_then, sets_front}
 use Rattle.words.proofs.Numbers.{length_le, length_u64s, le_back}
 use Rattle.words.proofs.Spans.{span_middle}
-use Rattle.words.proofs.ByteOrder.{le_split}
+use Rattle.words.proofs.OtherOrder.{le_split}
 
 -- a turn of the loop that stores one byte after another
 pub turn_byte : (out : List ℕ) (at i n w : ℕ) → i < n

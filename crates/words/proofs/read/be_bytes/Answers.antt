@@ -1,6 +1,6 @@
 -- The bytes of the word that are not read stand below in the swapped one, and are shifted out.
 use mathlib.Core.Path.{refl}
-use Rattle.words.proofs.ByteOrder.{in_other_order}
+use Rattle.words.proofs.OtherOrder.{in_other_order}
 use Rattle.words.proofs.read.be_bytes.Goals as goal
 
 pub returns : goal.returns

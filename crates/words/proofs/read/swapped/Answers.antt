@@ -1,7 +1,7 @@
 -- What is done stands above what is left.
 use mathlib.Core.Path.{refl}
 use native.Mathlib.Omega.{arith}
-use Rattle.words.proofs.ByteOrder.{swap_start, swap_turn, swap_end}
+use Rattle.words.proofs.OtherOrder.{swap_start, swap_turn, swap_end}
 use Rattle.words.proofs.read.swapped.Goals as goal
 
 pub loop-left-init : goal.loop-left-init

@@ -1,6 +1,6 @@
 -- The word that begins at the offset is put together of the word and the byte, and cut.
 use Rattle.words.proofs.Shifts.{cut_window}
-use Rattle.bit_fields.proofs.field.cut_nine.Goals as goal
+use Rattle.bit_fields.proofs.read.cut_nine.Goals as goal
 
 pub returns : goal.returns
 returns c =

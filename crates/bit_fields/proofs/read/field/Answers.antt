@@ -2,9 +2,9 @@
 use mathlib.Core.Path.{ap, ◌∙◌}
 use Prim.Native.Nat.{ℕ}
 use Rattle.definitions.specs.Bytes.{bits}
-use Rattle.bit_fields.proofs.field.field_le.Goals as goal
+use Rattle.bit_fields.proofs.read.field.Goals as goal
 
 pub returns : goal.returns
-returns c =
+returns g c =
     let a = c.args in
-    c.cut.ensures ∙ ap (λ (x : ℕ). bits x a.offset a.count) c.few_le_bytes.ensures
+    c.cut.ensures ∙ ap (λ (x : ℕ). bits x a.offset a.count) c.few_bytes.ensures
