@@ -10,12 +10,11 @@ use lib.Dec.{T, leb}
 use lib.Ieee.{Float, nan, binary32, binary64, is_nan, fits, of_bits, to_bits}
 use lib.Ieee.Bits.{of_bits-to_bits, to_bits-of_bits, of_bits-fits, to_bits-lt, nan_bits_is}
 use borrow.Author.Tests.{leb-true, leb-false, le-leb, lt-leb, eqb-true, eq-eqb, ne_eqb}
+use Rattle.std.specs.Prelude.{Option, Some, None}
 use Rattle.definitions.specs.Reply.{Reply, answer, refusal}
 use Rattle.definitions.specs.Ieee754.{nan_pattern, widened, narrowed, narrows}
 use Rattle.definitions.specs.WrittenValue.{fitting}
 use Rattle.doubles.specs.Meaning.{narrow_meant, OnlyOne}
-use Rattle.doubles.specs.declared.narrowing.Narrowed.{Narrowed}
-use Rattle.doubles.specs.declared.narrowing.Narrowed.TheVariants.{Single, Wider}
 use Rattle.doubles.proofs.Pattern.{sign_bit}
 use Rattle.definitions.proofs.Replies.{le_or_lt, one_by}
 use Rattle.doubles.proofs.Nan.{nan_above, no_nan_below}
@@ -71,16 +70,16 @@ come_back_only x e = elim (le_or_lt (x % 2 ^ 31) 0x7f80_0000) [
 
 -- ---- as a program makes it: b is no NaN, and c is tried
 
-abbrev narrow_again : Reply ℕ → Narrowed
-narrow_again (answer x) = Single x
-narrow_again (refusal n t) = Wider
+abbrev narrow_again : Reply ℕ → Option ℕ
+narrow_again (answer x) = Some x
+narrow_again (refusal n t) = None
 
-again : (r : Narrowed) → narrow_again (narrow_meant r) ≡ r
-again (Single x) = refl
-again Wider = refl
+again : (r : Option ℕ) → narrow_again (narrow_meant r) ≡ r
+again (Some x) = refl
+again None = refl
 
 -- the meaning is one-to-one
-pub narrow_one : (r q : Narrowed) → narrow_meant r ≡ narrow_meant q → r ≡ q
+pub narrow_one : (r q : Option ℕ) → narrow_meant r ≡ narrow_meant q → r ≡ q
 narrow_one = one_by narrow_meant narrow_again again
 
 pub nan_way : answer 0x7fc0_0000 ≡ fitting (narrows nan_pattern) (narrowed nan_pattern)

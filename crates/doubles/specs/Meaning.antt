@@ -1,13 +1,11 @@
 -- What the code's own types mean in the definitions, and what is known on the way.
-use Rattle.std.specs.Prelude.{◌≡◌, ℕ, ◌≤◌}
+use Rattle.std.specs.Prelude.{◌≡◌, ℕ, ◌≤◌, Option, Some, None}
 use Rattle.definitions.specs.Reply.{Reply, answer, refusal}
 use Rattle.definitions.specs.Ieee754.{widened}
-use Rattle.doubles.specs.declared.narrowing.Narrowed.{Narrowed}
-use Rattle.doubles.specs.declared.narrowing.Narrowed.TheVariants.{Single, Wider}
 
-abbrev pub narrow_meant : Narrowed → Reply ℕ
-narrow_meant (Single x) = answer x
-narrow_meant Wider = refusal 24 0
+abbrev pub narrow_meant : Option ℕ → Reply ℕ
+narrow_meant (Some x) = answer x
+narrow_meant None = refusal 24 0
 
 -- of the 32-bit patterns with a clear sign that are no NaN's, none but r can widen to m
 abbrev pub OnlyOne : ℕ → ℕ → Type 0

@@ -8,7 +8,7 @@ mod sign;
 mod value;
 mod widening;
 
-pub use narrowing::{Narrowed, narrow};
+pub use narrowing::narrow;
 pub use patterns::NAN;
 pub use round::double_of;
 pub use sign::{double_of_sign, double_of_signed, magnitude_less_one};

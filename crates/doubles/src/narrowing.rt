@@ -10,13 +10,6 @@ use crate::patterns::{
 };
 use crate::widening::widen;
 
-// The pattern that widens to a double's, or none: the double is wider.
-#[derive(Clone, Copy)]
-pub enum Narrowed {
-    Single(u32),
-    Wider,
-}
-
 // The least normal 32-bit float as a double, and 2^128, which is above every finite one.
 const LEAST_NORMAL: u64 = ((LEAST_NORMAL_32 as u64) << MORE_FRACTION_BITS) + MORE_BIAS;
 
@@ -59,17 +52,17 @@ fn with_sign_32(negative: bool, pattern: u32) -> u32
     if negative { SIGN_32 + pattern } else { pattern }
 }
 
-// The 32-bit pattern that widens to a double's, where there is one. Of the NaNs that is so of one, its sign clear.
-pub fn narrow(bits: u64) -> Narrowed
+// The 32-bit pattern that widens to a double's; none where the double is wider. Of the NaNs that is so of one, its sign clear.
+pub fn narrow(bits: u64) -> Option<u32>
     ensures { narrow_meant result ≡ fitting (narrows bits) (narrowed bits) }
 {
     if bits == NAN {
-        return Narrowed::Single(NAN_32);
+        return Some(NAN_32);
     }
     let magnitude = narrow_magnitude(bits & ALL_BUT_SIGN);
     let single = with_sign_32(bits >= SIGN, magnitude);
     if widen(single) == bits {
-        return Narrowed::Single(single);
+        return Some(single);
     }
-    Narrowed::Wider
+    None
 }
