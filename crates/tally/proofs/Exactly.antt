@@ -88,11 +88,3 @@ module _ (signed : Bool) (a b : ℕ) where
 
   pub told_exact : a < b → Exact signed a b → lt (value_at (integer_kind signed) a) (value_at (integer_kind signed) b) ≡ ltb a b
   told_exact h e = exact_below signed a b h e ∙ sym (lt-ltb a b h)
-
--- ---- what a program asks for that
-
-pub exact_signed : (signed : Bool) (a b : ℕ) → signed ≡ true → signed_zero - 2 ^ 53 ≤ a → b ≤ signed_zero + 2 ^ 53 → Exact signed a b
-exact_signed signed a b e low high = rw e (low, high)
-
-pub exact_unsigned : (signed : Bool) (a b : ℕ) → signed ≡ false → b ≤ 2 ^ 53 → Exact signed a b
-exact_unsigned signed a b e h = rw e h

@@ -1,13 +1,12 @@
 -- What a program keeps of two marks, and of a tally with one record more.
-use Rattle.std.proofs.Common.{◌≡◌, ℕ, ◌+◌, Bool, true, false, not, eqb, ltb, sym, refl, ap, ◌∙◌, true≢false, eq-eqb, ne_eqb, eqb-true}
+use Rattle.std.proofs.Common.{◌≡◌, ℕ, Bool, true, false, not, eqb, ltb, sym, refl, ap, ◌∙◌, true≢false, eq-eqb, ne_eqb, eqb-true}
 use borrow.Author.Tests.{not-false}
 use lib.Ieee.{lt, is_nan}
 use Rattle.fields.specs.declared.form.Number.{Number}
-use Rattle.tally.specs.Words.{integer_kind, value_at}
-use Rattle.tally.specs.declared.sum.Total.{Total}
+use Rattle.tally.specs.Words.{value_at}
 use Rattle.tally.specs.declared.tally.Mark.{Mark}
 use Rattle.tally.specs.declared.tally.Tally.{Tally}
-use Rattle.tally.specs.Tallies.{added_total, HasMarks, Inner, Clear, nan_tally, last_tally, with_extremes, marked_tally, counted_tally}
+use Rattle.tally.specs.Tallies.{HasMarks, Inner, Clear, nan_tally, last_tally, with_extremes, marked_tally, counted_tally}
 
 -- ---- whether there are marks
 
@@ -19,21 +18,6 @@ module _ (t : Tally) {b : Bool} (e : b ≡ not (eqb t.valid t.nan)) where
   no_marks h = eqb-true t.valid t.nan (not-false (eqb t.valid t.nan) (sym e ∙ h))
 
 -- ---- one more
-
--- integers of either kind are added up
-pub integer_last : (t : Tally) (word : ℕ) (total : Total) → total ≡ added_total t.total word → (signed : Bool)
-    → record {
-      records = t.records + 1;
-      valid = t.valid + 1;
-      nan = t.nan;
-      total = total;
-      first = t.first;
-      last = record { number = t.records; word = word };
-      smallest = t.smallest;
-      largest = t.largest;
-    } ≡ last_tally (integer_kind signed) t word
-integer_last t word total e true = rw e refl
-integer_last t word total e false = rw e refl
 
 module _ (n : Number) (t : Tally) (word : ℕ) where
   abbrev mark : Mark

@@ -1,11 +1,9 @@
 -- The doubles of words, and their order.
-use Rattle.std.proofs.Common.{◌≡◌, ℕ, suc, ◌-◌, ◌<◌, ◌≤◌, Bool, true, false, cond, not, T, ltb, [], ◌∷◌, ℤ, pos, negsuc, ◌-ℤ◌, ◌≤ℤ◌, sym, refl, ap, ◌∙◌, subst, true≢false, arith, le→leb, ltb-false, ltb-true, le-ltb, lt-ltb}
+use Rattle.std.proofs.Common.{◌≡◌, ℕ, suc, ◌-◌, ◌<◌, ◌≤◌, Bool, true, false, cond, T, ltb, [], ◌∷◌, ℤ, pos, negsuc, ◌-ℤ◌, ◌≤ℤ◌, sym, refl, ap, ◌∙◌, subst, arith, le→leb, ltb-false, ltb-true, le-ltb, lt-ltb}
 use types.Run.{OneOf, hit, miss}
 use denote.Enum.Declared.{tag_of}
-use borrow.Author.Tests.{not-true}
 use lib.Signed.{le_z}
-use lib.Ieee.{Float, nan, inf, fin, binary64, of_bits, lt, ne, is_nan}
-use lib.Ieee.Compare.{differs_from_itself, nan_differs}
+use lib.Ieee.{Float, binary64, of_bits, lt, is_nan}
 use Rattle.definitions.specs.Ieee754.{double_of, double_of_sign}
 use Rattle.doubles.proofs.Whole.{of_negative}
 use Rattle.doubles.proofs.Nan.{integer_never_nan}
@@ -81,23 +79,12 @@ not_below_law float a b i h = absurd (miss (0 ∷ 1 ∷ []) 2 tt i)
 pub same_order : {v w x y : Float} → v ≡ x → w ≡ y → lt v w ≡ lt x y
 same_order {v} {w} {x} {y} e f = ap (λ (z : Float). lt z w) e ∙ ap (lt x) f
 
--- ---- no integer's double is a NaN; a NaN differs from itself, and nothing else does
+-- ---- no integer's double is a NaN
 
 pub integer_no_nan : (n : Number) (word : ℕ) → OneOf (0 ∷ 1 ∷ []) (tag_of the_type n) → false ≡ is_nan (value_at n word)
 integer_no_nan Unsigned word i = sym (integer_never_nan (pos word))
 integer_no_nan Signed word i = sym (integer_never_nan (pos word -ℤ pos signed_zero))
 integer_no_nan float word i = absurd (miss (0 ∷ 1 ∷ []) 2 tt i)
-
-differs : (x : Float) (t : Bool) → ne x x ≡ t → t ≡ is_nan x
-unfolding is_nan
-differs nan t e = sym e ∙ nan_differs
-differs (inf s) true e = ap is_nan (sym (differs_from_itself (inf s) (subst T (sym e) tt)))
-differs (inf s) false e = refl
-differs (fin s m d) true e = ap is_nan (sym (differs_from_itself (fin s m d) (subst T (sym e) tt)))
-differs (fin s m d) false e = refl
-
-pub float_nan : (n : Number) (word : ℕ) (v : Float) → n ≡ float → v ≡ of_bits binary64 word → ne v v ≡ is_nan (value_at n word)
-float_nan n word v e f = differs v (ne v v) refl ∙ ap is_nan f ∙ ap (λ (m : Number). is_nan (value_at m word)) (sym e)
 
 -- of two floats by their patterns
 pub float_below : (n : Number) (a b : ℕ) (v w : Float) → n ≡ float → v ≡ of_bits binary64 a → w ≡ of_bits binary64 b → lt v w ≡ lt (value_at n a) (value_at n b)
@@ -109,12 +96,6 @@ pub value_as : (n m : Number) (word p : ℕ) (v : Float) → n ≡ m → p ≡ p
 value_as n m word p v e f g = g ∙ ap (of_bits binary64) f ∙ ap (λ (k : Number). value_at k word) (sym e)
 
 -- ---- a number between two others
-
-pub never : {A : Type 0} → false ≡ true → A
-never e = absurd (true≢false (sym e))
-
-pub double_between : (s v l : Float) → ne v v ≡ false → lt v s ≡ false → not (lt l v) ≡ true → (is_nan v ≡ false) × (lt v s ≡ false) × (lt l v ≡ false)
-double_between s v l e f g = (sym (differs v false e), f, not-true (lt l v) g)
 
 -- a float is its pattern
 pub float_between : (n : Number) (smallest word largest : ℕ) {s v l : Float} → n ≡ float → s ≡ of_bits binary64 smallest → v ≡ of_bits binary64 word → l ≡ of_bits binary64 largest

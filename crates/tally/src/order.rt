@@ -37,10 +37,7 @@ pub(crate) fn is_nan(number: Number, word: u64) -> bool
     ensures { result ≡ is_nan (value_at number word) }
 {
     match number {
-        Number::Float => {
-            let value = value_of(word);
-            value != value
-        }
+        Number::Float => value_of(word).is_nan(),
         _ => false,
     }
 }
@@ -54,13 +51,7 @@ fn is_double_below(number: Number, a: u64, b: u64) -> bool
 pub(crate) fn is_double_between(smallest: f64, value: f64, largest: f64) -> bool
     ensures { result ≡ true → (is_nan value ≡ false) × (lt value smallest ≡ false) × (lt largest value ≡ false) }
 {
-    if value != value {
-        return false;
-    }
-    if value < smallest {
-        return false;
-    }
-    !(largest < value)
+    !value.is_nan() && !(value < smallest) && !(largest < value)
 }
 
 // Whether two integers of which a is the smaller are both 2^53 at most away from 0: a double holds each of them.
@@ -68,22 +59,17 @@ fn is_exact(signed: bool, a: u64, b: u64) -> bool
     ensures { result ≡ true → Exact signed a b }
 {
     if signed {
-        if a < SIGNED_ZERO - MOST_EXACT {
-            return false;
-        }
-        return b <= SIGNED_ZERO + MOST_EXACT;
+        SIGNED_ZERO - MOST_EXACT <= a && b <= SIGNED_ZERO + MOST_EXACT
+    } else {
+        b <= MOST_EXACT
     }
-    b <= MOST_EXACT
 }
 
 // Whether two integers are in the order of their doubles: so where a is not the smaller one, and where both are exact
 pub(crate) fn is_told(signed: bool, a: u64, b: u64) -> bool
     ensures { result ≡ true → lt (value_at (integer_kind signed) a) (value_at (integer_kind signed) b) ≡ nat_lt a b }
 {
-    if b <= a {
-        return true;
-    }
-    is_exact(signed, a, b)
+    b <= a || is_exact(signed, a, b)
 }
 
 // Whether the double of a is the smaller one. A smaller integer's is never larger, so most integers need no rounding.
@@ -92,11 +78,6 @@ pub(crate) fn is_below(number: Number, a: u64, b: u64) -> bool
 {
     match number {
         Number::Float => value_of(a) < value_of(b),
-        _ => {
-            if b <= a {
-                return false;
-            }
-            is_double_below(number, a, b)
-        }
+        _ => a < b && is_double_below(number, a, b),
     }
 }

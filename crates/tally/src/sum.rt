@@ -5,7 +5,6 @@ ghost use Rattle.tally.specs.Tallies.{total_of, added_total, excess_of};
 ghost use Rattle.tally.specs.Meaning.{sum_meant};
 
 use fields::Number;
-use std::num::{wrapping_add_u64, wrapping_sub_u64};
 
 // high * 2^64 + low
 #[derive(Clone, Copy, Debug, Default, PartialEq, Eq)]
@@ -21,20 +20,14 @@ pub struct Sum {
     pub low: u64,
 }
 
-// The low word wraps where it ends below what was added: then one is carried.
+// What the low word cannot hold is carried.
 pub(crate) fn carried(total: Total, word: u64) -> Total
     requires { total.high < 2 ^ 63 }
     ensures { result ≡ added_total total word }
 {
-    let low = wrapping_add_u64(total.low, word);
-    if low < word {
-        return Total {
-            high: total.high + 1,
-            low,
-        };
-    }
+    let (low, carry) = total.low.overflowing_add(word);
     Total {
-        high: total.high,
+        high: total.high + u64::from(carry),
         low,
     }
 }
@@ -60,16 +53,9 @@ fn signed_sum(total: Total, valid: u64) -> Sum
     ensures { sum_meant result +ℤ pos (valid * signed_zero) ≡ pos (total_of total) }
 {
     let pairs = valid / 2;
-    let odd = odd_half(valid);
-    let low = wrapping_sub_u64(total.low, odd);
-    if total.low < odd {
-        return Sum {
-            high: difference(total.high, pairs + 1),
-            low,
-        };
-    }
+    let (low, borrow) = total.low.overflowing_sub(odd_half(valid));
     Sum {
-        high: difference(total.high, pairs),
+        high: difference(total.high, pairs + u64::from(borrow)),
         low,
     }
 }

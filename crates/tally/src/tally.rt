@@ -1,7 +1,7 @@
 // A tally, and one record more.
 ghost use Rattle.std.specs.Prelude.{◌≡◌, ◌+◌, ◌^◌, ◌<◌, Bool, true, not, ◌==◌};
 ghost use Rattle.tally.specs.Words.{integer_kind};
-ghost use Rattle.tally.specs.Tallies.{Sane, HasMarks, Inner, Clear, empty_tally, skipped_tally, nan_tally, last_tally, with_extremes, marked_tally, counted_tally};
+ghost use Rattle.tally.specs.Tallies.{Sane, HasMarks, Inner, Clear, empty_tally, skipped_tally, nan_tally, last_tally, total_with, with_extremes, marked_tally, counted_tally};
 
 use crate::order::{is_below, is_double_between, is_nan, is_told};
 use crate::sum::{Total, carried};
@@ -41,9 +41,10 @@ pub fn skipped(tally: Tally) -> Tally
     requires { tally.records < 2 ^ 63 }
     ensures { result ≡ skipped_tally tally }
 {
-    let mut next = tally;
-    next.records = tally.records + 1;
-    next
+    Tally {
+        records: tally.records + 1,
+        ..tally
+    }
 }
 
 // Whether there was one that is valid and no NaN: before that there are no marks
@@ -53,63 +54,53 @@ pub fn has_marks(tally: Tally) -> bool
     tally.valid != tally.nan
 }
 
-// One that is valid, an integer, as far as it needs no comparing
-pub fn with_integer(tally: Tally, word: u64) -> Tally
-    requires { (tally.records < 2 ^ 63) × (Sane tally) }
-    ensures { (signed : Bool) → result ≡ last_tally (integer_kind signed) tally word }
+// With the word of an integer; a float's adds nothing
+fn total_with(number: Number, total: Total, word: u64) -> Total
+    requires { total.high < 2 ^ 63 }
+    ensures { result ≡ total_with number total word }
 {
-    let total = carried(tally.total, word);
-    let last = Mark {
-        number: tally.records,
-        word,
-    };
-    let mut next = tally;
-    next.records = tally.records + 1;
-    next.valid = tally.valid + 1;
-    next.total = total;
-    next.last = last;
-    next
+    match number {
+        Number::Unsigned | Number::Signed => carried(total, word),
+        Number::Float => total,
+    }
 }
 
-// A float that is no NaN, in the same way
-fn with_float(tally: Tally, word: u64) -> Tally
-    requires { (tally.records < 2 ^ 63) × (Sane tally) }
-    ensures { result ≡ last_tally Number.Float tally word }
-{
-    let last = Mark {
-        number: tally.records,
-        word,
-    };
-    let mut next = tally;
-    next.records = tally.records + 1;
-    next.valid = tally.valid + 1;
-    next.last = last;
-    next
-}
-
+// One that is valid and no NaN, as far as it needs no comparing
 fn with_last(number: Number, tally: Tally, word: u64) -> Tally
     requires { (tally.records < 2 ^ 63) × (Sane tally) }
     ensures { result ≡ last_tally number tally word }
 {
-    match number {
-        Number::Unsigned => with_integer(tally, word),
-        Number::Signed => with_integer(tally, word),
-        Number::Float => with_float(tally, word),
+    Tally {
+        records: tally.records + 1,
+        valid: tally.valid + 1,
+        total: total_with(number, tally.total, word),
+        last: Mark {
+            number: tally.records,
+            word,
+        },
+        ..tally
     }
+}
+
+// An integer in the same way: of either kind, since their words are added up alike
+pub fn with_integer(tally: Tally, word: u64) -> Tally
+    requires { (tally.records < 2 ^ 63) × (Sane tally) }
+    ensures { (signed : Bool) → result ≡ last_tally (integer_kind signed) tally word }
+{
+    with_last(Number::Unsigned, tally, word)
 }
 
 // The mark in the place of an extreme, or of both
 fn with_extremes(before: Tally, mark: Mark, is_smallest: bool, is_largest: bool) -> Tally
     ensures { result ≡ with_extremes before mark is_smallest is_largest }
 {
-    let mut next = before;
-    if is_smallest {
-        next.smallest = mark;
+    let smallest = if is_smallest { mark } else { before.smallest };
+    let largest = if is_largest { mark } else { before.largest };
+    Tally {
+        smallest,
+        largest,
+        ..before
     }
-    if is_largest {
-        next.largest = mark;
-    }
-    next
 }
 
 // One that is valid, and NaN
@@ -117,11 +108,12 @@ fn with_nan(tally: Tally) -> Tally
     requires { (tally.records < 2 ^ 63) × (Sane tally) }
     ensures { result ≡ nan_tally tally }
 {
-    let mut next = tally;
-    next.records = tally.records + 1;
-    next.valid = tally.valid + 1;
-    next.nan = tally.nan + 1;
-    next
+    Tally {
+        records: tally.records + 1,
+        valid: tally.valid + 1,
+        nan: tally.nan + 1,
+        ..tally
+    }
 }
 
 // One that is valid and no NaN, behind another
@@ -151,11 +143,12 @@ fn with_mark(number: Number, tally: Tally, word: u64) -> Tally
         number: tally.records,
         word,
     };
-    let mut next = with_last(number, tally, word);
-    next.first = mark;
-    next.smallest = mark;
-    next.largest = mark;
-    next
+    Tally {
+        first: mark,
+        smallest: mark,
+        largest: mark,
+        ..with_last(number, tally, word)
+    }
 }
 
 // One whose value is valid
@@ -173,20 +166,14 @@ pub fn counted(number: Number, tally: Tally, word: u64) -> Tally
 pub fn is_inner(signed: bool, tally: Tally, word: u64) -> bool
     ensures { result ≡ true → Inner (integer_kind signed) tally word }
 {
-    if word < tally.smallest.word {
-        return false;
-    }
-    word <= tally.largest.word
+    tally.smallest.word <= word && word <= tally.largest.word
 }
 
 // Whether an integer's word alone tells which extremes' place it takes
 pub fn is_clear(signed: bool, tally: Tally, word: u64) -> bool
     ensures { result ≡ true → Clear (integer_kind signed) tally word }
 {
-    if !is_told(signed, word, tally.smallest.word) {
-        return false;
-    }
-    is_told(signed, tally.largest.word, word)
+    is_told(signed, word, tally.smallest.word) && is_told(signed, tally.largest.word, word)
 }
 
 // One more such
@@ -216,15 +203,15 @@ pub fn counted_float(tally: Tally, word: u64) -> Tally
     let smallest = value_of(tally.smallest.word);
     let largest = value_of(tally.largest.word);
     if is_double_between(smallest, value, largest) {
-        return with_float(tally, word);
+        return with_last(Number::Float, tally, word);
     }
-    if value != value {
+    if value.is_nan() {
         return with_nan(tally);
     }
     let mark = Mark {
         number: tally.records,
         word,
     };
-    let next = with_float(tally, word);
+    let next = with_last(Number::Float, tally, word);
     with_extremes(next, mark, value < smallest, largest < value)
 }

@@ -7,4 +7,4 @@ with_next_mark-requires c =
 
 pub returns : goal.returns
 returns c =
-    first_mark c.args.number c.args.tally c.args.word _ c.with_last-next.ensures (no_marks c.args.tally c.has_marks.ensures c.if-has_marks.false)
+    first_mark c.args.number c.args.tally c.args.word _ c.with_last.ensures (no_marks c.args.tally c.has_marks.ensures c.if-has_marks.false)
