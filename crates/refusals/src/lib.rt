@@ -4,6 +4,8 @@
 ghost use Rattle.std.specs.Prelude.{◌≡◌};
 ghost use Rattle.refusals.specs.Meaning.{refusal_number, told_of};
 
+mod display;
+
 #[derive(Clone, Copy, Debug, PartialEq, Eq)]
 pub enum Refusal {
     // 2, with the bytes that the block needs
@@ -117,38 +119,11 @@ impl Refusal {
         ensures { result ≡ told_of self }
     {
         match self {
-            Refusal::TooFewBytes(n) => n,
-            Refusal::OtherId => 0,
-            Refusal::NoLinks => 0,
-            Refusal::UnwritableList => 0,
-            Refusal::NoRoom(n) => n,
-            Refusal::FileTooLong => 0,
-            Refusal::TooManyLists => 0,
-            Refusal::TooManyFragments => 0,
-            Refusal::ListDisagrees => 0,
-            Refusal::NoBlockThere => 0,
-            Refusal::BadDataBlock => 0,
-            Refusal::UntrueDeclaration => 0,
-            Refusal::BadRecordSize => 0,
-            Refusal::NoSuchRecord => 0,
-            Refusal::TooFewLinks => 0,
-            Refusal::NoBits => 0,
-            Refusal::BadBitOffset => 0,
-            Refusal::IntegerTooWide => 0,
-            Refusal::FieldOutside(n) => n,
-            Refusal::BadFloatWidth => 0,
-            Refusal::PayloadOutside => 0,
-            Refusal::DoesNotFit => 0,
-            Refusal::OtherKind => 0,
-            Refusal::TooManyChannels => 0,
-            Refusal::NoFixedNumber(place) => place,
-            Refusal::OtherLength => 0,
-            Refusal::BitOutside => 0,
-            Refusal::TableFull => 0,
-            Refusal::TableEmpty => 0,
-            Refusal::BadTable => 0,
-            Refusal::NoNumberChannel => 0,
-            Refusal::NoPosition => 0,
+            Refusal::TooFewBytes(n)
+            | Refusal::NoRoom(n)
+            | Refusal::FieldOutside(n)
+            | Refusal::NoFixedNumber(n) => n,
+            _ => 0,
         }
     }
 }

@@ -1,0 +1,38 @@
+-- What each refusal says to people.
+use Rattle.std.specs.Prelude.{ℕ, List, codes}
+use Rattle.refusals.specs.declared.Refusal.{Refusal}
+use Rattle.refusals.specs.declared.Refusal.TheVariants.{TooFewBytes, OtherId, NoLinks, UnwritableList, NoRoom, FileTooLong, TooManyLists, TooManyFragments, ListDisagrees, NoBlockThere, BadDataBlock, UntrueDeclaration, BadRecordSize, NoSuchRecord, TooFewLinks, NoBits, BadBitOffset, IntegerTooWide, FieldOutside, BadFloatWidth, PayloadOutside, DoesNotFit, OtherKind, TooManyChannels, NoFixedNumber, OtherLength, BitOutside, TableFull, TableEmpty, BadTable, NoNumberChannel, NoPosition}
+
+abbrev pub refusal_words : Refusal → List ℕ
+refusal_words (TooFewBytes n) = codes "the block has too few bytes"
+refusal_words OtherId = codes "the block has another id"
+refusal_words NoLinks = codes "the data list has no links"
+refusal_words UnwritableList = codes "links and offsets differ in number, or there are over 4096 links"
+refusal_words (NoRoom n) = codes "the output buffer is too small"
+refusal_words FileTooLong = codes "the file is longer than 2^40 bytes"
+refusal_words TooManyLists = codes "the chain has over 256 lists"
+refusal_words TooManyFragments = codes "the chain has over 4096 data blocks"
+refusal_words ListDisagrees = codes "a list's count or block length disagrees with its links"
+refusal_words NoBlockThere = codes "a link leads to no block"
+refusal_words BadDataBlock = codes "a link leads to something else than a whole data block of its kind"
+refusal_words UntrueDeclaration = codes "a data block is not as its list declares, or a list declares otherwise than the first"
+refusal_words BadRecordSize = codes "the record size is 0 or over 16384, or the buffer is too short"
+refusal_words NoSuchRecord = codes "the record is not inside the data"
+refusal_words TooFewLinks = codes "the channel block has fewer than 8 links"
+refusal_words NoBits = codes "the description gives the number no bits"
+refusal_words BadBitOffset = codes "the description's bit offset is over 7"
+refusal_words IntegerTooWide = codes "the description gives the integer over 64 bits"
+refusal_words (FieldOutside n) = codes "the field ends outside the record or payload, which has too few bytes"
+refusal_words BadFloatWidth = codes "the description gives the float neither 32 nor 64 bits"
+refusal_words PayloadOutside = codes "the payload or its length ends behind the joined data"
+refusal_words DoesNotFit = codes "the number does not fit the field"
+refusal_words OtherKind = codes "the number is of another kind than the channel's, or the channel is no fixed number"
+refusal_words TooManyChannels = codes "the list has over 256 descriptions"
+refusal_words (NoFixedNumber n) = codes "a description in the list is that of no fixed number"
+refusal_words OtherLength = codes "the record is not as long as its group says"
+refusal_words BitOutside = codes "the invalidation bit lies outside the group's invalidation bytes"
+refusal_words TableFull = codes "the table would have over 512 data blocks"
+refusal_words TableEmpty = codes "the table has no data block to give up"
+refusal_words BadTable = codes "the table is damaged, or a data block of it ends behind the file"
+refusal_words NoNumberChannel = codes "the channel is no fixed number"
+refusal_words NoPosition = codes "the channel holds no position of a payload"
