@@ -1,22 +1,19 @@
 -- The meaning is one-to-one: from a reply the code's own answer comes back.
-use mathlib.Core.Path.{◌≡◌, refl, ap}
-use Rattle.definitions.specs.Reply.{Reply, answer, refusal}
+use mathlib.Core.Path.{◌≡◌, refl}
+use Rattle.std.specs.Prelude.{Option, Some, None, Result}
 use Rattle.definitions.specs.Overlap.{Overlap, pair, none}
-use Rattle.definitions.proofs.Replies.{one_by}
-use Rattle.refusals.proofs.Back.{refusal_of, back}
-use Rattle.overlaps.specs.Meaning.{overlap_reply}
-use Rattle.overlaps.specs.declared.answer.OverlapRead.{OverlapRead}
-use Rattle.overlaps.specs.declared.answer.OverlapRead.TheVariants.{Pair, Clear, Refused}
+use Rattle.refusals.specs.declared.Refusal.{Refusal}
+use Rattle.refusals.proofs.Back.{replied_one}
+use Rattle.overlaps.specs.Meaning.{found_meant, overlap_reply}
+use Rattle.overlaps.specs.declared.answer.Pair.{Pair}
 
-abbrev pub overlap_read : Reply Overlap → OverlapRead
-overlap_read (answer (pair i j)) = Pair i j
-overlap_read (answer none) = Clear
-overlap_read (refusal n t) = Refused (refusal_of n t)
+abbrev found_of : Overlap → Option Pair
+found_of (pair i j) = Some (record { first = i; second = j })
+found_of none = None
 
-overlap_back : (r : OverlapRead) → overlap_read (overlap_reply r) ≡ r
-overlap_back (Pair i j) = refl
-overlap_back Clear = refl
-overlap_back (Refused why) = ap Refused (back why)
+found_back : (found : Option Pair) → found_of (found_meant found) ≡ found
+found_back (Some p) = refl
+found_back None = refl
 
-pub overlap_one : (a b : OverlapRead) → overlap_reply a ≡ overlap_reply b → a ≡ b
-overlap_one = one_by overlap_reply overlap_read overlap_back
+pub overlap_one : (a b : Result (Option Pair) Refusal) → overlap_reply a ≡ overlap_reply b → a ≡ b
+overlap_one = replied_one found_meant found_of found_back

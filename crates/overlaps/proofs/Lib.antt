@@ -1,6 +1,6 @@
--- The laws over plain variables. Steps is for the crates above.
+-- The laws over plain variables.
 pub mod Back
 pub mod Runs
 pub mod Pairs
 pub mod Entries
-pub mod Steps
+pub mod Places

@@ -1,24 +1,24 @@
 -- What the code's own types mean in the definitions, and what the contracts cite beside these.
-use Rattle.std.specs.Prelude.{ℕ, ◌+◌, ◌-◌, ◌*◌, ◌/◌, ◌%◌, ◌≤◌, ◌<◌, min, max, ◌≡◌, Bool, true, false, ltb, if◌then◌else◌}
-use Rattle.definitions.specs.Reply.{Reply, answer}
+use Rattle.std.specs.Prelude.{ℕ, ◌+◌, ◌-◌, ◌*◌, ◌/◌, ◌%◌, ◌≤◌, ◌<◌, min, max, ◌≡◌, Bool, not, ltb, Option, Some, None, Result}
+use Rattle.definitions.specs.Reply.{Reply}
 use Rattle.definitions.specs.Bytes.{Order, bytes_for}
 use Rattle.definitions.specs.DataType.{unsigned_integer, order_of}
 use Rattle.definitions.specs.Channel.{Channel, bit_place, is_sound_number}
-use Rattle.definitions.specs.Overlap.{share_a_bit, Overlap, pair, none, channel_limit}
+use Rattle.definitions.specs.Overlap.{share_a_bit, Overlap, pair, none}
 use Rattle.definitions.proofs.Shared.{Within}
-use Rattle.refusals.specs.Meaning.{refused}
-use Rattle.refusals.specs.declared.Refusal.TheVariants.{TooManyChannels, NoFixedNumber}
+use Rattle.refusals.specs.Meaning.{replied}
+use Rattle.refusals.specs.declared.Refusal.{Refusal}
 use Rattle.fields.specs.Form.{order_meant}
-use Rattle.overlaps.specs.declared.answer.OverlapRead.{OverlapRead}
-use Rattle.overlaps.specs.declared.answer.OverlapRead.TheVariants.{Pair, Clear, Refused}
+use Rattle.overlaps.specs.declared.answer.Pair.{Pair}
 use Rattle.overlaps.specs.declared.place.FieldPlace.{FieldPlace}
 use Rattle.overlaps.specs.declared.run.Run.{Run}
-use Rattle.overlaps.specs.declared.search.Search.{Search}
 
-abbrev pub overlap_reply : OverlapRead → Reply Overlap
-overlap_reply (Pair i j) = answer (pair i j)
-overlap_reply Clear = answer none
-overlap_reply (Refused why) = refused why
+abbrev pub found_meant : Option Pair → Overlap
+found_meant (Some p) = pair p.first p.second
+found_meant None = none
+
+abbrev pub overlap_reply : Result (Option Pair) Refusal → Reply Overlap
+overlap_reply = replied found_meant
 
 -- ---- fields
 
@@ -57,36 +57,12 @@ bits_of_byte low high m = record { from = low - 8 * m; to = min (high - 8 * m) 8
 abbrev pub meets : Run → Run → Bool
 meets x y = ltb (max x.from y.from) (min x.to y.to)
 
--- ---- the search
+-- ---- the list, where each entry means a channel
 
-abbrev pub finished_with : OverlapRead → Search
-finished_with r = record { unfinished = false; in_pairs = false; first = 0; second = 0; answer = r }
+-- an entry that is no sound number
+abbrev pub is_other : {A : Type 0} → (A → Channel) → A → Bool
+is_other meant x = not (is_sound_number (meant x))
 
-abbrev pub standing : Bool → ℕ → ℕ → Search
-standing p i j = record { unfinished = true; in_pairs = p; first = i; second = j; answer = Clear }
-
-abbrev pub pair_at : ℕ → ℕ → ℕ → Search
-pair_at n i j =
-    if ltb j n then standing true i j
-    else if ltb (i + 1 + 1) n then standing true (i + 1) (i + 1 + 1)
-    else finished_with Clear
-
-abbrev pub entry_at : ℕ → ℕ → Search
-entry_at n i = if ltb i n then standing false i i else pair_at n 0 1
-
-abbrev pub begin_of : ℕ → Search
-begin_of n = if ltb channel_limit n then finished_with (Refused TooManyChannels) else entry_at n 0
-
--- a step from s, where a and b are the entries at its places
-abbrev pub step_of : ℕ → Search → Channel → Channel → Search
-step_of n s a b =
-    if s.in_pairs then
-    (if share_a_bit a b then finished_with (Pair s.first s.second) else pair_at n s.first (s.second + 1))
-    else (if is_sound_number a then entry_at n (s.first + 1) else finished_with (Refused (NoFixedNumber s.first)))
-
--- what a step asks: places in a list that is not too long, and fixed numbers where they are compared
-pub record Ready (s : Search) (a b : Channel) : Type 0 where
-  pub first_low : s.first < channel_limit
-  pub second_low : s.second < channel_limit
-  pub first_fixed : s.in_pairs ≡ true → is_sound_number a ≡ true
-  pub second_fixed : s.in_pairs ≡ true → is_sound_number b ≡ true
+-- one whose field shares a bit with that of c
+abbrev pub shares_with : {A : Type 0} → (A → Channel) → Channel → A → Bool
+shares_with meant c x = share_a_bit c (meant x)

@@ -1,10 +1,7 @@
-// The answer: a pair, or that there is none, or a refusal.
-use refusals::Refusal;
-
-#[derive(Clone, Copy)]
-pub enum OverlapRead {
-    // by their places in the list, from 0
-    Pair(u64, u64),
-    Clear,
-    Refused(Refusal),
+// The first pair of channels that share a bit.
+#[derive(Clone, Copy, Debug, PartialEq, Eq)]
+pub struct Pair {
+    // their places in the list, from 0
+    pub first: u64,
+    pub second: u64,
 }

@@ -8,5 +8,5 @@ mod place;
 mod run;
 mod search;
 
-pub use answer::OverlapRead;
-pub use search::{Search, begin_search, search_on};
+pub use answer::Pair;
+pub use search::first_overlap;

@@ -1,12 +1,14 @@
 // The bits of a record that a number's field takes.
-ghost use Rattle.std.specs.Prelude.{◌≡◌, true, ◌+◌};
+ghost use Rattle.std.specs.Prelude.{◌≡◌, ◌+◌};
 ghost use Rattle.definitions.specs.Bytes.{bytes_for};
-ghost use Rattle.definitions.specs.Channel.{is_sound_number};
-ghost use Rattle.fields.specs.Form.{big_form};
+ghost use Rattle.definitions.specs.DataType.{order_of};
+ghost use Rattle.data_types.specs.Meaning.{type_meant};
+ghost use Rattle.encodings.specs.Meaning.{order_meant};
 ghost use Rattle.fields.specs.Meaning.{channel_meant};
 ghost use Rattle.overlaps.specs.Meaning.{field_meant, bare};
 
-use fields::{Channel, Form, form_of};
+use data_types::DataType;
+use fields::Channel;
 
 // All that tells where the bits of a number stand
 #[derive(Clone, Copy)]
@@ -17,23 +19,23 @@ pub struct FieldPlace {
     pub bit_count: u32,
 }
 
-// What is no number has no order that is asked.
-fn is_big_endian(form: Form) -> bool
-    ensures { result ≡ big_form form }
+fn is_big_endian(data_type: DataType) -> bool
+    ensures { order_meant result ≡ order_of (type_meant data_type) }
 {
-    match form {
-        Form::Number(_, big) => big,
-        Form::Other(_) => false,
-    }
+    matches!(
+        data_type,
+        DataType::UnsignedIntegerBE
+            | DataType::SignedIntegerBE
+            | DataType::FloatBE
+            | DataType::ComplexBE
+    )
 }
 
 pub(crate) fn field_place(channel: Channel) -> FieldPlace
-    requires { is_sound_number (channel_meant channel) ≡ true }
     ensures { field_meant result ≡ bare (channel_meant channel) }
 {
-    let data_type = channel.data_type;
     FieldPlace {
-        big_endian: is_big_endian(form_of(data_type)),
+        big_endian: is_big_endian(channel.data_type),
         bit_offset: channel.bit_offset,
         byte_offset: channel.byte_offset,
         bit_count: channel.bit_count,

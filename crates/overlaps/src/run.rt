@@ -1,5 +1,5 @@
 // The bits of one byte that belong to a field. They are a run, so two runs are compared and no masks are made.
-ghost use Rattle.std.specs.Prelude.{◌≡◌, ◌-◌, ◌^◌, ◌<◌, min, max};
+ghost use Rattle.std.specs.Prelude.{◌≡◌, ◌^◌, ◌<◌};
 ghost use Rattle.overlaps.specs.Meaning.{InSpan, Covers, field_meant, bits_of_byte, meets};
 
 use crate::place::{FieldPlace, byte_count};
@@ -11,43 +11,16 @@ pub struct Run {
     pub to: u64,
 }
 
-// a - b, or 0 where b is larger
-fn above(a: u64, b: u64) -> u64
-    ensures { result ≡ a - b }
-{
-    if b < a {
-        return a - b;
-    }
-    0
-}
-
-pub(crate) fn smaller(a: u64, b: u64) -> u64
-    ensures { result ≡ min a b }
-{
-    if a < b {
-        return a;
-    }
-    b
-}
-
-pub(crate) fn larger(a: u64, b: u64) -> u64
-    ensures { result ≡ max a b }
-{
-    if a < b {
-        return b;
-    }
-    a
-}
-
 // Those of byte m of a number, where the field has the bits from `low` on, below `high`
 fn bits_of_byte(low: u64, high: u64, m: u64) -> Run
     requires { m < 2 ^ 30 }
     ensures { result ≡ bits_of_byte low high m }
 {
     let before = 8 * m;
-    let from = above(low, before);
-    let to = smaller(above(high, before), 8);
-    Run { from, to }
+    Run {
+        from: low.saturating_sub(before),
+        to: high.saturating_sub(before).min(8),
+    }
 }
 
 // Those of a record byte that the field reaches into
@@ -68,5 +41,5 @@ pub(crate) fn run_in(field: FieldPlace, byte: u64) -> Run
 pub(crate) fn meet(x: Run, y: Run) -> bool
     ensures { result ≡ meets x y }
 {
-    larger(x.from, y.from) < smaller(x.to, y.to)
+    x.from.max(y.from) < x.to.min(y.to)
 }

@@ -1,9 +1,11 @@
-// The search through a list that another holds: where it stands, and one step of it.
-ghost use Rattle.std.specs.Prelude.{◌≡◌, ◌<◌};
+// The search through a list of which each entry tells of a channel.
+ghost use Rattle.std.specs.Prelude.{◌≡◌, map, position};
+ghost use Rattle.definitions.specs.Channel as channels;
+ghost use Rattle.definitions.specs.Overlap.{first_pair, overlap_of};
 ghost use Rattle.fields.specs.Meaning.{channel_meant};
-ghost use Rattle.overlaps.specs.Meaning.{Ready, finished_with, standing, pair_at, entry_at, begin_of, step_of};
+ghost use Rattle.overlaps.specs.Meaning.{is_other, shares_with, found_meant, overlap_reply};
 
-use crate::answer::OverlapRead;
+use crate::answer::Pair;
 use crate::entry::is_sound_number;
 use crate::pair::share_a_bit;
 use fields::Channel;
@@ -12,90 +14,66 @@ use refusals::Refusal;
 // 26: a list may have so many channels.
 const CHANNEL_LIMIT: usize = 256;
 
-// While it is unfinished it stands at an entry, which is `first` and `second`, or at the pair of both. Every entry is
-// tested before the first pair.
-#[derive(Clone, Copy)]
-pub struct Search {
-    pub unfinished: bool,
-    pub in_pairs: bool,
-    pub first: usize,
-    pub second: usize,
-    pub answer: OverlapRead,
+// The first entry that is no sound number
+fn first_other<T: Copy, F: Fn(T) -> Channel>(list: &[T], channel_of: &F) -> Option<usize>
+    ghost meant: { T → channels.Channel }
+    requires callable { F.IsAlwaysCallable channel_of.now }
+    requires gives { (x : T) (c : _) → F.post channel_of.now x c → channel_meant c ≡ meant x }
+    ensures { result ≡ position (is_other meant) list.now }
+{
+    list.iter()
+        .position(|entry| !is_sound_number(channel_of(*entry)))
 }
 
-fn finished(answer: OverlapRead) -> Search
-    ensures { result ≡ finished_with answer }
+// The first entry whose field shares a bit with that of `channel`
+fn partner<T: Copy, F: Fn(T) -> Channel>(
+    channel: Channel,
+    list: &[T],
+    channel_of: &F,
+) -> Option<usize>
+    ghost meant: { T → channels.Channel }
+    requires callable { F.IsAlwaysCallable channel_of.now }
+    requires gives { (x : T) (c : _) → F.post channel_of.now x c → channel_meant c ≡ meant x }
+    ensures { result ≡ position (shares_with meant (channel_meant channel)) list.now }
 {
-    Search {
-        unfinished: false,
-        in_pairs: false,
-        first: 0,
-        second: 0,
-        answer,
-    }
+    list.iter()
+        .position(|entry| share_a_bit(channel, channel_of(*entry)))
 }
 
-fn standing_at(in_pairs: bool, first: usize, second: usize) -> Search
-    ensures { result ≡ standing in_pairs first second }
+// The pair with the lowest first place, and of these that with the lowest second
+fn first_pair<T: Copy, F: Fn(T) -> Channel>(list: &[T], channel_of: &F) -> Option<Pair>
+    ghost meant: { T → channels.Channel }
+    requires callable { F.IsAlwaysCallable channel_of.now }
+    requires gives { (x : T) (c : _) → F.post channel_of.now x c → channel_meant c ≡ meant x }
+    ensures { found_meant result ≡ first_pair 0 (map meant list.now) }
 {
-    Search {
-        unfinished: true,
-        in_pairs,
-        first,
-        second,
-        answer: OverlapRead::Clear,
-    }
-}
-
-// The pair, or where the list of `count` entries ends before its second, the first pair of the next entry
-fn pair_at(count: usize, first: usize, second: usize) -> Search
-    requires { first < 256 }
-    ensures { result ≡ pair_at count first second }
-{
-    if second < count {
-        return standing_at(true, first, second);
-    }
-    let next = first + 1;
-    if next + 1 < count {
-        return standing_at(true, next, next + 1);
-    }
-    finished(OverlapRead::Clear)
-}
-
-// The entry, or behind the last one the first pair
-fn entry_at(count: usize, place: usize) -> Search
-    ensures { result ≡ entry_at count place }
-{
-    if place < count {
-        return standing_at(false, place, place);
-    }
-    pair_at(count, 0, 1)
-}
-
-pub fn begin_search(count: usize) -> Search
-    ensures { result ≡ begin_of count }
-{
-    if CHANNEL_LIMIT < count {
-        return finished(OverlapRead::Refused(Refusal::TooManyChannels));
-    }
-    entry_at(count, 0)
-}
-
-// One test, and where the search stands then. a and b are the entries at its two places.
-pub fn search_on(count: usize, search: Search, a: Channel, b: Channel) -> Search
-    requires { Ready search (channel_meant a) (channel_meant b) }
-    ensures { result ≡ step_of count search (channel_meant a) (channel_meant b) }
-{
-    let first = search.first;
-    let second = search.second;
-    if search.in_pairs {
-        if share_a_bit(a, b) {
-            return finished(OverlapRead::Pair(first as u64, second as u64));
+    for (first, entry) in list.iter().enumerate() {
+        let next = first + 1;
+        if let Some(behind) = partner(channel_of(*entry), &list[next..], channel_of) {
+            return Some(Pair {
+                first: first as u64,
+                second: (next + behind) as u64,
+            });
         }
-        return pair_at(count, first, second + 1);
     }
-    if is_sound_number(a) {
-        return entry_at(count, first + 1);
+    None
+}
+
+// The first pair of a list's channels that share a bit. Every entry is tested before the first pair.
+pub fn first_overlap<T: Copy, F: Fn(T) -> Channel>(
+    list: &[T],
+    channel_of: F,
+) -> Result<Option<Pair>, Refusal>
+    ghost meant: { T → channels.Channel }
+    requires callable { F.IsAlwaysCallable channel_of }
+    requires gives { (x : T) (c : _) → F.post channel_of x c → channel_meant c ≡ meant x }
+    ensures { overlap_reply result ≡ overlap_of (map meant list.now) }
+{
+    if CHANNEL_LIMIT < list.len() {
+        return Err(Refusal::TooManyChannels);
     }
-    finished(OverlapRead::Refused(Refusal::NoFixedNumber(first as u64)))
+    if let Some(place) = first_other(list, &channel_of) {
+        return Err(Refusal::NoFixedNumber(place as u64));
+    }
+    Ok(first_pair(list, &channel_of))
 }

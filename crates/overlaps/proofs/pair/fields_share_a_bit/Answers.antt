@@ -9,11 +9,11 @@ the_end e ep eq = e ∙ ap₂ min ep eq
 
 pub run_in-requires : goal.run_in-requires
 run_in-requires c =
-    in_first _ _ _ c.loop-byte.invariant (the_end c.smaller-end.ensures c.byte_end.ensures c.byte_end-2.ensures) c.loop-byte-test.true
+    in_first _ _ _ c.loop-byte.invariant (the_end c.min-end.ensures c.byte_end.ensures c.byte_end-2.ensures) c.loop-byte-test.true
 
 pub run_in-requires-in-loop-byte : goal.run_in-requires-in-loop-byte
 run_in-requires-in-loop-byte c =
-    in_second _ _ _ c.loop-byte.invariant (the_end c.smaller-end.ensures c.byte_end.ensures c.byte_end-2.ensures) c.loop-byte-test.true
+    in_second _ _ _ c.loop-byte.invariant (the_end c.min-end.ensures c.byte_end.ensures c.byte_end-2.ensures) c.loop-byte-test.true
 
 pub returns-then-meet : goal.returns-then-meet
 returns-then-meet c =
@@ -25,7 +25,7 @@ loop-byte-preserved c =
 
 pub returns : goal.returns
 returns c =
-    sym (none_shared _ _ _ c.loop-byte.invariant (the_end c.smaller-end.ensures c.byte_end.ensures c.byte_end-2.ensures) c.loop-byte-test.false)
+    sym (none_shared _ _ _ c.loop-byte.invariant (the_end c.min-end.ensures c.byte_end.ensures c.byte_end-2.ensures) c.loop-byte-test.false)
 
 pub loop-byte-init : goal.loop-byte-init
-loop-byte-init c = at_start _ _ c.larger-byte.ensures
+loop-byte-init c = at_start _ _ c.max-start.ensures

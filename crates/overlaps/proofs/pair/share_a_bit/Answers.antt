@@ -6,9 +6,3 @@ use Rattle.overlaps.proofs.pair.share_a_bit.Goals as goal
 pub returns : goal.returns
 returns c =
     c.fields_share_a_bit.ensures ∙ bare_share (channel_meant c.args.a) (channel_meant c.args.b) c.field_place.ensures c.field_place-2.ensures
-
-pub field_place-requires : goal.field_place-requires
-field_place-requires c = c.requires.0
-
-pub field_place-requires-2 : goal.field_place-requires-2
-field_place-requires-2 c = c.requires.1
