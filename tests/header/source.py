@@ -9,7 +9,7 @@ NUMBERS = {"u8": "uint8_t", "u16": "uint16_t", "u32": "uint32_t", "u64": "uint64
            "f64": "double"}
 SIZES = {"uint8_t": 1, "uint16_t": 2, "uint32_t": 4, "uint64_t": 8, "int64_t": 8, "double": 8}
 
-STRUCT = re.compile(r"#\[repr\(C\)\]\s*#\[derive\(Clone, Copy\)\]\s*pub struct (\w+) \{(.*?)\}", re.S)
+STRUCT = re.compile(r"#\[repr\(C\)\]\s*#\[derive\(Clone, Copy[\w, ]*\)\]\s*pub struct (\w+) \{(.*?)\}", re.S)
 CALL = re.compile(r'#\[unsafe\(no_mangle\)\]\s*pub extern "C" fn (\w+)\((.*?)\) -> (\w+)(.*?)\n\{\n', re.S)
 MARKED = re.compile(r"#\[(?:repr\(C\)|unsafe\(no_mangle\))\]")
 NUMBERED = re.compile(r"pub fn number\(self\) -> u32.*?\n    \}\n", re.S)
