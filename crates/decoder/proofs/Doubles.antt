@@ -22,8 +22,8 @@ use Rattle.fields.specs.declared.form.Content.{Content}
 use Rattle.fields.specs.declared.form.Content.TheVariants.{Text, ByteArray, MimeSample, MimeStream, Undecoded}
 use Rattle.fields.specs.declared.form.Form.{Form}
 use Rattle.fields.specs.declared.form.Form.TheVariants.{Number, Other}
-use Rattle.fields.specs.declared.field.FieldFound.{FieldFound}
-use Rattle.fields.specs.declared.field.FieldFound.TheVariants.{Field, Refused}
+use Rattle.fields.specs.declared.field.FieldSpan.{FieldSpan}
+use Rattle.std.specs.Prelude.{Result, Ok, Err}
 use Rattle.fields.proofs.Forms.{value_form}
 use Rattle.fields.proofs.Fields.{either_way}
 use Rattle.fields.proofs.Values.{refused_as, looked_for}
@@ -48,15 +48,15 @@ content_double MimeSample s at n = refl
 content_double MimeStream s at n = refl
 content_double Undecoded s at n = refl
 
-module _ {k : Kind} {reply : Reply Value} {s : List ℕ} {c : Channel} {found : FieldFound} (h : FieldTold k reply s c found) where
-  pub double_refused : {r : Refusal} → found ≡ Refused r → nan_pattern ≡ double_in reply
+module _ {k : Kind} {reply : Reply Value} {s : List ℕ} {c : Channel} {found : Result FieldSpan Refusal} (h : FieldTold k reply s c found) where
+  pub double_refused : {r : Refusal} → found ≡ Err r → nan_pattern ≡ double_in reply
   double_refused e = sym (ap double_in (refused_as h e))
 
-  pub double_found : {at n x r : ℕ} {number : numbers.Number} {big : Bool} → found ≡ Field at n → form_of c.data_type ≡ Number number big
-      → x ≡ number_in (order_meant big) s at c → r ≡ number_double number c.bit_count x → r ≡ double_in reply
-  double_found {at} {n} {x} {r} {number} {big} e ef ex er =
-      er ∙ ap (number_double number c.bit_count) ex ∙ sym (number_double_law number c.bit_count (number_in (order_meant big) s at c))
-      ∙ ap (λ (f : Form). double_in (answer (form_value f s at n c))) (sym ef) ∙ ap (λ (v : Value). double_in (answer v)) (value_form c.data_type s at n c)
+  pub double_found : {f : FieldSpan} {x r : ℕ} {number : numbers.Number} {big : Bool} → found ≡ Ok f → form_of c.data_type ≡ Number number big
+      → x ≡ number_in (order_meant big) s f.at c → r ≡ number_double number c.bit_count x → r ≡ double_in reply
+  double_found {f} {x} {r} {number} {big} e ef ex er =
+      er ∙ ap (number_double number c.bit_count) ex ∙ sym (number_double_law number c.bit_count (number_in (order_meant big) s f.at c))
+      ∙ ap (λ (m : Form). double_in (answer (form_value m s f.at f.length c))) (sym ef) ∙ ap (λ (v : Value). double_in (answer v)) (value_form c.data_type s f.at f.length c)
       ∙ sym (ap double_in (subst (FieldCase k reply s c) e h.told).value)
 
 module _ (s : List ℕ) (id_size : ℕ) (c : Channel) where

@@ -1,6 +1,6 @@
 -- Fields that a word holds.
-use Rattle.std.specs.Prelude.{if◌then◌else◌}
-use mathlib.Core.Path.{◌≡◌, refl, sym, ap, subst, ◌∙◌}
+use Rattle.std.specs.Prelude.{if◌then◌else◌, None, Ok}
+use mathlib.Core.Path.{◌≡◌, refl, sym, ap, ◌∙◌}
 use mathlib.Core.Bool.{Bool, true, false, not, ◌&&◌, ◌||◌, true≢false}
 use mathlib.Core.List.{List}
 use Prim.Native.Nat.{ℕ, ◌+◌, ◌*◌, ◌/◌, ◌%◌, ◌^◌, ◌≤◌, ◌<◌}
@@ -20,13 +20,8 @@ use Rattle.fields.specs.declared.form.Number.TheVariants.{Float}
 use Rattle.fields.specs.declared.form.Content.{Content}
 use Rattle.fields.specs.declared.form.Form.{Form}
 use Rattle.fields.specs.declared.form.Form.TheVariants.{Number, Other}
-use Rattle.fields.specs.declared.field.FieldFound.TheVariants.{Field}
 use Rattle.decoder.specs.Meaning.{number_double}
-use Rattle.decoder.specs.Known.{Held, WordTold, Near, Sized, NumberTold, InWord}
-use Rattle.decoder.specs.declared.near.WordFound.{WordFound}
-use Rattle.decoder.specs.declared.near.WordFound.TheVariants.{Word}
-use Rattle.decoder.specs.declared.near.NumberForm.{NumberForm}
-use Rattle.decoder.specs.declared.near.NumberForm.TheVariants.{Number as SizedNumber, Other as NoNumber}
+use Rattle.decoder.specs.Known.{Held, Near, Sized, NumberTold, InWord}
 use Rattle.fields.proofs.Forms.{number_kinds, number_span, is_number_law, no_number}
 use Rattle.fields.proofs.Fields.{no_bits, no_float_width, found, fitting}
 use Rattle.fields.proofs.Values.{looked_for, sound_at, valued}
@@ -51,12 +46,9 @@ held_by s at offset count p k from ew bs few room same low some ends =
     }
 
 module _ (s : List ℕ) (id_size : ℕ) (c : Channel) where
-  abbrev Told : WordFound → Type 0
-  Told found = WordTold s (id_size + c.byte_offset) c.bit_offset c.bit_count found
-
-  pub near_by : {found : WordFound} {word from : ℕ} → variable_length c ≡ false → Told found → found ≡ Word word from → c.bit_offset ≤ 7 → 1 ≤ c.bit_count
+  pub near_by : {word from : ℕ} → variable_length c ≡ false → Held s (id_size + c.byte_offset) c.bit_offset c.bit_count word from → c.bit_offset ≤ 7 → 1 ≤ c.bit_count
       → Near s id_size c word from
-  near_by p told e low some = record { fixed = p; low = omega arith; some = some; held = subst Told e told }
+  near_by p held low some = record { fixed = p; low = omega arith; some = some; held = held }
 
 -- a type that is a number's, of a width that has a value
 module _ (type : DataType) (count : ℕ) {form : Form} (ef : form ≡ form_of type) where
@@ -68,13 +60,13 @@ module _ (type : DataType) (count : ℕ) {form : Form} (ef : form ≡ form_of ty
   sized e et f z = record { form = sym ef ∙ e; some = omega arith; width = sym et ∙ f }
 
   -- and what is none
-  pub other_type : {content : Content} → form ≡ Other content → NumberTold (form_of type) count NoNumber
+  pub other_type : {content : Content} → form ≡ Other content → NumberTold (form_of type) count None
   other_type e number big h = no_number (sym ef ∙ e) h.form
 
-  pub other_width : {n : numbers.Number} {b t : Bool} → form ≡ Number n b → t ≡ no_width (number_kind n) → t ≡ true → NumberTold (form_of type) count NoNumber
+  pub other_width : {n : numbers.Number} {b t : Bool} → form ≡ Number n b → t ≡ no_width (number_kind n) → t ≡ true → NumberTold (form_of type) count None
   other_width e et f number big h = true≢false (sym f ∙ et ∙ ap (λ (f : Form). no_width (form_kind f)) (sym e ∙ ef ∙ h.form) ∙ h.width)
 
-pub without_any : {form : Form} {count : ℕ} → count ≡ 0 → NumberTold form count NoNumber
+pub without_any : {form : Form} {count : ℕ} → count ≡ 0 → NumberTold form count None
 without_any z number big h = let some = h.some in omega arith
 
 -- ---- what it gives
@@ -107,7 +99,7 @@ module _ (s : List ℕ) (id_size : ℕ) (c : Channel) {word from : ℕ} (near : 
 
       -- a number's field is found there
       near_found : is_floating (number_kind number) && not (eqb c.bit_count 32 || eqb c.bit_count 64) ≡ false
-          → FieldTold (number_kind number) (value_of s id_size c) s c (Field at (bit_span c))
+          → FieldTold (number_kind number) (value_of s id_size c) s c (Ok (record { at = at; length = bit_span c }))
       near_found f =
           let v = found (number_kind number) false at (bit_span c) s c (number_span number false (length s) c) some low few inside f in
           record { told = record { value = sym by_form ∙ v.value; sound = v.sound } }
@@ -130,32 +122,21 @@ module _ (s : List ℕ) (id_size : ℕ) (c : Channel) {word from : ℕ} (near : 
 
 -- ---- its value
 
--- the number that the type was told to be
-module _ (f : Form) (count : ℕ) {form : NumberForm} {number : numbers.Number} {big : Bool} (told : NumberTold f count form) (e : form ≡ SizedNumber number big) where
-  sized_as : Sized f number big count
-  sized_as = subst (NumberTold f count) e told
-
-  pub some_bits : 1 ≤ count
-  some_bits = sized_as.some
-
-module _ (s : List ℕ) (id_size : ℕ) (c : Channel) {form : NumberForm} {number : numbers.Number} {big : Bool} {found : WordFound} {word from : ℕ}
-    (fixed : variable_length c ≡ false) (numbered : NumberTold (form_of c.data_type) c.bit_count form) (en : form ≡ SizedNumber number big)
-    (low : c.bit_offset ≤ 7) (told : Told s id_size c found) (ew : found ≡ Word word from) where
-  number_sized : Sized (form_of c.data_type) number big c.bit_count
-  number_sized = sized_as (form_of c.data_type) c.bit_count numbered en
-
+module _ (s : List ℕ) (id_size : ℕ) (c : Channel) {number : numbers.Number} {big : Bool} {word from : ℕ}
+    (fixed : variable_length c ≡ false) (sized : Sized (form_of c.data_type) number big c.bit_count)
+    (low : c.bit_offset ≤ 7) (held : Held s (id_size + c.byte_offset) c.bit_offset c.bit_count word from) where
   in_sight : Near s id_size c word from
-  in_sight = near_by s id_size c fixed told ew low number_sized.some
+  in_sight = near_by s id_size c fixed held low sized.some
 
-  field_told : FieldTold (number_kind number) (value_of s id_size c) s c (Field (id_size + c.byte_offset) (bit_span c))
-  field_told = near_found s id_size c in_sight number big number_sized.form number_sized.width
+  field_told : FieldTold (number_kind number) (value_of s id_size c) s c (Ok (record { at = id_size + c.byte_offset; length = bit_span c }))
+  field_told = near_found s id_size c in_sight number big sized.form sized.width
 
   pub word_number : InWord number from c.bit_count
   word_number = record { some = in_sight.some; ends = in_sight.held.ends; width = (sound_at field_told refl).width }
 
   pub near_valued : {v : Value} → v ≡ number_value number c.bit_count (field_at (order_meant big) (le 8 word) (from / 8) (from % 8) c.bit_count) → answer v ≡ value_of s id_size c
   near_valued ev =
-      valued field_told refl (sym number_sized.form) (ev ∙ ap (number_value number c.bit_count) (is_field s id_size c in_sight big refl)) refl
+      valued field_told refl (sym sized.form) (ev ∙ ap (number_value number c.bit_count) (is_field s id_size c in_sight big refl)) refl
 
 -- a field there is of the class that it was found to be
 pub fitting_word : (number : numbers.Number) (o : Order) (s : List ℕ) (p offset : ℕ) {from count x : ℕ} → InWord number from count

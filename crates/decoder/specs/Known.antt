@@ -1,15 +1,13 @@
 -- What is known of a field that a word holds.
-use Rattle.std.specs.Prelude.{◌≡◌, Bool, true, false, not, ◌&&◌, ◌||◌, List, ℕ, ◌+◌, ◌/◌, ◌%◌, ◌≤◌, ◌<◌, length, eqb}
+use Rattle.std.specs.Prelude.{◌≡◌, Bool, true, false, not, ◌&&◌, ◌||◌, List, Option, Some, None, ℕ, ◌+◌, ◌/◌, ◌%◌, ◌≤◌, ◌<◌, length, eqb}
 use Rattle.definitions.specs.Bytes.{le, span, bytes_for}
 use Rattle.definitions.specs.Channel.{Channel, variable_length, is_floating}
 use Rattle.fields.specs.Form.{number_kind}
 use Rattle.fields.specs.declared.form.Number.{Number}
 use Rattle.fields.specs.declared.form.Form.{Form}
 use Rattle.fields.specs.declared.form.Form.TheVariants.{Number as numbered}
-use Rattle.decoder.specs.declared.near.WordFound.{WordFound}
-use Rattle.decoder.specs.declared.near.WordFound.TheVariants.{Word, Nowhere}
+use Rattle.decoder.specs.declared.near.FieldWord.{FieldWord}
 use Rattle.decoder.specs.declared.near.NumberForm.{NumberForm}
-use Rattle.decoder.specs.declared.near.NumberForm.TheVariants.{Number as SizedNumber, Other}
 
 -- the bytes of a word, the lowest first, have those of a field of count bits: bit `from` of them is bit `offset` of s at `at`
 pub record Held (s : List ℕ) (at offset count word from : ℕ) : Type 0 where
@@ -19,9 +17,9 @@ pub record Held (s : List ℕ) (at offset count word from : ℕ) : Type 0 where
   pub inside : at + bytes_for offset count ≤ length s
 
 -- such a word is found for each field of at most eight bytes
-abbrev pub WordTold : List ℕ → ℕ → ℕ → ℕ → WordFound → Type 0
-WordTold s at offset count (Word word from) = Held s at offset count word from
-WordTold s at offset count Nowhere = bytes_for offset count ≤ 8 → at + bytes_for offset count ≤ length s → ⊥
+abbrev pub WordTold : List ℕ → ℕ → ℕ → ℕ → Option FieldWord → Type 0
+WordTold s at offset count (Some f) = Held s at offset count f.word f.from
+WordTold s at offset count None = bytes_for offset count ≤ 8 → at + bytes_for offset count ≤ length s → ⊥
 
 -- it holds the field of a fixed channel, whose bits are those of a number
 pub record Near (s : List ℕ) (id_size : ℕ) (c : Channel) (word from : ℕ) : Type 0 where
@@ -36,9 +34,9 @@ pub record Sized (f : Form) (number : Number) (big : Bool) (count : ℕ) : Type 
   pub some : 1 ≤ count
   pub width : is_floating (number_kind number) && not (eqb count 32 || eqb count 64) ≡ false
 
-abbrev pub NumberTold : Form → ℕ → NumberForm → Type 0
-NumberTold f count (SizedNumber number big) = Sized f number big count
-NumberTold f count Other = (number : Number) (big : Bool) → Sized f number big count → ⊥
+abbrev pub NumberTold : Form → ℕ → Option NumberForm → Type 0
+NumberTold f count (Some n) = Sized f n.number n.big_endian count
+NumberTold f count None = (number : Number) (big : Bool) → Sized f number big count → ⊥
 
 -- count bits from bit `from` on of a word, as a number of that class has them
 pub record InWord (number : Number) (from count : ℕ) : Type 0 where

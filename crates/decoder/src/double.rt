@@ -10,11 +10,11 @@ ghost use Rattle.decoder.specs.Known.{Near};
 
 use crate::alike::{decoding_code, placed_channel};
 use crate::integer::{signed_double, unsigned_double};
-use crate::near::{WordFound, find_word};
+use crate::near::find_word;
 use bit_fields::{near_be, near_le};
 use data_types::DataType;
 use doubles::{NAN, widen};
-use fields::{Channel, FieldFound, Form, Number, find_field, float_bits, form_of, number_at};
+use fields::{Channel, Form, Number, find_field, float_bits, form_of, number_at};
 
 fn number_double(number: Number, bit_count: u32, x: u64) -> u64
     requires { Fitting number bit_count x }
@@ -40,12 +40,11 @@ fn any_double(record: &[u8], record_id_size: usize, channel: Channel) -> u64
         return NAN;
     };
     let byte_offset = channel.byte_offset as usize;
-    let found = find_field(record, record_id_size, byte_offset, false, form, channel);
-    let FieldFound::Field { at, length: _ } = found else {
+    let Ok(field) = find_field(record, record_id_size, byte_offset, false, form, channel) else {
         return NAN;
     };
     let bit_offset = channel.bit_offset as u32;
-    let x = number_at(record, at, big_endian, bit_offset, channel.bit_count);
+    let x = number_at(record, field.at, big_endian, bit_offset, channel.bit_count);
     number_double(number, channel.bit_count, x)
 }
 
@@ -119,8 +118,7 @@ pub fn decode_f64_from_record(record: &[u8], record_id_size: usize, channel: Cha
     if count == 0 {
         return NAN;
     }
-    let found = find_word(record, record_id_size, channel.byte_offset, offset, count);
-    let WordFound::Word(word, from) = found else {
+    let Some(field) = find_word(record, record_id_size, channel.byte_offset, offset, count) else {
         return far_double(
             &record[0..],
             record_id_size,
@@ -130,5 +128,5 @@ pub fn decode_f64_from_record(record: &[u8], record_id_size: usize, channel: Cha
             count,
         );
     };
-    near_double(record, record_id_size, channel, word, from)
+    near_double(record, record_id_size, channel, field.word, field.from)
 }

@@ -13,6 +13,5 @@ pub use decode::{
 };
 pub use double::decode_f64_from_record;
 pub use fields::{
-    Channel, DecodedChannelValue, DecodedValue, Group, ValidValueRead, ValidityRead, ValueRead,
-    check_bounded_validity, check_value_validity,
+    Channel, DecodedChannelValue, DecodedValue, Group, check_bounded_validity, check_value_validity,
 };

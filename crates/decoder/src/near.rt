@@ -9,10 +9,10 @@ use fields::{Form, Number, form_of, is_no_float_width};
 use words::{few_le_bytes, read_u64_le};
 
 // A word whose bytes, the lowest first, hold a field, and the bit of them at which it begins
-#[derive(Clone, Copy)]
-pub(crate) enum WordFound {
-    Word(u64, u32),
-    Nowhere,
+#[derive(Clone, Copy, Debug, PartialEq, Eq)]
+pub(crate) struct FieldWord {
+    pub word: u64,
+    pub from: u32,
 }
 
 // The eight bytes from the field's first on, else the last eight of the record, else all that it has; a field of nine is in
@@ -23,58 +23,64 @@ pub(crate) fn find_word(
     byte_offset: u32,
     bit_offset: u8,
     bit_count: u32,
-) -> WordFound
+) -> Option<FieldWord>
     requires { (bit_offset < 8) × (1 ≤ bit_count) }
     ensures { WordTold «record».now (skipped + byte_offset) bit_offset bit_count result }
 {
     let length = record.len();
     if length < skipped {
-        return WordFound::Nowhere;
+        return None;
     }
     let left = length - skipped;
     let start = byte_offset as usize;
     if start + 8 <= left {
         if 64 < bit_offset as u64 + bit_count as u64 {
-            return WordFound::Nowhere;
+            return None;
         }
-        return WordFound::Word(read_u64_le(record, skipped + start), bit_offset as u32);
+        return Some(FieldWord {
+            word: read_u64_le(record, skipped + start),
+            from: bit_offset as u32,
+        });
     }
     let over = start + 8 - left;
     if 7 < over {
-        return WordFound::Nowhere;
+        return None;
     }
     let from = 8 * over as u32 + bit_offset as u32;
     if 64 < from as u64 + bit_count as u64 {
-        return WordFound::Nowhere;
+        return None;
     }
     if length < 8 {
-        return WordFound::Word(
-            few_le_bytes(record, 0, length),
-            from + 8 * length as u32 - 64,
-        );
+        return Some(FieldWord {
+            word: few_le_bytes(record, 0, length),
+            from: from + 8 * length as u32 - 64,
+        });
     }
-    WordFound::Word(read_u64_le(record, length - 8), from)
+    Some(FieldWord {
+        word: read_u64_le(record, length - 8),
+        from,
+    })
 }
 
 // A number of a width that has a value, and whether it is big-endian
 #[derive(Clone, Copy)]
-pub(crate) enum NumberForm {
-    Number(Number, bool),
-    Other,
+pub(crate) struct NumberForm {
+    pub number: Number,
+    pub big_endian: bool,
 }
 
-pub(crate) fn number_form(data_type: DataType, bit_count: u32) -> NumberForm
+pub(crate) fn number_form(data_type: DataType, bit_count: u32) -> Option<NumberForm>
     ensures { NumberTold (form_of (type_meant data_type)) bit_count result }
 {
     let form = form_of(data_type);
     let Form::Number(number, big_endian) = form else {
-        return NumberForm::Other;
+        return None;
     };
     if is_no_float_width(number, bit_count) {
-        return NumberForm::Other;
+        return None;
     }
     if bit_count == 0 {
-        return NumberForm::Other;
+        return None;
     }
-    NumberForm::Number(number, big_endian)
+    Some(NumberForm { number, big_endian })
 }

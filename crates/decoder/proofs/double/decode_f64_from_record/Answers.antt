@@ -23,4 +23,4 @@ returns-in_default c =
 
 pub near_double-requires : goal.near_double-requires
 near_double-requires c =
-    near_by _ _ (channel_meant c.args.channel) (sym c.is_variable_length.ensures ∙ c.if-is_variable_length.false) c.find_word-found.ensures c.in-Word.is c.if-offset-gt7.false (omega (arith, c.if-count-eq0.false))
+    near_by _ _ (channel_meant c.args.channel) (sym c.is_variable_length.ensures ∙ c.if-is_variable_length.false) c.in-Some.ensures c.if-offset-gt7.false (omega (arith, c.if-count-eq0.false))
