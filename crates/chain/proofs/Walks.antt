@@ -3,19 +3,20 @@ use Rattle.std.specs.Prelude.{Ok, Err}
 use mathlib.Core.Path.{◌≡◌, refl, sym, ap, subst, ◌∙◌}
 use mathlib.Core.Bool.{true, false}
 use mathlib.Core.List.{List, [], ◌∷◌, ◌++◌}
-use Prim.Native.Nat.{ℕ, ◌+◌, ◌-◌, ◌*◌, ◌≤◌, ◌<◌}
+use Prim.Native.Nat.{ℕ, ◌+◌, ◌≤◌, ◌<◌}
 use native.Mathlib.Omega.{arith}
 use lib.ListN.{length, drop, length-append}
 use lib.Dec.{eqb}
 use borrow.Author.Tests.{ne_eqb, lt-ltb, le-ltb}
 use Rattle.definitions.specs.Reply.{Reply, answer, refusal, and_then}
 use Rattle.definitions.specs.DataList.{DataList}
-use Rattle.definitions.specs.Chain.{Block, file_limit, list_limit, fragment_limit, total, list_at, declaration_of, keeps_to, chain_of, total_of, length_by}
+use Rattle.definitions.specs.Chain.{Block, file_limit, total, list_at, declaration_of, keeps_to, chain_of, total_of, length_by}
 use Rattle.refusals.specs.Meaning.{refused}
 use Rattle.refusals.specs.declared.Refusal.{Refusal}
 use Rattle.chain.specs.Located.{Locates}
 use Rattle.places.specs.Places.{start_at, behind, entered, ended}
 use Rattle.steps.specs.Steps.{fragment_at, Onward, a_list, the_end, declared_at, declared_before, next_of}
+pub use Rattle.chain.specs.Walk.{turns_left}
 use Rattle.chain.specs.Walk.{Inside, At, fragments_left, lists_behind, chain_from, go_on}
 use Rattle.places.specs.declared.place.FileAddress.{FileAddress}
 use Rattle.places.specs.declared.place.Place.{Place}
@@ -28,13 +29,9 @@ use Rattle.steps.proofs.Declarations.{kept_same, declares_kept, chained_answer, 
 use Rattle.steps.proofs.Steps.{known_behind, known_entered, Tells, next_tells}
 use Rattle.chain.proofs.Rest.{rest_fragment, rest_next}
 
--- no walk makes more turns than this
-abbrev pub turns_left : Place → ℕ
-turns_left p = (list_limit - p.lists) * (fragment_limit + 1) + (p.list.links - p.index)
-
 -- where the walk begins
 module _ (id f : List ℕ) (p₀ : Place) (a : FileAddress) (begun : p₀ ≡ start_at a) where
-  pub at_start : length f ≤ file_limit → At id f p₀.list.next.0 p₀ []
+  pub at_start : length f ≤ file_limit → At id f a.0 p₀ []
   unfolding total Inside declared_before fragments_left lists_behind
   at_start short =
       rw begun
@@ -48,9 +45,6 @@ module _ (id f : List ℕ) (p₀ : Place) (a : FileAddress) (begun : p₀ ≡ st
         alike = λ e. refl;
         rest = chain_all id f a.0;
       })
-
-  pub from_start : (p : Place) (before : List Block) → At id f p₀.list.next.0 p before → At id f a.0 p before
-  from_start p before m = subst (λ (s : ℕ). At id f s p before) (ap (λ (x : Place). x.list.next.0) begun) m
 
 module _ (id f : List ℕ) (start : ℕ) where
   module _ (p : Place) (before : List Block) (m : At id f start p before) where

@@ -1,3 +1,4 @@
 pub mod Meaning
 pub mod Walk
 pub mod Located
+pub mod Stepped

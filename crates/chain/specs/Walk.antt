@@ -1,5 +1,5 @@
 -- A walk along a chain: what the chain gives from where it stands. f is the file, and id the id of its data blocks.
-use Rattle.std.specs.Prelude.{◌≡◌, false, ℕ, ◌+◌, ◌-◌, ◌≤◌, List, [], ◌∷◌, length, drop, eqb, if◌then◌else◌}
+use Rattle.std.specs.Prelude.{◌≡◌, false, ℕ, ◌+◌, ◌-◌, ◌*◌, ◌≤◌, List, [], ◌∷◌, length, drop, eqb, if◌then◌else◌}
 use Rattle.definitions.specs.Reply.{Reply, answer, and_then}
 use Rattle.definitions.specs.Chain.{Block, file_limit, fragment_limit, list_limit, total, fragments, list_at, Declaration, lists, chain_of}
 use Rattle.places.specs.Places.{ended}
@@ -59,3 +59,7 @@ pub record Walked (id f : List ℕ) (p : Place) : Type 0 where
   pub blocks : List Block
   pub at : At id f start p before
   pub whole : chain_of id f start ≡ answer blocks
+
+-- no walk makes more turns than this
+abbrev pub turns_left : Place → ℕ
+turns_left p = (list_limit - p.lists) * (fragment_limit + 1) + (p.list.links - p.index)

@@ -4,9 +4,9 @@ ghost use Rattle.definitions.specs.Chain.{file_limit, length_by, data_length};
 ghost use Rattle.chain.specs.Meaning.{chain_reply};
 ghost use Rattle.chain.specs.Located.{Locates};
 
+use crate::walk::next_fragment;
 use places::{DataBlock, DataPosition, FILE_LIMIT, FileAddress, Place};
 use refusals::Refusal;
-use steps::{Next, fragment_at, next_list};
 
 // Where a wanted position stands in the joined data
 #[derive(Clone, Copy, Debug, PartialEq, Eq)]
@@ -30,28 +30,17 @@ fn locate(
 {
     let mut place = Place::start(start);
     let mut kept = place;
-    loop {
-        if place.index < place.list.links {
-            let block = fragment_at(file, place, id)?;
-            let here = place;
-            place = here.behind(block.size);
-            let first = here.position;
-            let end = place.position;
-            if wanted.stands_in(first, end) {
-                kept = here;
-            }
-        } else {
-            let next = next_list(file, place)?;
-            match next {
-                Next::End(total) => {
-                    return Ok(Located { total, place: kept });
-                }
-                Next::List(entered) => {
-                    place = entered;
-                }
-            }
+    while let Some(fragment) = next_fragment(file, &mut place, id)? {
+        let first = fragment.before.position;
+        let end = place.position;
+        if wanted.stands_in(first, end) {
+            kept = fragment.before;
         }
     }
+    Ok(Located {
+        total: place.position,
+        place: kept,
+    })
 }
 
 // The same in any file. The one caller of that loop, so that it is inlined. The loop is a function of its own all the same:

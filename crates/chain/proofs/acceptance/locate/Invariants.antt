@@ -2,14 +2,13 @@
 use mathlib.Core.List.{List}
 use Prim.Native.Nat.{◌≤◌}
 use Rattle.definitions.specs.Chain.{Block}
-use Rattle.chain.specs.Walk.{At}
-use Rattle.chain.proofs.Walks.{turns_left}
+use Rattle.chain.specs.Walk.{At, turns_left}
 use Rattle.chain.proofs.acceptance.locate.Given as goal
 
-abbrev pub invariant-loop-place : goal.invariant-loop-place
-invariant-loop-place l =
-    (before : List Block) × At l.id l.file l.initial.place.list.next.0 l.place before
-    × (first : List Block) × At l.id l.file l.initial.place.list.next.0 l.kept first × (l.kept.position.0 ≤ l.wanted.0)
+abbrev pub invariant-loop-fragment : goal.invariant-loop-fragment
+invariant-loop-fragment l =
+    (before : List Block) × At l.id l.file l.fn.start.0 l.place before
+    × (first : List Block) × At l.id l.file l.fn.start.0 l.kept first × (l.kept.position.0 ≤ l.wanted.0)
 
-abbrev pub decreases-loop-place : goal.decreases-loop-place
-decreases-loop-place l = turns_left l.place
+abbrev pub decreases-loop-fragment : goal.decreases-loop-fragment
+decreases-loop-fragment l = turns_left l.place

@@ -1,0 +1,26 @@
+-- What a step of a walk may answer.
+use Rattle.std.specs.Prelude.{◌≡◌, ℕ, ◌+◌, ◌≤◌, ◌<◌, List, [], ◌∷◌, ◌++◌, length, Result, Ok, Err, Option, Some, None}
+use Rattle.definitions.specs.Reply.{answer}
+use Rattle.definitions.specs.Chain.{Block, chain_of}
+use Rattle.refusals.specs.Meaning.{refused}
+use Rattle.refusals.specs.declared.Refusal.{Refusal}
+use Rattle.places.specs.Meaning.{block_meant}
+use Rattle.places.specs.Places.{behind}
+use Rattle.places.specs.declared.place.Place.{Place}
+use Rattle.chain.specs.Walk.{At, turns_left}
+use Rattle.chain.specs.declared.walk.Fragment.{Fragment}
+
+-- a fragment of the chain: the walk stood before it, it lies in the file, and the walk is behind it at q
+pub record Met (id f : List ℕ) (start : ℕ) (p : Place) (before : List Block) (x : Fragment) (q : Place) : Type 0 where
+  pub here : At id f start x.before before
+  pub inside : x.block.address.0 + 24 + x.block.size ≤ length f
+  pub there : At id f start q (before ++ (block_meant x.block ∷ []))
+  pub behind : q ≡ behind x.before x.block.size
+  -- one turn less
+  pub nearer : turns_left q < turns_left p
+
+-- from p, behind the blocks `before` of the chain from `start` on, to q
+abbrev pub Stepped : List ℕ → List ℕ → ℕ → Place → List Block → Result (Option Fragment) Refusal → Place → Type 0
+Stepped id f start p before (Err r) q = chain_of id f start ≡ refused r
+Stepped id f start p before (Ok None) q = (chain_of id f start ≡ answer before) × At id f start q before
+Stepped id f start p before (Ok (Some x)) q = Met id f start p before x q
