@@ -3,7 +3,7 @@ ghost use Rattle.std.specs.Prelude.{◌≡◌};
 ghost use Rattle.definitions.specs.DataType.{type_of, code_of, default_bits};
 ghost use Rattle.data_types.specs.Meaning.{type_meant};
 
-#[derive(Clone, Copy)]
+#[derive(Clone, Copy, Debug, PartialEq, Eq)]
 pub enum DataType {
     UnsignedIntegerLE,
     UnsignedIntegerBE,
@@ -81,24 +81,17 @@ impl DataType {
         ensures { result ≡ default_bits (type_meant self) }
     {
         match self {
-            DataType::UnsignedIntegerLE => 32,
-            DataType::UnsignedIntegerBE => 32,
-            DataType::SignedIntegerLE => 32,
-            DataType::SignedIntegerBE => 32,
-            DataType::FloatLE => 32,
-            DataType::FloatBE => 32,
-            DataType::StringLatin1 => 8,
-            DataType::StringUtf8 => 8,
-            DataType::StringUtf16LE => 8,
-            DataType::StringUtf16BE => 8,
-            DataType::ByteArray => 8,
-            DataType::MimeSample => 8,
-            DataType::MimeStream => 8,
-            DataType::CanOpenDate => 64,
-            DataType::CanOpenTime => 64,
-            DataType::ComplexLE => 64,
-            DataType::ComplexBE => 64,
-            DataType::Unknown(_) => 8,
+            DataType::UnsignedIntegerLE
+            | DataType::UnsignedIntegerBE
+            | DataType::SignedIntegerLE
+            | DataType::SignedIntegerBE
+            | DataType::FloatLE
+            | DataType::FloatBE => 32,
+            DataType::ComplexLE
+            | DataType::ComplexBE
+            | DataType::CanOpenDate
+            | DataType::CanOpenTime => 64,
+            _ => 8,
         }
     }
 }

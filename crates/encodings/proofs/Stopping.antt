@@ -1,16 +1,19 @@
 -- The stop rules: what they keep stands at the front, and how the scans find where it ends.
-use Rattle.std.specs.Prelude.{if◌then◌else◌}
-use mathlib.Core.Path.{◌≡◌, refl, ap, ◌∙◌}
+use Rattle.std.specs.Prelude.{if◌then◌else◌, Some, None, cond, not, position}
+use Rattle.std.specs.List.{position_or_len}
+use Rattle.std.specs.Option.{unwrap_or}
+use Rattle.std.specs.Simd.{first_chunks}
+use Rattle.std.proofs.lemmas.List.Recursion.{is_position_or_len}
+use Rattle.std.proofs.lemmas.List.Sums.{prefix_len-le-length}
+use mathlib.Core.Path.{◌≡◌, refl, sym, ap, ◌∙◌}
 use mathlib.Core.List.{List, [], ◌∷◌}
-use mathlib.Core.Bool.{Bool, true, false}
-use Prim.Native.Nat.{ℕ, suc, ◌+◌, ◌≤◌, ◌<◌}
+use mathlib.Core.Bool.{Bool, true, false, ◌&&◌}
+use Prim.Native.Nat.{ℕ, zero, suc, ◌+◌, ◌*◌, ◌/◌, ◌≤◌}
 use native.Mathlib.Nat.{zero-add}
 use native.Mathlib.Omega.{arith}
-use native.Mathlib.Numerals.{add-one}
-use borrow.Author.Tests.{eq-eqb, ne_eqb}
-use lib.Dec.{eqb}
-use lib.ListN.{length, get_or, take, drop, length-drop, drop_of_length-le}
-use lib.Seq.{drop-cons}
+use borrow.Author.Tests.{ltb-false, ne_eqb}
+use lib.Dec.{eqb, ltb}
+use lib.ListN.{length, get_or, take}
 use Rattle.definitions.specs.Unicode.{Encoding, latin1, utf8, utf16, before_nul, before_zero_unit, stopped}
 
 -- t is the front of s
@@ -54,56 +57,44 @@ stop_within e s n h = omega (arith, (stopped_front e s).shorter)
 pub stop_kept : (e : Encoding) (s : List ℕ) (n : ℕ) → n ≡ length (stopped e s) → take n s ≡ stopped e s
 stop_kept e s n h = rw h (stopped_front e s).front
 
--- a scan: i bytes are kept, and the rule goes on behind them
-pub record Passed (rule : List ℕ → List ℕ) (s : List ℕ) (i : ℕ) : Type 0 where
-  pub reached : i ≤ length s
-  pub count : i + length (rule (drop i s)) ≡ length (rule s)
+-- ---- the scans: what the library's search finds, or the end, is where the text stops
 
-pub passed_start : (rule : List ℕ → List ℕ) (s : List ℕ) → Passed rule s 0
-passed_start rule s = record { reached = omega arith; count = zero-add _ }
+module _ {X : Type 0} (p : X → Bool) (xs : List X) where
+  by_length : (t : Bool) → ltb (position_or_len p xs) (length xs) ≡ t
+      → unwrap_or (cond t (Some (position_or_len p xs)) None) (length xs) ≡ position_or_len p xs
+  by_length true e = refl
+  by_length false e =
+      let past : length xs ≤ position_or_len p xs = ltb-false _ _ e in
+      let within : position_or_len p xs ≤ length xs = prefix_len-le-length (λ x. not (p x)) xs in
+      omega arith
 
--- the rule keeps k bytes more
-pub passed_turn : (rule : List ℕ → List ℕ) (s : List ℕ) (i k : ℕ) → Passed rule s i → i + k ≤ length s
-    → length (rule (drop i s)) ≡ k + length (rule (drop (i + k) s)) → Passed rule s (i + k)
-passed_turn rule s i k p h e = record { reached = h; count = omega (arith, p.count) }
+  pub first_or_end : unwrap_or (position p xs) (length xs) ≡ position_or_len p xs
+  first_or_end = by_length (ltb (position_or_len p xs) (length xs)) refl
 
--- the rule keeps nothing of the rest
-pub passed_end : (rule : List ℕ → List ℕ) (s : List ℕ) (i : ℕ) → Passed rule s i → rule (drop i s) ≡ [] → i ≡ length (rule s)
-passed_end rule s i p e = omega (arith, p.count, ap length e)
+nul_next : (t : Bool) (b : ℕ) (s : List ℕ) → length (if t then [] else b ∷ s) ≡ cond t 0 (1 + length s)
+nul_next true b s = refl
+nul_next false b s = omega arith
 
-pub nul_here : (s : List ℕ) (i : ℕ) → i < length s → get_or s i 0 ≡ 0 → before_nul (drop i s) ≡ []
+pub first_nul : (s : List ℕ) → length (before_nul s) ≡ position_or_len (λ byte. eqb byte 0) s
 unfolding before_nul
-nul_here s i h z = rw (drop-cons s i 0 h) (simp (eq-eqb _ _ z))
+first_nul s = is_position_or_len (λ t. length (before_nul t)) (λ byte. eqb byte 0) refl (λ b t. nul_next (eqb b 0) b (before_nul t)) s
 
-pub nul_later : (s : List ℕ) (i : ℕ) → i < length s → (get_or s i 0 ≡ 0 → ⊥) → length (before_nul (drop i s)) ≡ 1 + length (before_nul (drop (i + 1) s))
-unfolding before_nul
-nul_later s i h z = rw (drop-cons s i 0 h, add-one) (simp (ne_eqb _ _ z) (omega arith))
+-- a unit is zero where both its bytes are
+abbrev pub is_zero_unit : List ℕ → Bool
+is_zero_unit unit = eqb (get_or unit 0 0) 0 && eqb (get_or unit 1 0) 0
 
-pub nul_none : (s : List ℕ) (i : ℕ) → length s ≤ i → before_nul (drop i s) ≡ []
-unfolding before_nul
-nul_none s i h = rw (drop_of_length-le s h)
+both_zero : (a b : ℕ) → eqb (a + b) 0 ≡ (eqb a 0 && eqb b 0)
+both_zero zero b = rw zero-add
+both_zero (suc a) b = ne_eqb (suc a + b) 0 (λ e. omega arith) ∙ ap (λ (t : Bool). t && eqb b 0) (sym (ne_eqb (suc a) 0 (λ e. omega arith)))
 
-two_cons : (s : List ℕ) (i : ℕ) → i + 1 < length s → drop i s ≡ get_or s i 0 ∷ get_or s (i + 1) 0 ∷ drop (i + 2) s
-two_cons s i h =
-    let a : i < length s = omega arith in
-    let b : suc i < length s = omega arith in
-    let k : i + 2 ≡ suc (suc i) = omega arith in
-    drop-cons s i 0 a ∙ rw (k, add-one) (ap (λ (l : List ℕ). get_or s i 0 ∷ l) (drop-cons s (suc i) 0 b))
+unit_next : (t : Bool) (a b n : ℕ) (s : List ℕ) → n * 2 ≡ length s → cond (not t) (1 + n) 0 * 2 ≡ length (if t then [] else a ∷ b ∷ s)
+unit_next true a b n s e = refl
+unit_next false a b n s e = omega arith
 
-pub unit_here : (s : List ℕ) (i : ℕ) → i + 1 < length s → get_or s i 0 + get_or s (i + 1) 0 ≡ 0 → before_zero_unit (drop i s) ≡ []
+pub first_unit : (s : List ℕ) → position_or_len is_zero_unit (first_chunks 2 (length s / 2) s) * 2 ≡ length (before_zero_unit s)
 unfolding before_zero_unit
-unit_here s i h z = rw (two_cons s i h) (simp (eq-eqb _ _ z))
-
-pub unit_later : (s : List ℕ) (i : ℕ) → i + 1 < length s → (get_or s i 0 + get_or s (i + 1) 0 ≡ 0 → ⊥)
-    → length (before_zero_unit (drop i s)) ≡ 2 + length (before_zero_unit (drop (i + 2) s))
-unfolding before_zero_unit
-unit_later s i h z = rw (two_cons s i h) (simp (ne_eqb _ _ z) (omega arith))
-
-unit_short : (l : List ℕ) → length l ≤ 1 → before_zero_unit l ≡ []
-unfolding before_zero_unit
-unit_short [] h = refl
-unit_short (a ∷ []) h = refl
-unit_short (a ∷ b ∷ l) h = absurd (omega arith)
-
-pub unit_none : (s : List ℕ) (i : ℕ) → length s ≤ i + 1 → before_zero_unit (drop i s) ≡ []
-unit_none s i h = unit_short (drop i s) (omega (arith, length-drop i s))
+first_unit [] = refl
+first_unit (a ∷ []) = refl
+first_unit (a ∷ b ∷ s) =
+    let more : length (a ∷ b ∷ s) / 2 ≡ suc (length s / 2) = omega arith in
+    rw (more, both_zero) (unit_next (eqb a 0 && eqb b 0) a b (position_or_len is_zero_unit (first_chunks 2 (length s / 2) s)) (before_zero_unit s) (first_unit s))

@@ -1,5 +1,5 @@
 // The encodings of a text.
-#[derive(Clone, Copy)]
+#[derive(Clone, Copy, Debug, PartialEq, Eq)]
 pub enum Encoding {
     Latin1,
     Utf8,

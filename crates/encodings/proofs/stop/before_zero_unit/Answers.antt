@@ -1,21 +1,17 @@
-use native.Mathlib.Omega.{arith}
-use Rattle.definitions.specs.Unicode.{before_zero_unit}
-use Rattle.encodings.proofs.Stopping.{passed_start, passed_turn, passed_end, unit_here, unit_later, unit_none}
+-- The units are cut from the front, and what the search finds among them, or their end, is where the rule stops.
+use mathlib.Core.Path.{ap, ◌∙◌}
+use mathlib.Core.List.{List}
+use Prim.Native.Nat.{ℕ, ◌*◌}
+use Rattle.std.specs.List.{position_or_len}
+use Rattle.std.specs.Option.{unwrap_or}
+use lib.ListN.{length}
+use Rattle.encodings.proofs.Stopping.{is_zero_unit, first_or_end, first_unit}
 use Rattle.encodings.proofs.stop.before_zero_unit.Goals as goal
 
-pub loop-i-init : goal.loop-i-init
-loop-i-init c = passed_start before_zero_unit _
-
-pub overflow_cast-sum : goal.overflow_cast-sum
-overflow_cast-sum c = omega (arith, c.type_inv.bytes c.loop-i.i)
-
-pub returns-then-sum-eq0 : goal.returns-then-sum-eq0
-returns-then-sum-eq0 c =
-    passed_end before_zero_unit _ _ c.loop-i.invariant (unit_here _ _ c.loop-i-test.true c.if-sum-eq0.true)
-
-pub loop-i-preserved : goal.loop-i-preserved
-loop-i-preserved c =
-    passed_turn before_zero_unit _ _ 2 c.loop-i.invariant (omega arith) (unit_later _ _ c.loop-i-test.true c.if-sum-eq0.false)
-
 pub returns : goal.returns
-returns c = passed_end before_zero_unit _ _ c.loop-i.invariant (unit_none _ _ c.loop-i-test.false)
+returns c =
+    let units = c.as_chunks.result.0.now in
+    ap (λ (n : ℕ). n * 2)
+    (c.unwrap_or.ensures ∙ ap (λ r. unwrap_or r (length units)) c.first_zero_unit.ensures ∙ first_or_end is_zero_unit units
+    ∙ ap (λ (l : List (List ℕ)). position_or_len is_zero_unit l) c.as_chunks.ensures.front)
+    ∙ first_unit c.args.bytes.now
