@@ -1,5 +1,5 @@
 -- The ways to the field that is written to, and to each refusal.
-use Rattle.std.specs.Prelude.{if◌then◌else◌}
+use Rattle.std.specs.Prelude.{if◌then◌else◌, Ok, Err}
 use mathlib.Core.Path.{◌≡◌, refl, sym, ap, ap₂, ◌∙◌, subst}
 use mathlib.Core.Bool.{Bool, true, false, not, ◌&&◌, ◌||◌, true≢false}
 use mathlib.Core.List.{List}
@@ -25,13 +25,10 @@ use Rattle.fields.specs.declared.form.Content.{Content}
 use Rattle.fields.proofs.Forms.{number_span, number_order}
 use Rattle.fields.proofs.Fields.{in_turn, readable as bounded, Asked, by_tests, number_there}
 use Rattle.fields.proofs.Values.{looked_for}
-use Rattle.encoder.specs.Meaning.{bits_reply, number_field, outcome}
-use Rattle.encoder.specs.Known.{TakesNone, is_readable, Placed, ChosenCase, Chosen}
-use Rattle.encoder.specs.declared.bits.FieldBits.{FieldBits}
-use Rattle.encoder.specs.declared.bits.FieldBits.TheVariants.{Bits, Refused as NoBits}
+use Rattle.refusals.specs.Meaning.{refused}
+use Rattle.encoder.specs.Meaning.{number_field, outcome}
+use Rattle.encoder.specs.Known.{TakesNone, is_readable, Placed, Chosen}
 use Rattle.encoder.specs.declared.encode.FieldChosen.{FieldChosen}
-use Rattle.encoder.specs.declared.encode.FieldChosen.TheVariants as chosen
-use Rattle.encoder.specs.declared.encode.ValueWritten.TheVariants as written
 use Rattle.encoder.proofs.Standing.{stands}
 
 -- ---- by the form of a type
@@ -142,41 +139,35 @@ module _ (s : List ℕ) (id_size : ℕ) (c : Channel) where
       bounds : FieldBounds s at c.bit_offset c.bit_count
       bounds = bounded number s at (bit_span c) c valued.sound
 
-      by_number : (field : FieldBits) → bits_reply field ≡ number_field number c.bit_count v → field_given s id_size c v ≡ bits_reply field
-      by_number field eb =
+      by_number : {field : Reply ℕ} → field ≡ number_field number c.bit_count v → field_given s id_size c v ≡ field
+      by_number eb =
           fixed_given s id_size c v valued.value fixed ∙ field_form c.data_type c.bit_count v
           ∙ ap (λ (f : Form). form_field f c.bit_count v) en ∙ sym eb
 
-      pub bits_refused : (field : FieldBits) {r : Refusal} → bits_reply field ≡ number_field number c.bit_count v → field ≡ NoBits r
-          → Chosen s id_size c v (chosen.Refused r)
-      bits_refused field eb er = record { case = by_number field eb ∙ ap bits_reply er }
+      pub bits_refused : (r : Refusal) → refused r ≡ number_field number c.bit_count v → Chosen s id_size c v (Err r)
+      bits_refused r eb = by_number eb
 
-      pub bits_chosen : (field : FieldBits) {x : ℕ} → bits_reply field ≡ number_field number c.bit_count v → field ≡ Bits x → x < 2 ^ 64
-          → Chosen s id_size c v (chosen.Field at b x)
-      bits_chosen field {x = x} eb ex l = record {
-        case = record {
-          bits = by_number field eb ∙ ap bits_reply ex;
-          start = ap (λ (t : Bool). if t then 0 else (id_size + c.byte_offset)) (sym fixed);
-          order = number_order c.data_type en;
-          bounds = bounds;
-          below = (stands c.bit_count x bounds.some number v (λ f. l) valued.sound.width (sym eb ∙ ap bits_reply ex)).below;
-        };
+      pub bits_chosen : (x : ℕ) → answer x ≡ number_field number c.bit_count v → x < 2 ^ 64
+          → Chosen s id_size c v (Ok (record { at = at; big_endian = b; bits = x }))
+      bits_chosen x eb l = record {
+        bits = by_number eb;
+        start = ap (λ (t : Bool). if t then 0 else (id_size + c.byte_offset)) (sym fixed);
+        order = number_order c.data_type en;
+        bounds = bounds;
+        below = (stands c.bit_count x bounds.some number v (λ f. l) valued.sound.width (sym eb)).below;
       }
 
 -- ---- the whole
 
-module _ (s : List ℕ) (id_size : ℕ) (c : Channel) (v : Given) {r : FieldChosen} (h : Chosen s id_size c v r) where
-  pub refused_left : {why : Refusal} → r ≡ chosen.Refused why → outcome (written.Refused why) s ≡ value_written s id_size c v
+module _ (s : List ℕ) (id_size : ℕ) (c : Channel) (v : Given) where
+  pub refused_left : (why : Refusal) → Chosen s id_size c v (Err why) → outcome (Err why) s ≡ value_written s id_size c v
   unfolding value_written
-  refused_left e = rw (subst (ChosenCase s id_size c v) e h.case)
+  refused_left why h = rw h
 
-  module _ {at : ℕ} {b : Bool} {x : ℕ} (e : r ≡ chosen.Field at b x) where
-    pub placed : Placed s id_size c v at b x
-    placed = subst (ChosenCase s id_size c v) e h.case
-
-    pub field_left : {t : List ℕ} → t ≡ field_set (order_meant b) s at c.bit_offset c.bit_count x → outcome written.Done t ≡ value_written s id_size c v
-    unfolding value_written
-    field_left et =
-        rw placed.bits
-        (ap (outcome written.Done)
-        (et ∙ ap₂ (λ (o : Order) (p : ℕ). field_set o s p c.bit_offset c.bit_count x) placed.order placed.start))
+  pub field_left : {f : FieldChosen} → Placed s id_size c v f → {t : List ℕ} → t ≡ field_set (order_meant f.big_endian) s f.at c.bit_offset c.bit_count f.bits
+      → outcome (Ok tt) t ≡ value_written s id_size c v
+  unfolding value_written
+  field_left {f} p et =
+      rw p.bits
+      (ap (outcome (Ok tt))
+      (et ∙ ap₂ (λ (o : Order) (q : ℕ). field_set o s q c.bit_offset c.bit_count f.bits) p.order p.start))

@@ -1,5 +1,5 @@
 -- What is known of the field that was chosen.
-use Rattle.std.specs.Prelude.{◌≡◌, Bool, not, ◌&&◌, List, ℕ, ◌+◌, ◌^◌, ◌<◌, ltb}
+use Rattle.std.specs.Prelude.{◌≡◌, Bool, not, ◌&&◌, Result, Ok, Err, List, ℕ, ◌+◌, ◌^◌, ◌<◌, ltb}
 use Rattle.definitions.specs.Reply.{answer}
 use Rattle.definitions.specs.Bytes.{bytes_for}
 use Rattle.definitions.specs.DataType.{order_of}
@@ -11,7 +11,6 @@ use Rattle.fields.specs.Form.{order_meant, number_kind}
 use Rattle.fields.specs.declared.form.Number.{Number}
 use Rattle.fields.specs.Known.{FieldBounds}
 use Rattle.encoder.specs.declared.encode.FieldChosen.{FieldChosen}
-use Rattle.encoder.specs.declared.encode.FieldChosen.TheVariants.{Field, Refused}
 
 -- no number goes into such a channel, where it has a value at all
 abbrev pub TakesNone : List ℕ → ℕ → Channel → Type 0
@@ -27,17 +26,14 @@ is_readable l id_size number c =
     is_well_described (number_kind number) c
     && not (ltb l (id_size + c.byte_offset + bytes_for c.bit_offset c.bit_count))
 
--- the field lies at `at` in the order b, and x fits into it
-pub record Placed (s : List ℕ) (id_size : ℕ) (c : Channel) (v : Given) (at : ℕ) (b : Bool) (x : ℕ) : Type 0 where
-  pub bits : field_given s id_size c v ≡ answer x
-  pub start : at ≡ start_of id_size c
-  pub order : order_meant b ≡ order_of c.data_type
-  pub bounds : FieldBounds s at c.bit_offset c.bit_count
-  pub below : x < 2 ^ c.bit_count
+-- the field that was chosen lies in the record, and its bits fit into it
+pub record Placed (s : List ℕ) (id_size : ℕ) (c : Channel) (v : Given) (f : FieldChosen) : Type 0 where
+  pub bits : field_given s id_size c v ≡ answer f.bits
+  pub start : f.at ≡ start_of id_size c
+  pub order : order_meant f.big_endian ≡ order_of c.data_type
+  pub bounds : FieldBounds s f.at c.bit_offset c.bit_count
+  pub below : f.bits < 2 ^ c.bit_count
 
-abbrev pub ChosenCase : List ℕ → ℕ → Channel → Given → FieldChosen → Type 0
-ChosenCase s id_size c v (Field at b x) = Placed s id_size c v at b x
-ChosenCase s id_size c v (Refused r) = field_given s id_size c v ≡ refused r
-
-pub record Chosen (s : List ℕ) (id_size : ℕ) (c : Channel) (v : Given) (r : FieldChosen) : Type 0 where
-  pub case : ChosenCase s id_size c v r
+abbrev pub Chosen : List ℕ → ℕ → Channel → Given → Result FieldChosen Refusal → Type 0
+Chosen s id_size c v (Ok f) = Placed s id_size c v f
+Chosen s id_size c v (Err r) = field_given s id_size c v ≡ refused r

@@ -1,16 +1,13 @@
 -- What the code's own types mean in the definitions.
-use Rattle.std.specs.Prelude.{ℕ, List}
-use Rattle.definitions.specs.Reply.{Reply, Outcome, answer}
+use Rattle.std.specs.Prelude.{ℕ, List, Result}
+use Rattle.definitions.specs.Reply.{Reply, Outcome}
 use Rattle.definitions.specs.WrittenValue.{Given, given_unsigned, given_signed, given_double, given_other, unsigned_field, signed_field, float_field}
 use Rattle.definitions.specs.Channel.{Value, unsigned, signed, double_value, unknown_value}
-use Rattle.refusals.specs.Meaning.{refused}
+use Rattle.refusals.specs.Meaning.{replied}
+use Rattle.refusals.specs.declared.Refusal.{Refusal}
 use Rattle.fields.specs.declared.form.Number as numbers
 use Rattle.encoder.specs.declared.number.NumberGiven.{NumberGiven}
 use Rattle.encoder.specs.declared.number.NumberGiven.TheVariants.{Unsigned, Signed, Double, Other}
-use Rattle.encoder.specs.declared.bits.FieldBits.{FieldBits}
-use Rattle.encoder.specs.declared.bits.FieldBits.TheVariants.{Bits, Refused as NoBits}
-use Rattle.encoder.specs.declared.encode.ValueWritten.{ValueWritten}
-use Rattle.encoder.specs.declared.encode.ValueWritten.TheVariants.{Done, Refused as NotWritten}
 
 abbrev pub given_meant : NumberGiven → Given
 given_meant (Unsigned n) = given_unsigned n
@@ -25,9 +22,8 @@ value_given (given_signed z) = signed z
 value_given (given_double pattern) = double_value pattern
 value_given given_other = unknown_value
 
-abbrev pub bits_reply : FieldBits → Reply ℕ
-bits_reply (Bits x) = answer x
-bits_reply (NoBits r) = refused r
+abbrev pub bits_reply : Result ℕ Refusal → Reply ℕ
+bits_reply = replied (λ n. n)
 
 -- the field of a number, by its class
 abbrev pub number_field : numbers.Number → ℕ → Given → Reply ℕ
@@ -35,10 +31,9 @@ number_field numbers.TheVariants.Unsigned count v = unsigned_field count v
 number_field numbers.TheVariants.Signed count v = signed_field count v
 number_field numbers.TheVariants.Float count v = float_field count v
 
-abbrev pub written_reply : ValueWritten → Reply (Unit {0})
-written_reply Done = answer tt
-written_reply (NotWritten r) = refused r
+abbrev pub written_reply : Result (Unit {0}) Refusal → Reply (Unit {0})
+written_reply = replied (λ u. u)
 
 -- the answer, and the record as it is left
-abbrev pub outcome : ValueWritten → List ℕ → Outcome (Unit {0})
+abbrev pub outcome : Result (Unit {0}) Refusal → List ℕ → Outcome (Unit {0})
 outcome r s = record { reply = written_reply r; buffer = s }

@@ -5,5 +5,5 @@ mod bits;
 mod encode;
 mod number;
 
-pub use encode::{ValueWritten, encode_channel_value};
+pub use encode::encode_channel_value;
 pub use number::NumberGiven;

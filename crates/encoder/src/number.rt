@@ -1,7 +1,7 @@
 // What is given to be written.
 
 // A double by its pattern; `Other` is what is no number.
-#[derive(Clone, Copy)]
+#[derive(Clone, Copy, Debug, PartialEq, Eq)]
 pub enum NumberGiven {
     Unsigned(u64),
     Signed(i64),

@@ -1,4 +1,5 @@
 -- The tests in turn; each way out has its law.
+use Rattle.std.proofs.lemmas.Result.{err_from_is_err_and}
 use mathlib.Core.Path.{sym, ◌∙◌}
 use native.Mathlib.Omega.{arith}
 use Rattle.fields.specs.Meaning.{channel_meant}
@@ -12,16 +13,10 @@ other_refusal-requires c =
     let a = c.args in
     payload_takes_none a.«record».now a.record_id_size (channel_meant a.channel) (sym c.is_variable_length.ensures ∙ c.if-is_variable_length.true)
 
-pub returns-then-is_variable_length : goal.returns-then-is_variable_length
-returns-then-is_variable_length c = record { case = c.other_refusal.ensures _ }
-
 pub other_refusal-requires-in_default : goal.other_refusal-requires-in_default
 other_refusal-requires-in_default c =
     let a = c.args in
     other_takes_none a.«record».now a.record_id_size (channel_meant a.channel) (sym c.is_variable_length.ensures ∙ c.if-is_variable_length.false) c.form_of-form.ensures c.in_default.is
-
-pub returns-in_default : goal.returns-in_default
-returns-in_default c = record { case = c.other_refusal-in_default.ensures _ }
 
 -- a number's form was found
 
@@ -33,13 +28,10 @@ other_refusal-requires-then-not-is_readable c =
     (sym c.form_of-form.ensures ∙ n.is)
     (sym c.is_readable.ensures ∙ c.if-not-is_readable.true)
 
-pub returns-then-not-is_readable : goal.returns-then-not-is_readable
-returns-then-not-is_readable c = record { case = c.other_refusal-then-not-is_readable.ensures _ }
-
 -- the number can be read
 
-pub number_bits-field-requires : goal.number_bits-field-requires
-number_bits-field-requires c =
+pub number_bits-requires : goal.number_bits-requires
+number_bits-requires c =
     let a = c.args in
     let n = c.in-Number in
     let b =
@@ -48,8 +40,8 @@ number_bits-field-requires c =
     (sym c.is_readable.ensures ∙ c.if-not-is_readable.false) in
     (b.some, b.few)
 
-pub returns-in_default-field : goal.returns-in_default-field
-returns-in_default-field c =
+pub returns-in_err-bits : goal.returns-in_err-bits
+returns-in_err-bits c =
     let a = c.args in
     let n = c.in-Number in
     let fixed = sym c.is_variable_length.ensures ∙ c.if-is_variable_length.false in
@@ -57,13 +49,12 @@ returns-in_default-field c =
     let standing =
     reads a.«record».now a.record_id_size (channel_meant a.channel) n.number n.big_endian fixed form
     (sym c.is_readable.ensures ∙ c.if-not-is_readable.false) in
-    bits_refused a.«record».now a.record_id_size (channel_meant a.channel) n.number n.big_endian fixed form standing (given_meant a.given)
-    c.number_bits-field.result
-    c.number_bits-field.ensures
-    c.refusal.ensures
+    let p = err_from_is_err_and c.from_residual.result c.from_residual.ensures.1 in
+    rw (p.1, p.2)
+    (bits_refused a.«record».now a.record_id_size (channel_meant a.channel) n.number n.big_endian fixed form standing (given_meant a.given) _ c.in_err-bits.ensures)
 
-pub overflow_add-at : goal.overflow_add-at
-overflow_add-at c =
+pub overflow_add-result : goal.overflow_add-result
+overflow_add-result c =
     let a = c.args in
     let n = c.in-Number in
     let b =
@@ -81,8 +72,4 @@ returns c =
     let standing =
     reads a.«record».now a.record_id_size (channel_meant a.channel) n.number n.big_endian fixed form
     (sym c.is_readable.ensures ∙ c.if-not-is_readable.false) in
-    bits_chosen a.«record».now a.record_id_size (channel_meant a.channel) n.number n.big_endian fixed form standing (given_meant a.given)
-    c.number_bits-field.result
-    c.number_bits-field.ensures
-    c.in-Bits.is
-    (search rules)
+    bits_chosen a.«record».now a.record_id_size (channel_meant a.channel) n.number n.big_endian fixed form standing (given_meant a.given) _ c.in_ok-bits.ensures (search rules)
