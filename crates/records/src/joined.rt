@@ -4,7 +4,7 @@ ghost use Rattle.definitions.specs.Chain.{joined};
 ghost use Rattle.chain.specs.Walk.{Walked};
 ghost use Rattle.records.specs.Window.{overwritten, laid, ReadsOn};
 
-use chain::{BlockRead, DataPosition, NextRead, Place, data_of, fragment_at, next_list};
+use chain::{DataPosition, Next, Place, data_of, fragment_at, next_list};
 
 // a less b, and 0 where that is less
 fn less(a: u64, b: u64) -> u64
@@ -58,8 +58,7 @@ pub fn window(file: &[u8], begin: Place, id: &[u8; 4], from: DataPosition, out: 
     let mut place = begin;
     loop {
         if place.index < place.list.links {
-            let read = fragment_at(file, place, id);
-            let BlockRead::Block(block) = read else {
+            let Ok(block) = fragment_at(file, place, id) else {
                 return place;
             };
             let data = data_of(file, block);
@@ -72,15 +71,14 @@ pub fn window(file: &[u8], begin: Place, id: &[u8; 4], from: DataPosition, out: 
             }
             place = behind;
         } else {
-            let next = next_list(file, place);
+            let Ok(next) = next_list(file, place) else {
+                return place;
+            };
             match next {
-                NextRead::Refused(_) => {
+                Next::End(_) => {
                     return place;
                 }
-                NextRead::End(_) => {
-                    return place;
-                }
-                NextRead::List(entered) => {
+                Next::List(entered) => {
                     place = entered;
                 }
             }

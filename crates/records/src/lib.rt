@@ -6,5 +6,5 @@ mod record;
 mod value;
 
 pub use joined::{copy_over, lay, window};
-pub use record::{RecordRead, bad_size, ends_behind, read_record};
+pub use record::{bad_size, ends_behind, read_record};
 pub use value::read_value;

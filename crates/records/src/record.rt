@@ -4,7 +4,7 @@ ghost use Rattle.definitions.specs.Chain.{bad_size, fetched};
 ghost use Rattle.records.specs.Meaning.{fetched_by};
 
 use crate::joined::window;
-use chain::{DataBlock, DataPosition, FileAddress, Located, locate_data};
+use chain::{DataBlock, DataPosition, FileAddress, locate_data};
 use refusals::Refusal;
 
 // the bytes of a record
@@ -12,13 +12,6 @@ const RECORD_LIMIT: u64 = 16384;
 
 // the last position that a word can hold, behind all data
 const LAST_POSITION: u64 = 18446744073709551615;
-
-#[derive(Clone, Copy)]
-pub enum RecordRead {
-    // it stands in the front of the buffer
-    Record,
-    Refused(Refusal),
-}
 
 // Whether records of that size are none, or too long for the buffer's room
 pub fn bad_size(size: u64, room: u64) -> bool
@@ -52,41 +45,31 @@ fn first_byte(number: u64, size: u64) -> DataPosition
     DataPosition(number * size)
 }
 
-// Record `number` of the joined data. The chain is accepted first, so that a refusal leaves the buffer alone.
+// Record `number` of the joined data, in the front of the buffer. The chain is accepted first, so that a refusal leaves the buffer alone.
 pub fn read_record(
     file: &[u8],
     start: FileAddress,
     number: u64,
     record_size: u64,
     buffer: &mut [u8],
-) -> RecordRead
+) -> Result<(), Refusal>
     ensures { fetched_by result buffer.new ≡ fetched file.now start.0 number record_size buffer.old }
 {
     if bad_size(record_size, buffer.len() as u64) {
-        return RecordRead::Refused(Refusal::BadRecordSize);
+        return Err(Refusal::BadRecordSize);
     }
     let from = first_byte(number, record_size);
-    let found = locate_data(file, start, &DataBlock::ID, from);
-    let Located::Whole(total, place) = found else {
-        return RecordRead::Refused(found.refusal());
-    };
-    if ends_behind(total.0, number, record_size) {
-        return RecordRead::Refused(Refusal::NoSuchRecord);
+    let located = locate_data(file, start, &DataBlock::ID, from)?;
+    if ends_behind(located.total.0, number, record_size) {
+        return Err(Refusal::NoSuchRecord);
     }
     let size = record_size as usize;
-    window(file, place, &DataBlock::ID, from, &mut buffer[..size]);
-    RecordRead::Record
-}
-
-impl RecordRead {
-    // Why the record was refused. Only a refusal is asked, so the second arm is never taken.
-    pub fn refusal(self) -> Refusal
-        requires { (why : Refusal) × (self ≡ RecordRead.Refused why) }
-        ensures { self ≡ RecordRead.Refused result }
-    {
-        match self {
-            RecordRead::Refused(why) => why,
-            RecordRead::Record => Refusal::NoSuchRecord,
-        }
-    }
+    window(
+        file,
+        located.place,
+        &DataBlock::ID,
+        from,
+        &mut buffer[..size],
+    );
+    Ok(())
 }

@@ -7,8 +7,9 @@ use native.Mathlib.Omega.{arith}
 use lib.ListN.{length}
 use borrow.Author.Tests.{leb-true, leb-false}
 use Rattle.definitions.specs.Chain.{Block, joined}
-use Rattle.places.specs.Meaning.{block_reply}
-use Rattle.steps.specs.Steps.{next_reply}
+use Rattle.definitions.specs.Reply.{answer}
+use Rattle.steps.specs.Steps.{next_meant}
+use Rattle.steps.specs.declared.next.Next.{Next}
 use Rattle.records.specs.Window.{laid}
 use Rattle.steps.proofs.Steps.{list_stays}
 use Rattle.chain.proofs.Walks.{taken_here}
@@ -21,23 +22,23 @@ loop-place-init c =
     let a = c.args in
     (refl, omega (arith, c.requires.1), λ w. (w, refl, lay_start a.out.now a.from.0 a.file.now w.before _ w.at.stand.inside w.at.size c.requires.1))
 
-pub fragment_at-read-requires : goal.fragment_at-read-requires
-fragment_at-read-requires c = ((c.loop-place.invariant.2 c.requires.0).0.at.known, c.if-place.true)
+pub fragment_at-requires : goal.fragment_at-requires
+fragment_at-requires c = ((c.loop-place.invariant.2 c.requires.0).0.at.known, c.if-place.true)
 
 pub shape_of-out-in_default : goal.shape_of-out-in_default
 shape_of-out-in_default c = c.loop-place.invariant.0
 
 pub returns-in_default : goal.returns-in_default
 returns-in_default c = λ w.
-    not_refused_here _ _ _ ((c.loop-place.invariant.2 c.requires.0).0) c.if-place.true _ _ (sym c.fragment_at-read.ensures ∙ ap block_reply c.in_default.is)
+    not_refused_here _ _ _ ((c.loop-place.invariant.2 c.requires.0).0) c.if-place.true _ _ (sym c.in_default.ensures)
 
 pub data_of-data-requires : goal.data_of-data-requires
 data_of-data-requires c =
-    (taken_here _ _ _ _ _ (c.loop-place.invariant.2 c.requires.0).0.at c.if-place.true _ (sym c.fragment_at-read.ensures ∙ ap block_reply c.in-Block.is)).0
+    (taken_here _ _ _ _ _ (c.loop-place.invariant.2 c.requires.0).0.at c.if-place.true _ (sym c.in-Ok.ensures)).0
 
 pub behind-behind-requires : goal.behind-behind-requires
 behind-behind-requires c =
-    let room = taken_here _ _ _ _ _ (c.loop-place.invariant.2 c.requires.0).0.at c.if-place.true _ (sym c.fragment_at-read.ensures ∙ ap block_reply c.in-Block.is) in
+    let room = taken_here _ _ _ _ _ (c.loop-place.invariant.2 c.requires.0).0.at c.if-place.true _ (sym c.in-Ok.ensures) in
     (room.1, room.2)
 
 pub shape_of-out-then-is_behind : goal.shape_of-out-then-is_behind
@@ -50,7 +51,7 @@ returns-then-is_behind c = λ w.
     let now = c.lay.new.out in
     let so = c.loop-place.invariant.2 w in
     let v = so.0 in
-    let there = on_behind _ _ _ v c.if-place.true _ (sym c.fragment_at-read.ensures ∙ ap block_reply c.in-Block.is) _ c.behind-behind.ensures in
+    let there = on_behind _ _ _ v c.if-place.true _ (sym c.in-Ok.ensures) _ c.behind-behind.ensures in
     let laid_more = lay_turn _ _ _ _ _ v.at.stand.inside v.at.size _ so.2 _ _ _ c.data_of-data.ensures c.lay.ensures
     ∙ ap (λ (bs : List Block). laid a.out.now a.from.0 0 (joined a.file.now bs)) (sym there.2) in
     let here = there.0 in
@@ -63,7 +64,7 @@ returns-then-is_behind c = λ w.
     )
 
 pub loop-place-smaller-then-place : goal.loop-place-smaller-then-place
-loop-place-smaller-then-place c = (on_behind _ _ _ ((c.loop-place.invariant.2 c.requires.0).0) c.if-place.true _ (sym c.fragment_at-read.ensures ∙ ap block_reply c.in-Block.is) _ c.behind-behind.ensures).3
+loop-place-smaller-then-place c = (on_behind _ _ _ ((c.loop-place.invariant.2 c.requires.0).0) c.if-place.true _ (sym c.in-Ok.ensures) _ c.behind-behind.ensures).3
 
 pub loop-place-preserved-then-place : goal.loop-place-preserved-then-place
 loop-place-preserved-then-place c =
@@ -76,7 +77,7 @@ loop-place-preserved-then-place c =
       λ w.
           let so = c.loop-place.invariant.2 w in
           let v = so.0 in
-          let there = on_behind _ _ _ v c.if-place.true _ (sym c.fragment_at-read.ensures ∙ ap block_reply c.in-Block.is) _ c.behind-behind.ensures in (
+          let there = on_behind _ _ _ v c.if-place.true _ (sym c.in-Ok.ensures) _ c.behind-behind.ensures in (
             there.0,
             there.1 ∙ so.1,
             lay_turn _ _ _ _ _ v.at.stand.inside v.at.size _ so.2 _ _ _ c.data_of-data.ensures c.lay.ensures
@@ -84,15 +85,15 @@ loop-place-preserved-then-place c =
           ),
     )
 
-pub next_list-next-requires : goal.next_list-next-requires
-next_list-next-requires c = (c.loop-place.invariant.2 c.requires.0).0.at.known
+pub next_list-requires : goal.next_list-requires
+next_list-requires c = (c.loop-place.invariant.2 c.requires.0).0.at.known
 
-pub shape_of-out-in-Refused : goal.shape_of-out-in-Refused
-shape_of-out-in-Refused c = c.loop-place.invariant.0
+pub shape_of-out-in_default-next_list : goal.shape_of-out-in_default-next_list
+shape_of-out-in_default-next_list c = c.loop-place.invariant.0
 
-pub returns-in-Refused : goal.returns-in-Refused
-returns-in-Refused c = λ w.
-    not_refused_next _ _ _ ((c.loop-place.invariant.2 c.requires.0).0) c.if-place.false _ _ (sym c.next_list-next.ensures ∙ ap next_reply c.in-Refused.is)
+pub returns-in_default-next_list : goal.returns-in_default-next_list
+returns-in_default-next_list c = λ w.
+    not_refused_next _ _ _ ((c.loop-place.invariant.2 c.requires.0).0) c.if-place.false _ _ (sym c.in_default-next_list.ensures)
 
 pub shape_of-out-in-End : goal.shape_of-out-in-End
 shape_of-out-in-End c = c.loop-place.invariant.0
@@ -101,21 +102,21 @@ pub returns-in-End : goal.returns-in-End
 returns-in-End c = λ w.
     let a = c.args in
     let now = c.loop-place.invariant.2 w in
-    let end = all_met _ _ _ now.0 c.if-place.false _ (sym c.next_list-next.ensures ∙ ap next_reply c.in-End.is) in (
+    let end = all_met _ _ _ now.0 c.if-place.false _ (sym c.in-Ok-next_list.ensures ∙ ap (λ (n : Next). answer (next_meant n)) c.in-End.is) in (
       now.2 ∙ ap (λ (bs : List Block). laid a.out.now a.from.0 0 (joined a.file.now bs)) (end ∙ now.1),
       record { ahead = c.loop-place.invariant.1; walked = now.0; same = now.1 },
     )
 
 pub loop-place-smaller : goal.loop-place-smaller
-loop-place-smaller c = (on_list _ _ _ ((c.loop-place.invariant.2 c.requires.0).0) c.if-place.false _ (sym c.next_list-next.ensures ∙ ap next_reply c.in-List.is)).3
+loop-place-smaller c = (on_list _ _ _ ((c.loop-place.invariant.2 c.requires.0).0) c.if-place.false _ (sym c.in-Ok-next_list.ensures ∙ ap (λ (n : Next). answer (next_meant n)) c.in-List.is)).3
 
 pub loop-place-preserved : goal.loop-place-preserved
 loop-place-preserved c =
     let a = c.args in (
       c.loop-place.invariant.0,
-      omega (arith, c.loop-place.invariant.1, list_stays _ _ _ (sym c.next_list-next.ensures ∙ ap next_reply c.in-List.is)),
+      omega (arith, c.loop-place.invariant.1, list_stays _ _ _ (sym c.in-Ok-next_list.ensures ∙ ap (λ (n : Next). answer (next_meant n)) c.in-List.is)),
       λ w.
           let now = c.loop-place.invariant.2 w in
-          let there = on_list _ _ _ now.0 c.if-place.false _ (sym c.next_list-next.ensures ∙ ap next_reply c.in-List.is) in
+          let there = on_list _ _ _ now.0 c.if-place.false _ (sym c.in-Ok-next_list.ensures ∙ ap (λ (n : Next). answer (next_meant n)) c.in-List.is) in
           (there.0, there.1 ∙ now.1, now.2 ∙ ap (λ (bs : List Block). laid a.out.now a.from.0 0 (joined a.file.now bs)) (sym there.2)),
     )

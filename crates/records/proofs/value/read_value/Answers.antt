@@ -1,20 +1,33 @@
 -- The field is that of the record that was fetched, if it was.
+use Rattle.std.proofs.lemmas.Result.{err_from_is_err_and}
+use mathlib.Core.Path.{sym}
 use native.Mathlib.Omega.{arith}
-use borrow.Author.Rules.{rules}
+use Prim.Native.Nat.{◌≤◌}
+use lib.ListN.{length}
+use lib.Seq.{length-take-le}
 use Rattle.definitions.specs.Chain.{value_fetched}
 use Rattle.fields.specs.Meaning.{group_meant, channel_meant}
-use Rattle.records.proofs.Fetches.{fits, field_left}
+use Rattle.records.proofs.Fetches.{fits, not_fetched, fetched_then}
 use Rattle.records.proofs.value.read_value.Goals as goal
 
-pub value-requires : goal.value-requires
-value-requires c = λ is.
-    omega (arith, c.read_record-fetched.auto, fits _ _ _ _ _ c.read_record-fetched.ensures is)
+pub returns-in_err-read_record : goal.returns-in_err-read_record
+unfolding value_fetched
+returns-in_err-read_record c =
+    let a = c.args in
+    let p = err_from_is_err_and c.from_residual.result c.from_residual.ensures.1 in
+    rw (p.1, p.2) (not_fetched a.record_size (group_meant a.group) (channel_meant a.channel) _ _ c.in_err-read_record.ensures)
 
-pub shape_of-buffer : goal.shape_of-buffer
-shape_of-buffer c = search rules
+pub slice_bounds-any_bounded_value-end : goal.slice_bounds-any_bounded_value-end
+slice_bounds-any_bounded_value-end c =
+    omega (arith, c.read_record.auto, fits _ _ _ _ _ c.in_ok-read_record.ensures)
+
+pub slice_bounds-any_bounded_value-end-2 : goal.slice_bounds-any_bounded_value-end-2
+slice_bounds-any_bounded_value-end-2 c =
+    let room : c.args.record_size ≤ length c.read_record.new.buffer = omega (arith, c.read_record.auto, fits _ _ _ _ _ c.in_ok-read_record.ensures) in
+    sym (length-take-le _ _ room)
 
 pub returns : goal.returns
 unfolding value_fetched
 returns c =
     let a = c.args in
-    field_left a.record_size (group_meant a.group) (channel_meant a.channel) _ c.read_record-fetched.result c.read_record-fetched.ensures c.value.ensures
+    fetched_then a.record_size (group_meant a.group) (channel_meant a.channel) _ c.in_ok-read_record.ensures c.any_bounded_value.ensures
