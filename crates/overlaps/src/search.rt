@@ -15,41 +15,34 @@ use refusals::Refusal;
 const CHANNEL_LIMIT: usize = 256;
 
 // The first entry that is no sound number
-fn first_other<T: Copy, F: Fn(T) -> Channel>(list: &[T], channel_of: &F) -> Option<usize>
+fn first_other<T: Copy + Into<Channel>>(list: &[T]) -> Option<usize>
     ghost meant: { T → channels.Channel }
-    requires callable { F.IsAlwaysCallable channel_of.now }
-    requires gives { (x : T) (c : _) → F.post channel_of.now x c → channel_meant c ≡ meant x }
+    requires { (x : T) (c : _) → T.converts x c → channel_meant c ≡ meant x }
     ensures { result ≡ position (is_other meant) list.now }
 {
     list.iter()
-        .position(|entry| !is_sound_number(channel_of(*entry)))
+        .position(|entry| !is_sound_number((*entry).into()))
 }
 
 // The first entry whose field shares a bit with that of `channel`
-fn partner<T: Copy, F: Fn(T) -> Channel>(
-    channel: Channel,
-    list: &[T],
-    channel_of: &F,
-) -> Option<usize>
+fn partner<T: Copy + Into<Channel>>(channel: Channel, list: &[T]) -> Option<usize>
     ghost meant: { T → channels.Channel }
-    requires callable { F.IsAlwaysCallable channel_of.now }
-    requires gives { (x : T) (c : _) → F.post channel_of.now x c → channel_meant c ≡ meant x }
+    requires { (x : T) (c : _) → T.converts x c → channel_meant c ≡ meant x }
     ensures { result ≡ position (shares_with meant (channel_meant channel)) list.now }
 {
     list.iter()
-        .position(|entry| share_a_bit(channel, channel_of(*entry)))
+        .position(|entry| share_a_bit(channel, (*entry).into()))
 }
 
 // The pair with the lowest first place, and of these that with the lowest second
-fn first_pair<T: Copy, F: Fn(T) -> Channel>(list: &[T], channel_of: &F) -> Option<Pair>
+fn first_pair<T: Copy + Into<Channel>>(list: &[T]) -> Option<Pair>
     ghost meant: { T → channels.Channel }
-    requires callable { F.IsAlwaysCallable channel_of.now }
-    requires gives { (x : T) (c : _) → F.post channel_of.now x c → channel_meant c ≡ meant x }
+    requires { (x : T) (c : _) → T.converts x c → channel_meant c ≡ meant x }
     ensures { found_meant result ≡ first_pair 0 (map meant list.now) }
 {
     for (first, entry) in list.iter().enumerate() {
         let next = first + 1;
-        if let Some(behind) = partner(channel_of(*entry), &list[next..], channel_of) {
+        if let Some(behind) = partner((*entry).into(), &list[next..]) {
             return Some(Pair {
                 first: first as u64,
                 second: (next + behind) as u64,
@@ -60,20 +53,16 @@ fn first_pair<T: Copy, F: Fn(T) -> Channel>(list: &[T], channel_of: &F) -> Optio
 }
 
 // The first pair of a list's channels that share a bit. Every entry is tested before the first pair.
-pub fn first_overlap<T: Copy, F: Fn(T) -> Channel>(
-    list: &[T],
-    channel_of: F,
-) -> Result<Option<Pair>, Refusal>
+pub fn first_overlap<T: Copy + Into<Channel>>(list: &[T]) -> Result<Option<Pair>, Refusal>
     ghost meant: { T → channels.Channel }
-    requires callable { F.IsAlwaysCallable channel_of }
-    requires gives { (x : T) (c : _) → F.post channel_of x c → channel_meant c ≡ meant x }
+    requires { (x : T) (c : _) → T.converts x c → channel_meant c ≡ meant x }
     ensures { overlap_reply result ≡ overlap_of (map meant list.now) }
 {
     if CHANNEL_LIMIT < list.len() {
         return Err(Refusal::TooManyChannels);
     }
-    if let Some(place) = first_other(list, &channel_of) {
+    if let Some(place) = first_other(list) {
         return Err(Refusal::NoFixedNumber(place as u64));
     }
-    Ok(first_pair(list, &channel_of))
+    Ok(first_pair(list))
 }
