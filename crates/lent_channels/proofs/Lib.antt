@@ -1,2 +1,0 @@
--- What the proof of `first_overlap` cites.
-mod Blank
