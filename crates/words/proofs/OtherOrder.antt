@@ -1,58 +1,37 @@
 -- Words with their bytes in the other order.
-use mathlib.Core.Path.{◌≡◌, sym, ap, ◌∙◌}
+use mathlib.Core.Path.{◌≡◌, refl, sym, ap, ap₂, ◌∙◌}
 use mathlib.Core.List.{List, [], ◌∷◌, ◌++◌}
-use Prim.Native.Nat.{ℕ, zero, suc, ◌+◌, ◌-◌, ◌*◌, ◌/◌, ◌%◌, ◌^◌, ◌≤◌, ◌<◌}
-use native.Mathlib.Nat.{div-one, mod-eq_of_lt, mod-lt, mul-le-mul_left}
+use Prim.Native.Nat.{ℕ, zero, suc, ◌+◌, ◌-◌, ◌*◌, ◌/◌, ◌%◌, ◌^◌, ◌≤◌}
+use native.Mathlib.Nat.{div-one}
+use Rattle.std.proofs.Math.Nat.{div-div-eq-div-mul, pow-suc}
 use native.Mathlib.Omega.{arith}
 use lib.ListN.{length}
-use lib.Pow.{high, shr-shr, pow_mono}
-use lib.Bits.{bit_or, or_shifted}
+use lib.Pow.{high, shr-shr}
+use Rattle.std.specs.Int.{w64, byte_at, bytes_low_first, from_be_bytes, swap_bytes}
 use Rattle.definitions.specs.Bytes.{big, le_of, number_of, le, span}
-use Rattle.words.proofs.Numbers.{Bytes, up, append, below, length_le, bytes_le, back_le}
+use Rattle.words.proofs.Numbers.{Bytes, append, below, length_le, bytes_le, back_le}
 use Rattle.words.proofs.Spans.{length_span, bytes_span}
 
--- the first byte is the highest
-big_cons : (b : ℕ) (bs : List ℕ) → number_of big (b ∷ bs) ≡ b * 2 ^ (8 * length bs) + number_of big bs
-unfolding le_of
-big_cons b bs = append big (b ∷ []) bs ∙ ap (λ (x : ℕ). x * 2 ^ (8 * length bs) + number_of big bs) {x = number_of big (b ∷ [])} {y = b} (omega arith)
-
--- so the lowest byte of what is left to swap goes below what is done
-turned : (m done rest : ℕ) {whole : ℕ} → whole ≡ done * 2 ^ (8 * suc m) + number_of big (le (suc m) rest)
-    → whole ≡ (done * 2 ^ 8 + rest % 256) * 2 ^ (8 * m) + number_of big (le m (rest / 256))
+-- the library's bytes of a number, the lowest first, from one of them on
+low_first : (k i x : ℕ) → bytes_low_first i k x ≡ le k (x / 256 ^ i)
 unfolding le
-turned m done rest e =
-    e
-    ∙ ap (λ (x : ℕ). done * 2 ^ (8 * suc m) + x)
-    (big_cons (rest % 256) (le m (rest / 256)) ∙ ap (λ (n : ℕ). rest % 256 * 2 ^ (8 * n) + number_of big (le m (rest / 256))) (length_le m (rest / 256)))
-    ∙ omega (arith, ap (λ (p : ℕ). done * p) (up m))
+low_first zero i x = refl
+low_first (suc k) i x =
+    ap₂ (λ (b : ℕ) (bs : List ℕ). b ∷ bs) (byte i x)
+    (low_first k (suc i) x ∙ ap (λ (p : ℕ). le k (x / p)) (pow-suc 256 i) ∙ ap (le k) (sym (div-div-eq-div-mul x (256 ^ i) 256)))
+  where
+    byte : (i x : ℕ) → byte_at i x ≡ x / 256 ^ i % 256
+    byte zero x = ap (λ (y : ℕ). y % 256) (sym (div-one x))
+    byte (suc i) x = refl
 
-module _ (word left done rest : ℕ) (some : 0 < left) (e : number_of big (le 8 word) ≡ done * 2 ^ (8 * left) + number_of big (le left rest)) where
-  -- what is done has room for another byte
-  room : done * 2 ^ 8 < 2 ^ 64
-  room =
-      let few : done * 2 ^ 8 ≤ done * 2 ^ (8 * left) = mul-le-mul_left done (pow_mono {i = 8} {j = 8 * left} (omega arith)) in
-      let whole : number_of big (le 8 word) < 2 ^ 64 = rw (length_le 8 word) at (below big (le 8 word) (bytes_le 8 word)) in
-      omega arith
+eight_bytes : (a b c d e f g h : ℕ) → from_be_bytes w64 (a ∷ b ∷ c ∷ d ∷ e ∷ f ∷ g ∷ h ∷ []) ≡ number_of big (a ∷ b ∷ c ∷ d ∷ e ∷ f ∷ g ∷ h ∷ [])
+unfolding le_of
+eight_bytes a b c d e f g h = omega arith
 
-  -- a turn of the loop
-  pub swap_turn : {more : ℕ} → more ≡ bit_or ((done * 2 ^ 8) % 2 ^ 64) (rest % 256)
-      → number_of big (le 8 word) ≡ more * 2 ^ (8 * (left - 1)) + number_of big (le (left - 1) (rest / 256))
-  swap_turn {more} em =
-      let l : left ≡ suc (left - 1) = omega arith in
-      let eb : more ≡ done * 2 ^ 8 + rest % 256 =
-      em ∙ ap (λ (x : ℕ). bit_or x (rest % 256)) (mod-eq_of_lt room) ∙ or_shifted done 8 (rest % 256) (mod-lt rest (omega arith)) in
-      turned (left - 1) done rest (e ∙ ap (λ (n : ℕ). done * 2 ^ (8 * n) + number_of big (le n rest)) l)
-      ∙ ap (λ (x : ℕ). x * 2 ^ (8 * (left - 1)) + number_of big (le (left - 1) (rest / 256))) (sym eb)
-
-pub swap_start : (word : ℕ) → number_of big (le 8 word) ≡ 0 * 2 ^ (8 * 8) + number_of big (le 8 word)
-swap_start word = omega arith
-
-none_left : (done rest : ℕ) → done * 2 ^ (8 * 0) + number_of big (le 0 rest) ≡ done
-unfolding le_of le
-none_left done rest = omega arith
-
-pub swap_end : (left done rest : ℕ) {whole : ℕ} → left ≡ 0 → whole ≡ done * 2 ^ (8 * left) + number_of big (le left rest) → done ≡ whole
-swap_end left done rest l e = sym (e ∙ ap (λ (n : ℕ). done * 2 ^ (8 * n) + number_of big (le n rest)) l ∙ none_left done rest)
+-- the library's word with its bytes in the other order
+pub swapped : (x : ℕ) → swap_bytes w64 x ≡ number_of big (le 8 x)
+unfolding le
+swapped x = ap (from_be_bytes w64) (low_first 8 0 x ∙ ap (le 8) (div-one x)) ∙ eight_bytes _ _ _ _ _ _ _ _
 
 -- the bytes of a number are its lower n and those above
 pub le_split : (n m x : ℕ) → le (n + m) x ≡ le n x ++ le m (x / 2 ^ (8 * n))

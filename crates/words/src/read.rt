@@ -2,6 +2,8 @@
 ghost use Rattle.std.specs.Prelude.{◌≡◌, ◌+◌, ◌*◌, ◌^◌, ◌≤◌, ◌<◌, length};
 ghost use Rattle.definitions.specs.Bytes.{little, big, number_of, le, span, u16_at, u32_at, u64_at, u64s_at};
 
+use crate::word::read_le;
+
 // The number x of i bytes with the byte b above it
 fn with_byte_above(x: u64, i: usize, b: u8) -> u64
     requires { (i < 8) × (x < 2 ^ (8 * i)) }
@@ -16,10 +18,8 @@ pub fn le_bytes(s: &[u8], at: usize, n: usize) -> u64
     ensures { (result ≡ number_of little (span s.now at n)) × (result < 2 ^ (8 * n)) }
 {
     let mut w: u64 = 0;
-    let mut i = 0;
-    while i < n {
+    for i in 0..n {
         w = with_byte_above(w, i, s[at + i]);
-        i += 1;
     }
     w
 }
@@ -47,27 +47,12 @@ pub fn few_le_bytes(s: &[u8], at: usize, n: usize) -> u64
     le_bytes(s, at, 1)
 }
 
-// The bytes of a word in the other order. The compiler makes one instruction of it.
-pub fn swapped(word: u64) -> u64
-    ensures { result ≡ number_of big (le 8 word) }
-{
-    let mut done: u64 = 0;
-    let mut rest = word;
-    let mut left: u64 = 8;
-    while 0 < left {
-        done = done << 8 | rest % 256;
-        rest = rest / 256;
-        left -= 1;
-    }
-    done
-}
-
 // The n bytes of s from `at` on, the first the highest: in a swapped word they are the upper ones
 pub fn be_bytes(s: &[u8], at: usize, n: usize) -> u64
     requires { (1 ≤ n) × (n ≤ 8) × (at + n ≤ length s.now) }
     ensures { result ≡ number_of big (span s.now at n) }
 {
-    swapped(few_le_bytes(s, at, n)) >> (64 - 8 * n)
+    few_le_bytes(s, at, n).swap_bytes() >> (64 - 8 * n)
 }
 
 pub fn read_u16_le(s: &[u8], at: usize) -> u16
@@ -103,9 +88,7 @@ pub fn read_all_le(s: &[u8], at: usize, numbers: &mut [u64])
     requires { at + length numbers.old * 8 ≤ length s.now }
     ensures { numbers.new ≡ u64s_at s.now at (length numbers.old) }
 {
-    let mut i = 0;
-    while i < numbers.len() {
-        numbers[i] = read_u64_le(s, at + i * 8);
-        i += 1;
+    for (i, number) in numbers.iter_mut().enumerate() {
+        *number = read_le(s, at + i * 8);
     }
 }

@@ -3,7 +3,7 @@ ghost use Rattle.std.specs.Prelude.{◌≡◌, ◌+◌, ◌*◌, ◌^◌, ◌≤
 ghost use Rattle.std.proofs.lemmas.List.Edits.{sets};
 ghost use Rattle.definitions.specs.Bytes.{big, le, les, bytes_of};
 
-use crate::read::swapped;
+use crate::word::write_le;
 
 // The n lowest bytes of x, from `at` on. With a constant n this is one store.
 pub fn put_le(out: &mut [u8], at: usize, n: usize, x: u64)
@@ -11,11 +11,9 @@ pub fn put_le(out: &mut [u8], at: usize, n: usize, x: u64)
     ensures { out.new ≡ sets out.old at (le n x) }
 {
     let mut w = x;
-    let mut i = 0;
-    while i < n {
+    for i in 0..n {
         out[at + i] = (w % 256) as u8;
-        w = w / 256;
-        i += 1;
+        w /= 256;
     }
 }
 
@@ -49,7 +47,7 @@ pub fn put_few_be(out: &mut [u8], at: usize, n: usize, x: u64)
     requires { (1 ≤ n) × (n ≤ 8) × (at + n ≤ length out.old) × (x < 2 ^ (8 * n)) }
     ensures { out.new ≡ sets out.old at (bytes_of big n x) }
 {
-    put_few_le(out, at, n, swapped(x << (64 - 8 * n)));
+    put_few_le(out, at, n, (x << (64 - 8 * n)).swap_bytes());
 }
 
 pub fn put_u32_le(out: &mut [u8], at: usize, x: u32)
@@ -71,9 +69,7 @@ pub fn put_all_le(out: &mut [u8], at: usize, numbers: &[u64])
     requires { at + length numbers.now * 8 ≤ length out.old }
     ensures { out.new ≡ sets out.old at (les numbers.now) }
 {
-    let mut i = 0;
-    while i < numbers.len() {
-        put_le(out, at + i * 8, 8, numbers[i]);
-        i += 1;
+    for (i, number) in numbers.iter().enumerate() {
+        write_le(out, at + i * 8, *number);
     }
 }
