@@ -1,4 +1,5 @@
 -- A table that is extended, and one that gives its last fragment up.
+use Rattle.std.specs.Prelude.{Some, None, Ok, Err}
 use mathlib.Core.Path.{◌≡◌, refl, sym, ap, ◌∙◌}
 use mathlib.Core.Bool.{Bool, true, false}
 use mathlib.Core.List.{List}
@@ -15,9 +16,7 @@ use Rattle.refusals.specs.declared.Refusal.TheVariants.{FileTooLong, TableFull, 
 use Rattle.places.proofs.Blocks.{block_stands}
 use Rattle.chain.proofs.Chains.{total_bound}
 use Rattle.table.specs.Meaning.{changed_by}
-use Rattle.table.specs.declared.layout.TableChanged.TheVariants.{Done, Refused}
 use Rattle.table.specs.Passed.{passes}
-use Rattle.table.specs.declared.soundness.FileEnd.TheVariants.{Unknown, At}
 use Rattle.table.proofs.Ordered.{without_file, with_file}
 use Rattle.table.proofs.Fragments.{length_fragments, in_order, total_all, sound_ordered, all_inside}
 
@@ -35,16 +34,16 @@ dropped w n p h k = rw (k, h) refl
 
 -- ---- the last fragment given up
 
-module _ (w : List ℕ) (t : Bool) (passed : t ≡ passes Unknown w) where
+module _ (w : List ℕ) (t : Bool) (passed : t ≡ passes None w) where
   h : t ≡ ordered w
   h = passed ∙ without_file w
 
-  pub up_unordered : t ≡ false → changed_by (Refused BadTable) w ≡ shortened w
+  pub up_unordered : t ≡ false → changed_by (Err BadTable) w ≡ shortened w
   unfolding shortened
   up_unordered n = sym (rw (sym h ∙ n) refl)
 
   module _ (s : t ≡ true) (n : ℕ) (k : n ≡ count_of w) where
-    pub up_empty : n ≡ 0 → changed_by (Refused TableEmpty) w ≡ shortened w
+    pub up_empty : n ≡ 0 → changed_by (Err TableEmpty) w ≡ shortened w
     unfolding shortened
     up_empty z = sym (rw (sym h ∙ s, eq-eqb _ _ (sym k ∙ z)) refl)
 
@@ -56,7 +55,7 @@ module _ (w : List ℕ) (t : Bool) (passed : t ≡ passes Unknown w) where
       pub up_asks : (0 < count_of w) × (count_of w ≤ table_limit)
       up_asks = (some (count_of w) (λ y. z (k ∙ y)), (in_order w (sym h ∙ s)).few)
 
-      pub up_done : (v : List ℕ) → v ≡ without_last w → changed_by Done v ≡ shortened w
+      pub up_done : (v : List ℕ) → v ≡ without_last w → changed_by (Ok tt) v ≡ shortened w
       unfolding shortened
       up_done v q = sym (rw (sym h ∙ s, ne_eqb _ _ (λ y. z (k ∙ y)), q) refl)
 
@@ -70,25 +69,25 @@ room f w l s =
     omega (arith, all, total_all w (sound_ordered w f s))
 
 module _ (f w : List ℕ) (a : ℕ) where
-  pub extend_long : file_limit < length f → changed_by (Refused FileTooLong) w ≡ extended f a w
+  pub extend_long : file_limit < length f → changed_by (Err FileTooLong) w ≡ extended f a w
   unfolding extended
   extend_long l = rw (lt-ltb _ _ l) refl
 
-  module _ (l : length f ≤ file_limit) (t : Bool) (passed : t ≡ passes (At (length f)) w) where
+  module _ (l : length f ≤ file_limit) (t : Bool) (passed : t ≡ passes (Some (length f)) w) where
     e : t ≡ sound f w
     e = passed ∙ with_file f w
 
-    pub extend_unsound : t ≡ false → changed_by (Refused BadTable) w ≡ extended f a w
+    pub extend_unsound : t ≡ false → changed_by (Err BadTable) w ≡ extended f a w
     unfolding extended
     extend_unsound n = rw (le-ltb _ _ l, sym e ∙ n) refl
 
     module _ (n : t ≡ true) where
-      pub extend_refused_law : (r : Refusal) → block_at id_dt f a ≡ refused r → changed_by (Refused r) w ≡ extended f a w
+      pub extend_refused_law : (r : Refusal) → block_at id_dt f a ≡ refused r → changed_by (Err r) w ≡ extended f a w
       unfolding extended
       extend_refused_law r h = sym (rw (le-ltb _ _ l, sym e ∙ n, h) refl)
 
       module _ (b : Block) (h : block_at id_dt f a ≡ answer b) (c : ℕ) (q : c ≡ count_of w) where
-        pub extend_full : table_limit ≤ c → changed_by (Refused TableFull) w ≡ extended f a w
+        pub extend_full : table_limit ≤ c → changed_by (Err TableFull) w ≡ extended f a w
         unfolding extended
         extend_full m = let k : table_limit ≤ count_of w = omega arith in sym (rw (le-ltb _ _ l, sym e ∙ n, h, le-leb _ _ k) refl)
 
@@ -97,8 +96,8 @@ module _ (f w : List ℕ) (a : ℕ) where
             let s : sound f w ≡ true = sym e ∙ n in
             (omega arith, omega (arith, room f w l s, (block_stands id_dt f a b h).1.inside))
 
-        pub extend_done : c < table_limit → (v : List ℕ) → v ≡ with_block w b → changed_by Done v ≡ extended f a w
+        pub extend_done : c < table_limit → (v : List ℕ) → v ≡ with_block w b → changed_by (Ok tt) v ≡ extended f a w
         unfolding extended
         extend_done m v y =
             let k : count_of w < table_limit = omega arith in
-            ap (changed_by Done) y ∙ sym (rw (le-ltb _ _ l, sym e ∙ n, h, lt-leb _ _ k) refl)
+            ap (changed_by (Ok tt)) y ∙ sym (rw (le-ltb _ _ l, sym e ∙ n, h, lt-leb _ _ k) refl)

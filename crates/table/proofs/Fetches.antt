@@ -1,4 +1,5 @@
 -- The ways through a fetch by a table.
+use Rattle.std.specs.Prelude.{Some, Ok}
 use mathlib.Core.Path.{◌≡◌, refl, sym, ap, ◌∙◌}
 use mathlib.Core.Bool.{Bool, true, false}
 use mathlib.Core.List.{List, ◌++◌}
@@ -14,13 +15,10 @@ use Rattle.definitions.specs.Chain.{file_limit, joined, bad_size, record_of}
 use Rattle.definitions.specs.Table.{total_in, blocks_in, sound, table_fetched}
 use Rattle.records.specs.Meaning.{fetched_by}
 use Rattle.records.specs.Window.{laid}
-use Rattle.records.specs.declared.record.RecordRead.{RecordRead}
-use Rattle.records.specs.declared.record.RecordRead.TheVariants.{Record}
 use Rattle.records.proofs.Fetches.{sized}
 use Rattle.records.proofs.Laying.{laid_whole}
 use Rattle.records.proofs.Records.{size_good}
 use Rattle.table.specs.Passed.{passes}
-use Rattle.table.specs.declared.soundness.FileEnd.TheVariants.{At}
 use Rattle.table.proofs.Ordered.{with_file}
 use Rattle.table.proofs.Fragments.{data_long}
 
@@ -30,9 +28,9 @@ module _ (f w : List ℕ) (k size : ℕ) (out : List ℕ) where
   table_bad b = rw b refl
 
   -- a record that was fetched fits into the buffer
-  pub fits : {r : RecordRead} {left : List ℕ} → fetched_by r left ≡ table_fetched f w k size out → r ≡ Record → size ≤ length out
+  pub fits : {u : Unit {0}} {left : List ℕ} → fetched_by (Ok u) left ≡ table_fetched f w k size out → size ≤ length out
   unfolding table_fetched
-  fits e is = (sized size out _ e is).0
+  fits e = (sized size out _ e).0
 
   module _ (good : bad_size size (length out) ≡ false) where
     pub table_long : file_limit < length f → record { reply = refusal 7 0; buffer = out } ≡ table_fetched f w k size out
@@ -40,7 +38,7 @@ module _ (f w : List ℕ) (k size : ℕ) (out : List ℕ) where
     table_long l = rw (good, lt-ltb _ _ l) refl
 
     module _ (l : length f ≤ file_limit) where
-      pub table_unsound : (t : Bool) → t ≡ passes (At (length f)) w → t ≡ false → record { reply = refusal 32 0; buffer = out } ≡ table_fetched f w k size out
+      pub table_unsound : (t : Bool) → t ≡ passes (Some (length f)) w → t ≡ false → record { reply = refusal 32 0; buffer = out } ≡ table_fetched f w k size out
       unfolding table_fetched
       table_unsound t e n = rw (good, le-ltb _ _ l, sym (e ∙ with_file f w) ∙ n) refl
 

@@ -1,6 +1,7 @@
 pub mod Words
 pub mod Ordered
 pub mod Fragments
+pub mod Searches
 pub mod Windows
 pub mod Openings
 pub mod Extensions

@@ -1,4 +1,5 @@
 -- A table that is opened: cleared, and filled along a chain.
+use Rattle.std.specs.Prelude.{Ok, Err}
 use mathlib.Core.Path.{◌≡◌, refl, sym, ap, ◌∙◌}
 use mathlib.Core.List.{List, [], ◌∷◌, ◌++◌, append-nil}
 use Prim.Native.Nat.{ℕ, zero, suc, ◌+◌, ◌≤◌, ◌<◌}
@@ -14,9 +15,6 @@ use Rattle.refusals.specs.declared.Refusal.TheVariants.{FileTooLong, TableFull}
 use Rattle.places.proofs.Answers.{answered}
 use Rattle.table.specs.Meaning.{changed_by}
 use Rattle.table.specs.Listed.{AddsWithin, added_within, Filled, Lists}
-use Rattle.table.specs.declared.layout.TableChanged.TheVariants.{Done, Refused}
-use Rattle.table.specs.declared.opening.Listed.{Listed}
-use Rattle.table.specs.declared.opening.Listed.TheVariants.{Whole, Refused as NotListed}
 use Rattle.table.proofs.Words.{one_more}
 
 -- ---- words cleared
@@ -68,31 +66,31 @@ module _ (most : ℕ) (bs : List Block) (w v : List ℕ) (fill : Filled most bs 
 -- ---- the ways through an opening
 
 module _ (f : List ℕ) (start : ℕ) (w : List ℕ) where
-  pub open_long : file_limit < length f → changed_by (Refused FileTooLong) w ≡ opened f start w
+  pub open_long : file_limit < length f → changed_by (Err FileTooLong) w ≡ opened f start w
   unfolding opened
   open_long l = rw (lt-ltb _ _ l) refl
 
   module _ (l : length f ≤ file_limit) (v : List ℕ) where
-    pub open_refused_law : (r : Refusal) → Lists (NotListed r) id_dt f start 0 w v → changed_by (Refused r) v ≡ opened f start w
+    pub open_refused_law : (r : Refusal) → Lists (Err r) id_dt f start 0 w v → changed_by (Err r) v ≡ opened f start w
     unfolding opened
-    open_refused_law r h = ap (changed_by (Refused r)) (h.1 refl) ∙ sym (rw (le-ltb _ _ l, h.0) refl)
+    open_refused_law r h = ap (changed_by (Err r)) (h.1 refl) ∙ sym (rw (le-ltb _ _ l, h.0) refl)
 
-    module _ (n : ℕ) (h : Lists (Whole n) id_dt f start 0 w v) where
-      pub open_full : table_limit < n → changed_by (Refused TableFull) v ≡ opened f start w
+    module _ (n : ℕ) (h : Lists (Ok n) id_dt f start 0 w v) where
+      pub open_full : table_limit < n → changed_by (Err TableFull) v ≡ opened f start w
       unfolding opened
       open_full m =
           let k : table_limit < length h.0 = omega (arith, h.2) in
-          ap (changed_by (Refused TableFull)) (h.3.none refl) ∙ sym (rw (le-ltb _ _ l, h.1, lt-ltb _ _ k) refl)
+          ap (changed_by (Err TableFull)) (h.3.none refl) ∙ sym (rw (le-ltb _ _ l, h.1, lt-ltb _ _ k) refl)
 
       -- the second walk meets the same blocks
-      again : (r : Listed) (e x : List ℕ) → n ≤ table_limit → Lists r id_dt f start table_limit e x → x ≡ table_of h.0
-      again (Whole k) e x m g =
-          let same : g.0 ≡ h.0 = answered (sym g.1 ∙ h.1) in
-          g.3.all (omega arith) (omega (arith, h.2, ap length same)) ∙ ap table_of same
-      again (NotListed r) e x m g = not_answered h.0 _ _ (sym g.0 ∙ h.1)
-
-      pub open_done : (r : Listed) (e x : List ℕ) → n ≤ table_limit → Lists r id_dt f start table_limit e x → changed_by Done x ≡ opened f start w
+      pub open_done : (k : ℕ) (e x : List ℕ) → n ≤ table_limit → Lists (Ok k) id_dt f start table_limit e x → changed_by (Ok tt) x ≡ opened f start w
       unfolding opened
-      open_done r e x m g =
-          let k : length h.0 ≤ table_limit = omega (arith, h.2) in
-          ap (changed_by Done) (again r e x m g) ∙ sym (rw (le-ltb _ _ l, h.1, le-ltb _ _ k) refl)
+      open_done k e x m g =
+          let few : length h.0 ≤ table_limit = omega (arith, h.2) in
+          let same : g.0 ≡ h.0 = answered (sym g.1 ∙ h.1) in
+          let again : x ≡ table_of h.0 = g.3.all (omega arith) (omega (arith, h.2, ap length same)) ∙ ap table_of same in
+          ap (changed_by (Ok tt)) again ∙ sym (rw (le-ltb _ _ l, h.1, le-ltb _ _ few) refl)
+
+      -- so it is not refused
+      pub open_again : {A : Type 0} (r : Refusal) (e x : List ℕ) → Lists (Err r) id_dt f start table_limit e x → A
+      open_again r e x g = not_answered h.0 _ _ (sym g.0 ∙ h.1)

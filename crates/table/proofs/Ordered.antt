@@ -1,4 +1,5 @@
 -- The one pass over a table's fragments, from the last to the first: what is left of the test after each.
+use Rattle.std.specs.Prelude.{Option, Some, None}
 use mathlib.Core.Path.{◌≡◌, refl, sym, ap, ap₂, ◌∙◌}
 use mathlib.Core.Bool.{Bool, true, false, ◌&&◌}
 use mathlib.Core.List.{List, [], ◌∷◌, ◌++◌}
@@ -11,8 +12,6 @@ use borrow.Author.Tests.{lt-ltb, le-ltb, lt-leb, le-leb, leb-true, leb-false}
 use Rattle.definitions.specs.Chain.{Block}
 use Rattle.definitions.specs.Table.{table_limit, count_of, total_in, address_at, position_at, begin_of, fragment_in, fragments_in, rising, ordered, in_file, sound}
 use Rattle.table.specs.Passed.{ends_by, all_end, passes}
-use Rattle.table.specs.declared.soundness.FileEnd.{FileEnd}
-use Rattle.table.specs.declared.soundness.FileEnd.TheVariants.{Unknown, At}
 
 -- ---- a block's end, tested without a sum
 
@@ -63,16 +62,16 @@ module _ (n : ℕ) where
       joint true x y = refl
       joint false x y = refl
 
-all_more : (end : FileEnd) (bs : List Block) (b : Block) → all_end end (bs ++ (b ∷ [])) ≡ all_end end bs && ends_by end (b.address + 24 + b.size)
-all_more Unknown bs b = refl
-all_more (At n) bs b = in_file_more n bs b
+all_more : (end : Option ℕ) (bs : List Block) (b : Block) → all_end end (bs ++ (b ∷ [])) ≡ all_end end bs && ends_by end (b.address + 24 + b.size)
+all_more None bs b = refl
+all_more (Some n) bs b = in_file_more n bs b
 
-all_none : (end : FileEnd) → all_end end [] ≡ true
+all_none : (end : Option ℕ) → all_end end [] ≡ true
 unfolding in_file
-all_none Unknown = refl
-all_none (At n) = refl
+all_none None = refl
+all_none (Some n) = refl
 
-module _ (end : FileEnd) (w : List ℕ) where
+module _ (end : Option ℕ) (w : List ℕ) where
   -- what is left of the test
   abbrev pub passes_up_to : ℕ → Bool
   passes_up_to i = (eqb (begin_of w 0) 0 && rising w i) && all_end end (fragments_in w i)
@@ -132,9 +131,9 @@ module _ (end : FileEnd) (w : List ℕ) where
 
 -- ---- the two ways in which it is asked
 
-pub without_file : (w : List ℕ) → passes Unknown w ≡ ordered w
+pub without_file : (w : List ℕ) → passes None w ≡ ordered w
 without_file w = and_true (ordered w)
 
-pub with_file : (f w : List ℕ) → passes (At (length f)) w ≡ sound f w
+pub with_file : (f w : List ℕ) → passes (Some (length f)) w ≡ sound f w
 unfolding sound
 with_file f w = refl

@@ -1,6 +1,6 @@
 -- The places of a table, and the last of them that begins no later than a position.
-use mathlib.Core.Path.{◌≡◌, refl, sym, ap, ap₂, ◌∙◌}
-use mathlib.Core.Bool.{Bool, true, false}
+use mathlib.Core.Path.{◌≡◌, refl, ap, ap₂, ◌∙◌}
+use mathlib.Core.Bool.{true, false}
 use mathlib.Core.List.{List, [], ◌∷◌}
 use mathlib.Core.Logic.{inl, inr}
 use Prim.Native.Nat.{ℕ, zero, suc, ◌+◌, ◌-◌, ◌*◌, ◌/◌, ◌≤◌, ◌<◌}
@@ -9,10 +9,10 @@ use native.Mathlib.Nat.{eq-or-lt_of_le}
 use native.Mathlib.Numerals.{add-one}
 use lib.ListN.{length, get_or, take, drop}
 use lib.Dec.{leb}
-use borrow.Author.Tests.{leb-true, leb-false, le-leb}
+use borrow.Author.Tests.{leb-true, leb-false}
 use borrow.Rule.Slice.PartMut.{mid_of}
 use Rattle.std.specs.Simd.{first_chunks}
-use Rattle.std.specs.List.Sorted.{IsPartitionPoint, IsNonDecreasingBy, IsPartitionedBy}
+use Rattle.std.specs.List.Sorted.{IsPartitionPoint, IsPartitionedBy}
 use Rattle.std.proofs.lemmas.List.{get_or-drop, get_or-take, length-drop, length-take}
 use Rattle.std.proofs.lemmas.List.Sorted.{IsNonDecreasingBy-from_default, IsPartitionedBy-leb}
 use Rattle.definitions.specs.Table.{table_limit, count_of, position_at, begin_of, ordered}
@@ -88,8 +88,8 @@ module _ (w : List ℕ) (places : List (List ℕ)) (p : Places w places) (o : or
   parted wanted =
       IsPartitionedBy-leb begins_of listed wanted
       (IsNonDecreasingBy-from_default begins_of listed [] (λ i j le lt.
-        let l : j < count_of w = omega (arith, as_many) in
-        omega (arith, begins_at i (omega arith), begins_at j l, rise i j le l)))
+      let l : j < count_of w = omega (arith, as_many) in
+      omega (arith, begins_at i (omega arith), begins_at j l, rise i j le l)))
 
   -- the place before the first that begins later
   module _ (wanted k : ℕ) (some : 0 < count_of w) (starts : position_at w 0 ≤ wanted) (bound : k ≤ length listed)

@@ -1,26 +1,22 @@
 -- A window on the data of a table's fragments.
-use mathlib.Core.Path.{◌≡◌, refl, sym, ap, subst, ◌∙◌}
+use mathlib.Core.Path.{◌≡◌, refl, sym, ap, ◌∙◌}
 use mathlib.Core.Bool.{true}
-use mathlib.Core.Logic.{inl, inr}
 use mathlib.Core.List.{List, [], ◌∷◌, ◌++◌}
 use Prim.Native.Nat.{ℕ, ◌+◌, ◌-◌, ◌≤◌, ◌<◌}
 use native.Mathlib.Omega.{arith}
 use lib.ListN.{length}
 use Rattle.definitions.specs.Chain.{Block, data_of, joined, total}
-use Rattle.definitions.specs.Table.{count_of, total_in, address_at, position_at, begin_of, fragment_in, fragments_in, blocks_in, sound}
-use Rattle.definitions.proofs.Replies.{le_or_lt}
+use Rattle.definitions.specs.Table.{count_of, address_at, position_at, begin_of, fragment_in, fragments_in, blocks_in, ordered, in_file, sound}
+use Rattle.definitions.proofs.Replies.{both}
 use Rattle.chain.specs.Walk.{Inside}
 use Rattle.records.specs.Window.{laid}
 use Rattle.records.proofs.Laying.{lay_start, lay_turn, lay_full}
-use Rattle.table.specs.Holds.{Holds}
-use Rattle.table.proofs.Ordered.{begin_at, begin_past}
+use Rattle.table.proofs.Ordered.{begin_at}
 use Rattle.table.proofs.Fragments.{fragments_one, split_at, rise_at, total_at, sound_ordered, first_inside, lies}
 
--- the two ends of the halving meet
-pub found : (w : List ℕ) (p low high : ℕ) → low < high → high ≤ low + 1 → high ≤ count_of w → position_at w low ≤ p → (high < count_of w → p < position_at w high) → Holds w p low
-found w p low high a b c d e =
-    let h : high ≡ low + 1 = omega arith in
-    record { one = omega arith; begins = d; ends = subst (λ (k : ℕ). k < count_of w → p < position_at w k) h e }
+pub sound_order : (f w : List ℕ) → sound f w ≡ true → ordered w ≡ true
+unfolding sound
+sound_order f w s = (both (ordered w) (in_file (length f) (blocks_in w)) s).0
 
 module _ (f w : List ℕ) (s : sound f w ≡ true) (d : List ℕ) (from i : ℕ) (one : i < count_of w) where
   size_here : total (fragments_in w i) ≡ position_at w i
@@ -64,10 +60,3 @@ module _ (f w : List ℕ) (s : sound f w ≡ true) (d : List ℕ) (from i : ℕ)
         let part = split_at w (count_of w) (i + 1) (omega arith) in
         lay_full d from f (fragments_in w (i + 1)) e (first_inside w f s (i + 1) (omega arith)) (total_at w (sound_ordered w f s) (i + 1) (omega arith) ∙ sym he)
         new so part.0 (blocks_in w) part.1 full
-
-    -- or there is another fragment
-    pub window_on : e < from + length d → from + length d ≤ total_in w → i + 1 < count_of w
-    window_on short fits = elim (le_or_lt (count_of w) (i + 1)) [
-      | inl past ↦ let no : ⊥ = omega (arith, he, begin_past w (i + 1) past) in absurd no
-      | inr on ↦ on
-    ]

@@ -1,11 +1,10 @@
 -- The first fragments of a chain, listed in a table.
-use Rattle.std.specs.Prelude.{◌≡◌, ℕ, ◌+◌, ◌≤◌, ◌<◌, List, length, ltb, if◌then◌else◌}
+use Rattle.std.specs.Prelude.{◌≡◌, ℕ, ◌+◌, ◌≤◌, ◌<◌, List, length, ltb, if◌then◌else◌, Result, Ok, Err}
 use Rattle.definitions.specs.Reply.{answer}
 use Rattle.definitions.specs.Chain.{Block, chain_of}
 use Rattle.definitions.specs.Table.{table_limit, count_of, total_in, with_block, table_of}
 use Rattle.refusals.specs.Meaning.{refused}
-use Rattle.table.specs.declared.opening.Listed.{Listed}
-use Rattle.table.specs.declared.opening.Listed.TheVariants.{Whole, Refused}
+use Rattle.refusals.specs.declared.Refusal.{Refusal}
 
 -- fragment i, if it is one of the first `most`, has room
 abbrev pub AddsWithin : ℕ → ℕ → List ℕ → Block → Type 0
@@ -21,6 +20,6 @@ pub record Filled (most : ℕ) (bs : List Block) (w v : List ℕ) : Type 0 where
   pub all : 0 < most → length bs ≤ most → v ≡ table_of bs
 
 -- what a walk along a chain says of it, and what it leaves of a table; id is that of its data blocks
-abbrev pub Lists : Listed → List ℕ → List ℕ → ℕ → ℕ → List ℕ → List ℕ → Type 0
-Lists (Whole n) id f start most w v = (bs : List Block) × (chain_of id f start ≡ answer bs) × (length bs ≡ n) × Filled most bs w v
-Lists (Refused r) id f start most w v = (chain_of id f start ≡ refused r) × (most ≡ 0 → v ≡ w)
+abbrev pub Lists : Result ℕ Refusal → List ℕ → List ℕ → ℕ → ℕ → List ℕ → List ℕ → Type 0
+Lists (Ok n) id f start most w v = (bs : List Block) × (chain_of id f start ≡ answer bs) × (length bs ≡ n) × Filled most bs w v
+Lists (Err r) id f start most w v = (chain_of id f start ≡ refused r) × (most ≡ 0 → v ≡ w)

@@ -1,13 +1,11 @@
 -- What a call's answer and the table that it leaves mean in the definitions.
-use Rattle.std.specs.Prelude.{ℕ, List}
-use Rattle.definitions.specs.Reply.{Reply, Outcome, answer}
-use Rattle.refusals.specs.Meaning.{refused}
-use Rattle.table.specs.declared.layout.TableChanged.{TableChanged}
-use Rattle.table.specs.declared.layout.TableChanged.TheVariants.{Done, Refused}
+use Rattle.std.specs.Prelude.{ℕ, List, Result}
+use Rattle.definitions.specs.Reply.{Reply, Outcome}
+use Rattle.refusals.specs.Meaning.{replied}
+use Rattle.refusals.specs.declared.Refusal.{Refusal}
 
-abbrev pub change_reply : TableChanged → Reply (Unit {0})
-change_reply Done = answer tt
-change_reply (Refused r) = refused r
+abbrev pub change_reply : Result (Unit {0}) Refusal → Reply (Unit {0})
+change_reply = replied (λ u. u)
 
-abbrev pub changed_by : TableChanged → List ℕ → Outcome (Unit {0})
+abbrev pub changed_by : Result (Unit {0}) Refusal → List ℕ → Outcome (Unit {0})
 changed_by r w = record { reply = change_reply r; buffer = w }

@@ -2,22 +2,15 @@
 ghost use Rattle.std.specs.Prelude.{◌≡◌, ◌+◌, ◌≤◌, ◌<◌};
 ghost use Rattle.definitions.specs.Table.{table_limit, count_of, total_in, address_at, position_at, begin_of, with_block};
 ghost use Rattle.places.specs.Meaning.{block_meant};
+ghost use Rattle.table.specs.Holds.{Places};
 
 use chain::{DataBlock, DataPosition, FileAddress};
-use refusals::Refusal;
 
 // How many fragments, the length of their data, then an address and a position in each of 512 places
 pub type Table = [u64; 1026];
 
 // the fragments of a table
 pub(crate) const TABLE_LIMIT: u64 = 512;
-
-// what became of a table that was to change
-#[derive(Clone, Copy)]
-pub enum TableChanged {
-    Done,
-    Refused(Refusal),
-}
 
 pub(crate) fn count(table: &Table) -> u64
     ensures { result ≡ count_of table.now }
@@ -29,6 +22,13 @@ pub(crate) fn total(table: &Table) -> DataPosition
     ensures { result.0 ≡ total_in table.now }
 {
     DataPosition(table[1])
+}
+
+// The places, each an address and a position
+pub(crate) fn places(table: &Table) -> &[[u64; 2]]
+    ensures { Places table.now result.now }
+{
+    table[2..].as_chunks::<2>().0
 }
 
 pub(crate) fn address_at(table: &Table, place: u64) -> FileAddress

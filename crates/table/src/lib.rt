@@ -12,7 +12,7 @@ mod value;
 
 pub use extension::extend_table;
 pub use fetch::fetch_record;
-pub use layout::{Table, TableChanged};
+pub use layout::Table;
 pub use opening::open_table;
 pub use shorter::shorten_table;
 pub use value::fetch_value;

@@ -3,8 +3,8 @@ ghost use Rattle.std.specs.Prelude.{◌≡◌, ◌≤◌, ◌<◌};
 ghost use Rattle.definitions.specs.Table.{table_limit, count_of, without_last, shortened};
 ghost use Rattle.table.specs.Meaning.{changed_by};
 
-use crate::layout::{Table, TableChanged, count, position_at};
-use crate::soundness::{FileEnd, can_be_right};
+use crate::layout::{Table, count, position_at};
+use crate::soundness::can_be_right;
 use refusals::Refusal;
 
 // its place is cleared
@@ -20,15 +20,15 @@ fn drop_last(table: &mut Table)
     table[3 + last as usize * 2] = 0;
 }
 
-pub fn shorten_table(table: &mut Table) -> TableChanged
+pub fn shorten_table(table: &mut Table) -> Result<(), Refusal>
     ensures { changed_by result table.new ≡ shortened table.old }
 {
-    if !can_be_right(table, FileEnd::Unknown) {
-        return TableChanged::Refused(Refusal::BadTable);
+    if !can_be_right(table, None) {
+        return Err(Refusal::BadTable);
     }
     if count(table) == 0 {
-        return TableChanged::Refused(Refusal::TableEmpty);
+        return Err(Refusal::TableEmpty);
     }
     drop_last(table);
-    TableChanged::Done
+    Ok(())
 }

@@ -8,44 +8,32 @@ use chain::FileAddress;
 // the bytes of a header
 const HEADER_SIZE: u64 = 24;
 
-// where the file ends, if one is given
-#[derive(Clone, Copy)]
-pub enum FileEnd {
-    Unknown,
-    At(u64),
-}
-
-// Whether a block, with its header, ends inside the file. No sum is taken, since it could wrap.
-fn ends_inside(address: FileAddress, size: u64, end: FileEnd) -> bool
-    ensures { result ≡ ends_by end (address.0 + 24 + size) }
+// Whether a block, with its header, ends inside the file, where one is given. No sum is taken, since it could wrap.
+fn ends_inside(address: FileAddress, size: u64, file_end: Option<u64>) -> bool
+    ensures { result ≡ ends_by file_end (address.0 + 24 + size) }
 {
-    let FileEnd::At(length) = end else {
+    let Some(length) = file_end else {
         return true;
     };
-    if length < HEADER_SIZE {
-        return false;
-    }
-    if length - HEADER_SIZE < size {
-        return false;
-    }
-    address.0 <= length - HEADER_SIZE - size
+    HEADER_SIZE <= length
+        && size <= length - HEADER_SIZE
+        && address.0 <= length - HEADER_SIZE - size
 }
 
-pub(crate) fn can_be_right(table: &Table, file_end: FileEnd) -> bool
+pub(crate) fn can_be_right(table: &Table, file_end: Option<u64>) -> bool
     ensures { result ≡ passes file_end table.now }
 {
-    let mut i = count(table);
-    if TABLE_LIMIT < i {
+    let fragments = count(table);
+    if TABLE_LIMIT < fragments {
         return false;
     }
     let mut end = total(table);
-    while 0 < i {
-        i -= 1;
-        let begin = position_at(table, i);
+    for place in (0..fragments).rev() {
+        let begin = position_at(table, place);
         if end.0 < begin.0 {
             return false;
         }
-        let address = address_at(table, i);
+        let address = address_at(table, place);
         if !ends_inside(address, end.0 - begin.0, file_end) {
             return false;
         }

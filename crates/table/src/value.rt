@@ -6,7 +6,8 @@ ghost use Rattle.records.specs.Meaning.{value_fetched_by};
 
 use crate::fetch::fetch_record;
 use crate::layout::Table;
-use decoder::{Channel, Group, ValidValueRead};
+use decoder::{Channel, DecodedChannelValue, Group, any_bounded_value};
+use refusals::Refusal;
 
 // A field that is refused leaves the record in the buffer.
 pub fn fetch_value(
@@ -17,9 +18,9 @@ pub fn fetch_value(
     group: Group,
     channel: Channel,
     buffer: &mut [u8],
-) -> ValidValueRead
+) -> Result<DecodedChannelValue, Refusal>
     ensures { value_fetched_by result buffer.new ≡ table_value_fetched file.now table.now number record_size (group_meant group) (channel_meant channel) buffer.old }
 {
-    let fetched = fetch_record(file, table, number, record_size, buffer);
-    fetched.value(record_size, group, channel, buffer)
+    fetch_record(file, table, number, record_size, buffer)?;
+    any_bounded_value(&buffer[..record_size as usize], group, channel)
 }

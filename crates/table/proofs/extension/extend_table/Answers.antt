@@ -1,5 +1,5 @@
-use mathlib.Core.Path.{sym, ap, ◌∙◌}
-use Rattle.places.specs.Meaning.{block_reply}
+use Rattle.std.proofs.lemmas.Result.{err_from_is_err_and}
+use mathlib.Core.Path.{sym}
 use Rattle.table.proofs.Extensions.{extend_long, extend_unsound, extend_refused_law, extend_full, extend_asks, extend_done}
 use Rattle.table.proofs.extension.extend_table.Goals as goal
 
@@ -11,26 +11,25 @@ returns-then-not-can_be_right c =
     let a = c.args in
     extend_unsound a.file.now a.table.now a.address.0 c.if-file-gt-FILE_LIMIT.false _ c.can_be_right.ensures c.if-not-can_be_right.true
 
-pub returns-in_default : goal.returns-in_default
-returns-in_default c =
+pub returns-in_err-block : goal.returns-in_err-block
+returns-in_err-block c =
     let a = c.args in
-    extend_refused_law a.file.now a.table.now a.address.0 c.if-file-gt-FILE_LIMIT.false _ c.can_be_right.ensures c.if-not-can_be_right.false c.refusal.result
-    (sym c.data_block_at-read.ensures ∙ ap block_reply c.refusal.ensures)
+    let p = err_from_is_err_and c.from_residual.result c.from_residual.ensures.1 in
+    rw (p.1, p.2)
+    (extend_refused_law a.file.now a.table.now a.address.0 c.if-file-gt-FILE_LIMIT.false _ c.can_be_right.ensures c.if-not-can_be_right.false _
+    (sym c.in_err-block.ensures))
 
 pub returns-then-count-ge-TABLE_LIMIT : goal.returns-then-count-ge-TABLE_LIMIT
 returns-then-count-ge-TABLE_LIMIT c =
     let a = c.args in
-    let block = sym c.data_block_at-read.ensures ∙ ap block_reply c.in-Block.is in
-    extend_full a.file.now a.table.now a.address.0 c.if-file-gt-FILE_LIMIT.false _ c.can_be_right.ensures c.if-not-can_be_right.false _ block _ c.count.ensures c.if-count-ge-TABLE_LIMIT.true
+    extend_full a.file.now a.table.now a.address.0 c.if-file-gt-FILE_LIMIT.false _ c.can_be_right.ensures c.if-not-can_be_right.false _ (sym c.in_ok-block.ensures) _ c.count.ensures c.if-count-ge-TABLE_LIMIT.true
 
 pub add-requires : goal.add-requires
 add-requires c =
     let a = c.args in
-    let block = sym c.data_block_at-read.ensures ∙ ap block_reply c.in-Block.is in
-    extend_asks a.file.now a.table.now a.address.0 c.if-file-gt-FILE_LIMIT.false _ c.can_be_right.ensures c.if-not-can_be_right.false _ block _ c.count.ensures c.if-count-ge-TABLE_LIMIT.false
+    extend_asks a.file.now a.table.now a.address.0 c.if-file-gt-FILE_LIMIT.false _ c.can_be_right.ensures c.if-not-can_be_right.false _ (sym c.in_ok-block.ensures) _ c.count.ensures c.if-count-ge-TABLE_LIMIT.false
 
 pub returns : goal.returns
 returns c =
     let a = c.args in
-    let block = sym c.data_block_at-read.ensures ∙ ap block_reply c.in-Block.is in
-    extend_done a.file.now a.table.now a.address.0 c.if-file-gt-FILE_LIMIT.false _ c.can_be_right.ensures c.if-not-can_be_right.false _ block _ c.count.ensures c.if-count-ge-TABLE_LIMIT.false _ c.add.ensures
+    extend_done a.file.now a.table.now a.address.0 c.if-file-gt-FILE_LIMIT.false _ c.can_be_right.ensures c.if-not-can_be_right.false _ (sym c.in_ok-block.ensures) _ c.count.ensures c.if-count-ge-TABLE_LIMIT.false _ c.add.ensures

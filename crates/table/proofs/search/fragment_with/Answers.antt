@@ -1,26 +1,25 @@
--- The fragment at `low` begins no later than the position, and the one at `high`, if there is one, later.
-use native.Mathlib.Omega.{arith}
+-- The positions rise, so the fragments that begin no later than a position come first.
+use mathlib.Core.Path.{sym}
 use borrow.Author.Rules.{rules}
-use Rattle.table.proofs.Windows.{found}
+use lib.Dec.{leb}
+use Rattle.std.proofs.lemmas.List.Sorted.{IsPartitionPoint-from_clause}
+use Rattle.table.proofs.Searches.{begins_of, as_many, parted, one_begun, last_begun}
 use Rattle.table.proofs.search.fragment_with.Goals as goal
+use Rattle.table.proofs.search.fragment_with.Goals.{After-partition_point-begun}
 
-pub loop-low-init : goal.loop-low-init
-loop-low-init c = (
-  omega (arith, c.requires.0, c.count-high.ensures),
-  omega (arith, c.count-high.ensures),
-  c.requires.1,
-  c.requires.2,
-  λ h. let no : ⊥ = omega (arith, c.count-high.ensures) in absurd no,
-)
+pub slice_bounds-listed-end : goal.slice_bounds-listed-end
+slice_bounds-listed-end c = rw c.count.ensures (sym (as_many c.args.table.now _ c.places.ensures c.requires.0))
 
-pub loop-low-preserved-then-wanted-position : goal.loop-low-preserved-then-wanted-position
-loop-low-preserved-then-wanted-position c = (search rules, search rules, search rules, search rules, λ h. search rules)
-
-pub loop-low-preserved : goal.loop-low-preserved
-loop-low-preserved c =
-    (search rules, search rules, search rules, search rules, c.loop-low.invariant.4)
+pub overflow_sub-result : goal.overflow_sub-result
+overflow_sub-result c =
+    let a = c.args in
+    let p = parted a.table.now _ c.places.ensures c.requires.0 a.wanted.0 in
+    let point = IsPartitionPoint-from_clause (λ place. leb (begins_of place) a.wanted.0) _ _ (rw c.count.ensures at c.partition_point-begun.ensures.partitioned) p (λ x r q k. search rules) in
+    one_begun a.table.now _ c.places.ensures c.requires.0 a.wanted.0 _ c.requires.1 c.requires.2 (rw c.count.ensures at c.partition_point-begun.ensures.bound) point
 
 pub returns : goal.returns
 returns c =
-    let inv = c.loop-low.invariant in
-    found _ _ _ _ inv.0 c.loop-low-test.false inv.1 inv.3 inv.4
+    let a = c.args in
+    let p = parted a.table.now _ c.places.ensures c.requires.0 a.wanted.0 in
+    let point = IsPartitionPoint-from_clause (λ place. leb (begins_of place) a.wanted.0) _ _ (rw c.count.ensures at c.partition_point-begun.ensures.partitioned) p (λ x r q k. search rules) in
+    last_begun a.table.now _ c.places.ensures c.requires.0 a.wanted.0 _ c.requires.1 c.requires.2 (rw c.count.ensures at c.partition_point-begun.ensures.bound) point
