@@ -12,11 +12,11 @@ ghost use Rattle.decoder.specs.Meaning.{judged_reply, placed};
 ghost use Rattle.decoder.specs.Known.{InWord};
 
 use crate::alike::{decoding_code, placed_channel};
-use crate::near::{FieldWord, NumberForm, find_word, number_form};
-use bit_fields::{near_be, near_le};
+use crate::near::{find_word, fixed_form};
 use fields::{
-    Channel, DecodedChannelValue, DecodedValue, Form, Group, Number, check_bounded_validity,
-    check_value_validity, content_at, find_field, form_of, number_at, number_value,
+    Channel, DecodedChannelValue, DecodedValue, FieldStart, Form, Group, Number,
+    check_bounded_validity, check_value_validity, content_at, find_field, form_of, number_at,
+    number_value,
 };
 use refusals::Refusal;
 
@@ -47,9 +47,12 @@ fn far_value(
     ensures { value_reply result ≡ value_at (form_kind (form_of (type_of code))) payload «record».now (skipped + byte_offset) (placed (type_of code) bit_offset 0 bit_count) }
 {
     let channel = placed_channel(code, bit_offset, 0, bit_count);
-    let data_type = channel.data_type;
-    let form = form_of(data_type);
-    let field = find_field(record, skipped, byte_offset, payload, form, channel)?;
+    let form = form_of(channel.data_type);
+    let start = FieldStart {
+        skipped,
+        byte_offset,
+    };
+    let field = find_field(record, start, payload, form, channel)?;
     Ok(value_at(record, field.at, field.length, form, channel))
 }
 
@@ -61,8 +64,7 @@ pub fn any_value(
 ) -> Result<DecodedValue, Refusal>
     ensures { value_reply result ≡ value_of «record».now record_id_size (channel_meant channel) }
 {
-    let data_type = channel.data_type;
-    let code = decoding_code(data_type);
+    let code = decoding_code(channel.data_type);
     let offset = channel.bit_offset;
     let count = channel.bit_count;
     if channel.is_variable_length() {
@@ -80,35 +82,17 @@ pub fn any_value(
     )
 }
 
-// The value of a number in a word
-fn near_value(form: NumberForm, field: FieldWord, bit_count: u32) -> DecodedValue
-    requires { InWord form.number field.from bit_count }
-    ensures { value_meant result ≡ number_value form.number bit_count (field_at (order_meant form.big_endian) (le 8 field.word) (field.from / 8) (field.from % 8) bit_count) }
-{
-    let x = if form.big_endian {
-        near_be(field.word, field.from, bit_count)
-    } else {
-        near_le(field.word, field.from, bit_count)
-    };
-    number_value(form.number, bit_count, x)
-}
-
 // A number's value where a word holds its field, and none where the general way has to look.
 #[inline(always)]
 fn short_value(record: &[u8], record_id_size: usize, channel: Channel) -> Option<DecodedValue>
     ensures { IfSome result (λ v. answer (value_meant v) ≡ value_of «record».now record_id_size (channel_meant channel)) }
 {
-    if channel.is_variable_length() {
-        return None;
-    }
+    let form = fixed_form(channel)?;
     let offset = channel.bit_offset;
     let count = channel.bit_count;
-    let form = number_form(channel.data_type, count)?;
-    if 7 < offset {
-        return None;
-    }
     let field = find_word(record, record_id_size, channel.byte_offset, offset, count)?;
-    Some(near_value(form, field, count))
+    let x = field.number(form.big_endian, count);
+    Some(number_value(form.number, count, x))
 }
 
 // It stands inlined in the reading with bounded validity too.

@@ -1,18 +1,35 @@
 // Fields that a word holds: eight bytes of the record, or all of a shorter one. Nearly all are so, and one load reads them.
-ghost use Rattle.std.specs.Prelude.{◌≡◌, ◌+◌, ◌≤◌, ◌<◌};
+ghost use Rattle.std.specs.Prelude.{◌≡◌, ◌+◌, ◌/◌, ◌%◌, ◌≤◌, ◌<◌};
+ghost use Rattle.definitions.specs.Bytes.{le, field_at};
 ghost use Rattle.data_types.specs.Meaning.{type_meant};
-ghost use Rattle.fields.specs.Form.{form_of};
-ghost use Rattle.decoder.specs.Known.{WordTold, NumberTold};
+ghost use Rattle.fields.specs.Form.{order_meant, form_of};
+ghost use Rattle.fields.specs.Meaning.{channel_meant};
+ghost use Rattle.decoder.specs.Known.{FormTold, NumberTold, WordTold};
 
+use bit_fields::{Big, Little, near};
 use data_types::DataType;
-use fields::{Form, Number, form_of, is_no_float_width};
-use words::{few_le_bytes, read_u64_le};
+use fields::{Channel, Form, Number, form_of, is_no_float_width};
+use words::{few_le_bytes, read_le};
 
 // A word whose bytes, the lowest first, hold a field, and the bit of them at which it begins
 #[derive(Clone, Copy, Debug, PartialEq, Eq)]
 pub(crate) struct FieldWord {
     pub word: u64,
     pub from: u32,
+}
+
+impl FieldWord {
+    // The field's bits, by the order of its bytes
+    pub(crate) fn number(self, big_endian: bool, bit_count: u32) -> u64
+        requires { (1 ≤ bit_count) × (self.from + bit_count ≤ 64) }
+        ensures { result ≡ field_at (order_meant big_endian) (le 8 self.word) (self.from / 8) (self.from % 8) bit_count }
+    {
+        if big_endian {
+            near::<Big>(self.word, self.from, bit_count)
+        } else {
+            near::<Little>(self.word, self.from, bit_count)
+        }
+    }
 }
 
 // The eight bytes from the field's first on, else the last eight of the record, else all that it has; a field of nine is in
@@ -28,17 +45,14 @@ pub(crate) fn find_word(
     ensures { WordTold «record».now (skipped + byte_offset) bit_offset bit_count result }
 {
     let length = record.len();
-    if length < skipped {
-        return None;
-    }
-    let left = length - skipped;
+    let left = length.checked_sub(skipped)?;
     let start = byte_offset as usize;
     if start + 8 <= left {
         if 64 < bit_offset as u64 + bit_count as u64 {
             return None;
         }
         return Some(FieldWord {
-            word: read_u64_le(record, skipped + start),
+            word: read_le(record, skipped + start),
             from: bit_offset as u32,
         });
     }
@@ -57,30 +71,36 @@ pub(crate) fn find_word(
         });
     }
     Some(FieldWord {
-        word: read_u64_le(record, length - 8),
+        word: read_le(record, length - 8),
         from,
     })
 }
 
-// A number of a width that has a value, and whether it is big-endian
+// The class of a number of a width that has a value, and whether it is big-endian
 #[derive(Clone, Copy)]
 pub(crate) struct NumberForm {
     pub number: Number,
     pub big_endian: bool,
 }
 
-pub(crate) fn number_form(data_type: DataType, bit_count: u32) -> Option<NumberForm>
+fn number_form(data_type: DataType, bit_count: u32) -> Option<NumberForm>
     ensures { NumberTold (form_of (type_meant data_type)) bit_count result }
 {
-    let form = form_of(data_type);
-    let Form::Number(number, big_endian) = form else {
+    let Form::Number(number, big_endian) = form_of(data_type) else {
         return None;
     };
-    if is_no_float_width(number, bit_count) {
-        return None;
-    }
-    if bit_count == 0 {
+    if bit_count == 0 || is_no_float_width(number, bit_count) {
         return None;
     }
     Some(NumberForm { number, big_endian })
+}
+
+// The same of a channel whose number stands in the record itself, from a bit of its first byte on: no other has a double.
+pub(crate) fn fixed_form(channel: Channel) -> Option<NumberForm>
+    ensures { FormTold (channel_meant channel) result }
+{
+    if channel.is_variable_length() || 7 < channel.bit_offset {
+        return None;
+    }
+    number_form(channel.data_type, channel.bit_count)
 }

@@ -13,11 +13,8 @@ use refusals::Refusal;
 fn is_record_length(length: usize, group: Group) -> bool
     ensures { result ≡ eqb length (record_length (group_meant group)) }
 {
-    if length < group.record_id_size {
-        return false;
-    }
     let behind_id = group.data_bytes as usize + group.invalidation_bytes as usize;
-    length - group.record_id_size == behind_id
+    length.checked_sub(group.record_id_size) == Some(behind_id)
 }
 
 // An invalidation bit that tells, and is behind the last byte that has any
@@ -25,16 +22,11 @@ fn is_bit_outside(group: Group, channel: Channel) -> bool
     ensures { result ≡ has_invalidation_bit (channel_meant channel) && not (ltb channel.pos_invalidation_bit (8 * group.invalidation_bytes)) }
 {
     let flags = channel.flags as u64;
-    if bit_of(flags, 0) != 0 {
-        return false;
-    }
-    if bit_of(flags, 1) != 1 {
-        return false;
-    }
     let bits = 8 * (group.invalidation_bytes as u64);
-    bits <= channel.pos_invalidation_bit as u64
+    bit_of(flags, 0) == 0 && bit_of(flags, 1) == 1 && bits <= channel.pos_invalidation_bit as u64
 }
 
+#[tactic(auto, unfolding(definitions::specs::Channel::area_of))]
 pub fn check_area(length: usize, group: Group, channel: Channel) -> Result<(), Refusal>
     ensures { area_reply result ≡ area_of length (group_meant group) (channel_meant channel) }
 {

@@ -23,9 +23,6 @@ impl Channel {
     pub fn is_variable_length(self) -> bool
         ensures { result ≡ variable_length (channel_meant self) }
     {
-        if self.channel_type != 1 {
-            return false;
-        }
-        self.data != 0
+        self.channel_type == 1 && self.data != 0
     }
 }

@@ -7,7 +7,7 @@ ghost use Rattle.fields.specs.Known.{value_at, FieldTold, FieldPlaced};
 
 use crate::channel::Channel;
 use crate::form::{Content, Form, Number};
-use crate::span::{bit_span, bytes_needed, content_span, ends_outside};
+use crate::span::{FieldStart, bit_span, content_span};
 use refusals::Refusal;
 
 // A field's place in the slice
@@ -20,64 +20,46 @@ pub struct FieldSpan {
 pub fn is_over_a_word(number: Number, bit_count: u32) -> bool
     ensures { result ≡ is_integer (number_kind number) && ltb 64 bit_count }
 {
-    match number {
-        Number::Unsigned => 64 < bit_count,
-        Number::Signed => 64 < bit_count,
-        Number::Float => false,
-    }
+    matches!(number, Number::Unsigned | Number::Signed) && 64 < bit_count
 }
 
 fn is_float_width(bit_count: u32) -> bool
     ensures { result ≡ eqb bit_count 32 || eqb bit_count 64 }
 {
-    if bit_count == 32 {
-        return true;
-    }
-    bit_count == 64
+    matches!(bit_count, 32 | 64)
 }
 
 pub fn is_no_float_width(number: Number, bit_count: u32) -> bool
     ensures { result ≡ is_floating (number_kind number) && not (eqb bit_count 32 || eqb bit_count 64) }
 {
-    match number {
-        Number::Unsigned => false,
-        Number::Signed => false,
-        Number::Float => !is_float_width(bit_count),
-    }
+    matches!(number, Number::Float) && !is_float_width(bit_count)
 }
 
 // Whether a number's description passes each test that asks nothing of the slice
 pub fn is_well_described(number: Number, channel: Channel) -> bool
     ensures { result ≡ is_well_described (number_kind number) (channel_meant channel) }
 {
-    if channel.bit_count == 0 {
-        return false;
-    }
-    if 7 < channel.bit_offset {
-        return false;
-    }
-    if is_over_a_word(number, channel.bit_count) {
-        return false;
-    }
-    !is_no_float_width(number, channel.bit_count)
+    channel.bit_count != 0
+        && channel.bit_offset <= 7
+        && !is_over_a_word(number, channel.bit_count)
+        && !is_no_float_width(number, channel.bit_count)
 }
 
-// A number's field, which starts `byte_offset` bytes after those skipped, or the first cause to have none
+// A number's field, or the first cause to have none
 fn find_number(
     record: &[u8],
-    skipped: usize,
-    byte_offset: usize,
+    start: FieldStart,
     number: Number,
     channel: Channel,
 ) -> Result<FieldSpan, Refusal>
-    ensures { FieldTold (number_kind number) (value_by (number_kind number) (skipped + byte_offset) (bit_span (channel_meant channel)) «record».now (channel_meant channel)) «record».now (channel_meant channel) result × FieldPlaced (skipped + byte_offset) (bit_span (channel_meant channel)) result }
+    ensures { FieldTold (number_kind number) (value_by (number_kind number) (start.skipped + start.byte_offset) (bit_span (channel_meant channel)) «record».now (channel_meant channel)) «record».now (channel_meant channel) result × FieldPlaced (start.skipped + start.byte_offset) (bit_span (channel_meant channel)) result }
 {
     let length = bit_span(channel);
     let no_bits = channel.bit_count == 0;
     let past_a_byte = 7 < channel.bit_offset;
     let over_a_word = is_over_a_word(number, channel.bit_count);
-    let outside = ends_outside(record.len(), skipped, byte_offset, length);
-    let needed = bytes_needed(skipped, byte_offset, length);
+    let outside = start.ends_outside(record.len(), length);
+    let needed = start.bytes_needed(length);
     let no_float_width = is_no_float_width(number, channel.bit_count);
     if no_bits {
         return Err(Refusal::NoBits);
@@ -95,7 +77,7 @@ fn find_number(
         return Err(Refusal::BadFloatWidth);
     }
     Ok(FieldSpan {
-        at: skipped + byte_offset,
+        at: start.skipped + start.byte_offset,
         length,
     })
 }
@@ -103,21 +85,20 @@ fn find_number(
 // What is no number has only to end inside the slice.
 fn find_content(
     record: &[u8],
-    skipped: usize,
-    byte_offset: usize,
+    start: FieldStart,
     payload: bool,
     content: Content,
     channel: Channel,
 ) -> Result<FieldSpan, Refusal>
-    ensures { FieldTold (content_kind content) (value_at (content_kind content) payload «record».now (skipped + byte_offset) (channel_meant channel)) «record».now (channel_meant channel) result × FieldPlaced (skipped + byte_offset) (span_in payload (content_kind content) (length «record».now) (channel_meant channel)) result }
+    ensures { FieldTold (content_kind content) (value_at (content_kind content) payload «record».now (start.skipped + start.byte_offset) (channel_meant channel)) «record».now (channel_meant channel) result × FieldPlaced (start.skipped + start.byte_offset) (span_in payload (content_kind content) (length «record».now) (channel_meant channel)) result }
 {
     let length = content_span(payload, content, record.len(), channel);
-    if ends_outside(record.len(), skipped, byte_offset, length) {
-        let bytes = bytes_needed(skipped, byte_offset, length);
+    if start.ends_outside(record.len(), length) {
+        let bytes = start.bytes_needed(length);
         return Err(Refusal::FieldOutside(bytes));
     }
     Ok(FieldSpan {
-        at: skipped + byte_offset,
+        at: start.skipped + start.byte_offset,
         length,
     })
 }
@@ -125,18 +106,15 @@ fn find_content(
 // The field of a form. All refusals of a value are decided here.
 pub fn find_field(
     record: &[u8],
-    skipped: usize,
-    byte_offset: usize,
+    start: FieldStart,
     payload: bool,
     form: Form,
     channel: Channel,
 ) -> Result<FieldSpan, Refusal>
-    ensures { FieldTold (form_kind form) (value_at (form_kind form) payload «record».now (skipped + byte_offset) (channel_meant channel)) «record».now (channel_meant channel) result × FieldPlaced (skipped + byte_offset) (span_in payload (form_kind form) (length «record».now) (channel_meant channel)) result }
+    ensures { FieldTold (form_kind form) (value_at (form_kind form) payload «record».now (start.skipped + start.byte_offset) (channel_meant channel)) «record».now (channel_meant channel) result × FieldPlaced (start.skipped + start.byte_offset) (span_in payload (form_kind form) (length «record».now) (channel_meant channel)) result }
 {
     match form {
-        Form::Number(number, _) => find_number(record, skipped, byte_offset, number, channel),
-        Form::Other(content) => {
-            find_content(record, skipped, byte_offset, payload, content, channel)
-        }
+        Form::Number(number, _) => find_number(record, start, number, channel),
+        Form::Other(content) => { find_content(record, start, payload, content, channel) }
     }
 }

@@ -32,17 +32,13 @@ pub enum Form {
 pub fn form_of(data_type: DataType) -> Form
     ensures { result ≡ form_of (type_meant data_type) }
 {
-    let unsigned = Number::Unsigned;
-    let signed = Number::Signed;
-    let little = false;
-    let big = true;
     match data_type {
-        DataType::UnsignedIntegerLE => Form::Number(unsigned, little),
-        DataType::UnsignedIntegerBE => Form::Number(unsigned, big),
-        DataType::SignedIntegerLE => Form::Number(signed, little),
-        DataType::SignedIntegerBE => Form::Number(signed, big),
-        DataType::FloatLE => Form::Number(Number::Float, little),
-        DataType::FloatBE => Form::Number(Number::Float, big),
+        DataType::UnsignedIntegerLE => Form::Number(Number::Unsigned, false),
+        DataType::UnsignedIntegerBE => Form::Number(Number::Unsigned, true),
+        DataType::SignedIntegerLE => Form::Number(Number::Signed, false),
+        DataType::SignedIntegerBE => Form::Number(Number::Signed, true),
+        DataType::FloatLE => Form::Number(Number::Float, false),
+        DataType::FloatBE => Form::Number(Number::Float, true),
         DataType::StringLatin1 => Form::Other(Content::Text(Encoding::Latin1)),
         DataType::StringUtf8 => Form::Other(Content::Text(Encoding::Utf8)),
         DataType::StringUtf16LE => Form::Other(Content::Text(Encoding::Utf16Le)),
@@ -50,10 +46,10 @@ pub fn form_of(data_type: DataType) -> Form
         DataType::ByteArray => Form::Other(Content::ByteArray),
         DataType::MimeSample => Form::Other(Content::MimeSample),
         DataType::MimeStream => Form::Other(Content::MimeStream),
-        DataType::CanOpenDate => Form::Other(Content::Undecoded),
-        DataType::CanOpenTime => Form::Other(Content::Undecoded),
-        DataType::ComplexLE => Form::Other(Content::Undecoded),
-        DataType::ComplexBE => Form::Other(Content::Undecoded),
-        DataType::Unknown(_) => Form::Other(Content::Undecoded),
+        DataType::CanOpenDate
+        | DataType::CanOpenTime
+        | DataType::ComplexLE
+        | DataType::ComplexBE
+        | DataType::Unknown(_) => Form::Other(Content::Undecoded),
     }
 }

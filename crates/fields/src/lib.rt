@@ -19,6 +19,6 @@ pub use field::{FieldSpan, find_field, is_no_float_width, is_over_a_word, is_wel
 pub use form::{Content, Form, Number, form_of};
 pub use group::Group;
 pub use number::{float_bits, number_at, number_value};
-pub use span::{bytes_needed, ends_outside};
+pub use span::FieldStart;
 pub use validity::check_value_validity;
 pub use value::{DecodedChannelValue, DecodedValue};

@@ -8,7 +8,7 @@ ghost use Rattle.fields.specs.Known.{FieldBounds, Fitting};
 
 use crate::form::Number;
 use crate::value::DecodedValue;
-use bit_fields::{field_be, field_le, signed_of};
+use bit_fields::{Big, Little, field, signed_of};
 use doubles::{value_of, widen};
 
 pub fn number_at(record: &[u8], at: usize, big_endian: bool, bit_offset: u32, bit_count: u32) -> u64
@@ -16,9 +16,10 @@ pub fn number_at(record: &[u8], at: usize, big_endian: bool, bit_offset: u32, bi
     ensures { result ≡ field_at (order_meant big_endian) «record».now at bit_offset bit_count }
 {
     if big_endian {
-        return field_be(record, at, bit_offset, bit_count);
+        field::<Big>(record, at, bit_offset, bit_count)
+    } else {
+        field::<Little>(record, at, bit_offset, bit_count)
     }
-    field_le(record, at, bit_offset, bit_count)
 }
 
 // A field of 64 bits is a pattern already.

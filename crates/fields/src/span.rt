@@ -1,5 +1,6 @@
 // How many bytes a field takes, whether they end inside the slice, and how many that would need.
-ghost use Rattle.std.specs.Prelude.{◌≡◌, ◌+◌, ltb};
+ghost use Rattle.std.specs.Prelude.{◌≡◌, ◌+◌, ◌-◌, ◌≤◌, ltb};
+ghost use Rattle.std.specs.Option.{SomeIff};
 ghost use Rattle.definitions.specs.Reply.{told};
 ghost use Rattle.definitions.specs.Channel.{bit_span, span_in};
 ghost use Rattle.fields.specs.Meaning.{channel_meant};
@@ -12,7 +13,7 @@ pub(crate) fn bit_span(channel: Channel) -> usize
     ensures { result ≡ bit_span (channel_meant channel) }
 {
     let bits = channel.bit_offset as usize + channel.bit_count as usize;
-    if bits == 0 { 1 } else { (bits + 7) / 8 }
+    bits.div_ceil(8).max(1)
 }
 
 // A payload of `length` bytes is taken whole where it is no number.
@@ -27,44 +28,43 @@ pub(crate) fn content_span(
     if payload {
         return length;
     }
-    let bytes = channel.bit_count as usize / 8;
     match content {
-        Content::Text(_) => bytes,
-        Content::ByteArray => bytes,
-        Content::MimeSample => bytes,
-        Content::MimeStream => bytes,
         Content::Undecoded => bit_span(channel),
+        _ => channel.bit_count as usize / 8,
     }
 }
 
-// By subtraction, since the sum may be past every number that fits.
-pub fn ends_outside(length: usize, skipped: usize, byte_offset: usize, span: usize) -> bool
-    ensures { result ≡ ltb length (skipped + byte_offset + span) }
-{
-    if length < skipped {
-        return true;
-    }
-    let left = length - skipped;
-    if left < byte_offset {
-        return true;
-    }
-    left - byte_offset < span
+// Where a field starts: so many bytes behind those skipped. The sum may be past every number that fits.
+#[derive(Clone, Copy, Debug, PartialEq, Eq)]
+pub struct FieldStart {
+    pub skipped: usize,
+    pub byte_offset: usize,
 }
 
-// The sum, or the largest number where that is larger
-fn sum_told(a: u64, b: u64) -> u64
-    ensures { result ≡ told (a + b) }
-{
-    if b <= 18446744073709551615 - a {
-        a + b
-    } else {
-        18446744073709551615
+impl FieldStart {
+    // How many bytes of a slice stand from there on, where it is inside or at the end
+    pub(crate) fn left_in(self, length: usize) -> Option<usize>
+        ensures { SomeIff result (self.skipped + self.byte_offset ≤ length) (length - (self.skipped + self.byte_offset)) }
+    {
+        length
+            .checked_sub(self.skipped)?
+            .checked_sub(self.byte_offset)
     }
-}
 
-// The bytes, from its front, of a slice that would hold the field
-pub fn bytes_needed(skipped: usize, byte_offset: usize, span: usize) -> u64
-    ensures { result ≡ told (skipped + byte_offset + span) }
-{
-    sum_told(sum_told(skipped as u64, byte_offset as u64), span as u64)
+    pub fn ends_outside(self, length: usize, span: usize) -> bool
+        ensures { result ≡ ltb length (self.skipped + self.byte_offset + span) }
+    {
+        match self.left_in(length) {
+            Some(left) => left < span,
+            None => true,
+        }
+    }
+
+    // The bytes, from its front, of a slice that would hold the field
+    pub fn bytes_needed(self, span: usize) -> u64
+        ensures { result ≡ told (self.skipped + self.byte_offset + span) }
+    {
+        let start = (self.skipped as u64).saturating_add(self.byte_offset as u64);
+        start.saturating_add(span as u64)
+    }
 }

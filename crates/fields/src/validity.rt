@@ -6,6 +6,7 @@ ghost use Rattle.fields.specs.Meaning.{channel_meant, group_meant};
 
 use crate::channel::Channel;
 use crate::group::Group;
+use crate::span::FieldStart;
 use bit_fields::cut;
 
 pub(crate) fn bit_of(word: u64, place: u32) -> u64
@@ -15,21 +16,18 @@ pub(crate) fn bit_of(word: u64, place: u32) -> u64
     cut(word, place, 1)
 }
 
-// A byte beyond the slice reads 0. By subtraction, since the sum may be past every number that fits.
-fn byte_after(record: &[u8], skipped: usize, data_bytes: usize, place: usize) -> u64
-    ensures { result ≡ get_or «record».now (skipped + data_bytes + place) 0 }
+// A byte beyond the slice reads 0.
+fn byte_after(record: &[u8], group: Group, place: u32) -> u64
+    ensures { result ≡ get_or «record».now (group.record_id_size + group.data_bytes + place) 0 }
 {
-    if record.len() < skipped {
+    let start = FieldStart {
+        skipped: group.record_id_size,
+        byte_offset: group.data_bytes as usize,
+    };
+    if start.ends_outside(record.len(), place as usize + 1) {
         return 0;
     }
-    let left = record.len() - skipped;
-    if left < data_bytes {
-        return 0;
-    }
-    if left - data_bytes <= place {
-        return 0;
-    }
-    record[skipped + data_bytes + place] as u64
+    record[group.record_id_size + group.data_bytes as usize + place as usize] as u64
 }
 
 // The crate's reading: a bit that is not in the slice is clear, wherever the group's records end.
@@ -46,11 +44,6 @@ pub fn check_value_validity(record: &[u8], group: Group, channel: Channel) -> bo
         return true;
     }
     let position = channel.pos_invalidation_bit;
-    let byte = byte_after(
-        record,
-        group.record_id_size,
-        group.data_bytes as usize,
-        (position / 8) as usize,
-    );
+    let byte = byte_after(record, group, position / 8);
     bit_of(byte, position % 8) == 0
 }
