@@ -7,12 +7,12 @@ ghost use Rattle.blocks.specs.Meaning.{header_meant, list_reply, wrote};
 
 use crate::header::{BlockHeader, put_header, size_with_links};
 use refusals::Refusal;
-use words::{id_at, le_bytes, put_all_le, put_u32_le, put_u64_le, read_u32_le, read_u64_le};
+use words::{id_at, le_bytes, put_all_le, read_le, write_le};
 
 // a list that is written has at most so many data links
 const LINK_LIMIT: usize = 4096;
 
-#[derive(Clone, Copy)]
+#[derive(Clone, Copy, Debug, PartialEq, Eq)]
 pub struct DataListBlock {
     pub header: BlockHeader,
     // the next list's address
@@ -43,7 +43,7 @@ fn list_rest(bytes: &[u8], header: BlockHeader) -> Result<DataListBlock, Refusal
     let links = header.links_nr;
     let at = 24 + links as usize * 8;
     let flags = bytes[at];
-    let count = read_u32_le(bytes, at + 4);
+    let count = read_le(bytes, at + 4);
     let rest = rest_count(flags, count);
     let need = at as u64 + 8 + rest * 8;
     if (bytes.len() as u64) < need {
@@ -51,7 +51,7 @@ fn list_rest(bytes: &[u8], header: BlockHeader) -> Result<DataListBlock, Refusal
     }
     Ok(DataListBlock {
         header,
-        next: read_u64_le(bytes, 24),
+        next: read_le(bytes, 24),
         links_at: 32,
         links: links - 1,
         flags,
@@ -143,10 +143,10 @@ fn put_fields(out: &mut [u8], next: u64, links: &[u64], flags: u8, rest: &[u64])
 {
     let at = 32 + links.len() * 8;
     put_header(out, list_header(links.len() as u64, rest.len() as u64));
-    put_u64_le(out, 24, next);
+    write_le(out, 24, next);
     put_all_le(out, 32, links);
-    put_u32_le(out, at, flags as u32);
-    put_u32_le(out, at + 4, links.len() as u32);
+    write_le(out, at, flags as u32);
+    write_le(out, at + 4, links.len() as u32);
     put_all_le(out, at + 8, rest);
 }
 
@@ -156,7 +156,7 @@ fn list_header(links: u64, rest: u64) -> BlockHeader
     ensures { header_meant result ≡ header_for links rest }
 {
     BlockHeader {
-        id: read_u32_le(&DataListBlock::ID, 0),
+        id: read_le(&DataListBlock::ID, 0),
         reserved0: 0,
         block_len: 40 + links * 8 + rest * 8,
         links_nr: links + 1,

@@ -6,9 +6,9 @@ ghost use Rattle.definitions.specs.Header.{header_of, header_bytes, header_writt
 ghost use Rattle.blocks.specs.Meaning.{header_meant, header_reply, wrote};
 
 use refusals::Refusal;
-use words::{put_u32_le, put_u64_le, read_u32_le, read_u64_le};
+use words::{read_le, write_le};
 
-#[derive(Clone, Copy)]
+#[derive(Clone, Copy, Debug, PartialEq, Eq)]
 pub struct BlockHeader {
     // the four raw bytes, the first the lowest
     pub id: u32,
@@ -25,10 +25,10 @@ impl BlockHeader {
             return Err(Refusal::TooFewBytes(24));
         }
         Ok(BlockHeader {
-            id: read_u32_le(bytes, 0),
-            reserved0: read_u32_le(bytes, 4),
-            block_len: read_u64_le(bytes, 8),
-            links_nr: read_u64_le(bytes, 16),
+            id: read_le(bytes, 0),
+            reserved0: read_le(bytes, 4),
+            block_len: read_le(bytes, 8),
+            links_nr: read_le(bytes, 16),
         })
     }
 
@@ -60,8 +60,8 @@ pub fn put_header(out: &mut [u8], header: BlockHeader)
     requires { 24 ≤ length out.old }
     ensures { out.new ≡ sets out.old 0 (header_bytes (header_meant header)) }
 {
-    put_u32_le(out, 0, header.id);
-    put_u32_le(out, 4, header.reserved0);
-    put_u64_le(out, 8, header.block_len);
-    put_u64_le(out, 16, header.links_nr);
+    write_le(out, 0, header.id);
+    write_le(out, 4, header.reserved0);
+    write_le(out, 8, header.block_len);
+    write_le(out, 16, header.links_nr);
 }

@@ -11,7 +11,7 @@ use blocks::{BlockHeader, put_header, size_with_links};
 use data_types::DataType;
 use fields::Channel;
 use refusals::Refusal;
-use words::{id_at, put_all_le, put_u32_le, read_all_le, read_u16_le, read_u32_le};
+use words::{id_at, put_all_le, read_all_le, read_le, write_le};
 
 #[derive(Clone, Copy)]
 pub struct ChannelBlock {
@@ -73,13 +73,13 @@ fn read_block(bytes: &[u8], header: BlockHeader) -> ChannelBlock
         sync_type: fields[1],
         data_type: DataType::from_u8(fields[2]),
         bit_offset: fields[3],
-        byte_offset: read_u32_le(fields, 4),
-        bit_count: read_u32_le(fields, 8),
-        flags: read_u32_le(fields, 12),
-        pos_invalidation_bit: read_u32_le(fields, 16),
+        byte_offset: read_le(fields, 4),
+        bit_count: read_le(fields, 8),
+        flags: read_le(fields, 12),
+        pos_invalidation_bit: read_le(fields, 16),
         precision: fields[20],
         reserved1: fields[21],
-        attachment_nr: read_u16_le(fields, 22),
+        attachment_nr: read_le(fields, 22),
         min_raw_value: limits[0],
         max_raw_value: limits[1],
         lower_limit: limits[2],
@@ -143,7 +143,7 @@ fn channel_header() -> BlockHeader
     ensures { header_meant result ≡ channel_header }
 {
     BlockHeader {
-        id: read_u32_le(&ChannelBlock::ID, 0),
+        id: read_le(&ChannelBlock::ID, 0),
         reserved0: 0,
         block_len: 160,
         links_nr: 8,
@@ -155,7 +155,7 @@ fn four_bytes(first: u8, second: u8, third: u8, fourth: u8) -> u32
     ensures { le 4 result ≡ first ∷ second ∷ third ∷ fourth ∷ [] }
 {
     let bytes = [first, second, third, fourth];
-    read_u32_le(&bytes, 0)
+    read_le(&bytes, 0)
 }
 
 // The fields before the limits, where there is room for them. The reserved byte and the attachment count, of two bytes, are 0.
@@ -165,16 +165,16 @@ fn put_format(out: &mut [u8], block: ChannelBlock)
 {
     let data_type = block.data_type;
     let code = data_type.to_u8();
-    put_u32_le(
+    write_le(
         out,
         88,
         four_bytes(block.channel_type, block.sync_type, code, block.bit_offset),
     );
-    put_u32_le(out, 92, block.byte_offset);
-    put_u32_le(out, 96, block.bit_count);
-    put_u32_le(out, 100, block.flags);
-    put_u32_le(out, 104, block.pos_invalidation_bit);
-    put_u32_le(out, 108, four_bytes(block.precision, 0, 0, 0));
+    write_le(out, 92, block.byte_offset);
+    write_le(out, 96, block.bit_count);
+    write_le(out, 100, block.flags);
+    write_le(out, 104, block.pos_invalidation_bit);
+    write_le(out, 108, four_bytes(block.precision, 0, 0, 0));
 }
 
 // The 160 bytes, where there is room for them

@@ -5,4 +5,4 @@ use Rattle.blocks.proofs.data_list.list_header.Goals as goal
 
 pub returns : goal.returns
 unfolding le_of
-returns c = header_made _ _ _ _ (c.read_u32_le.ensures ∙ refl) refl
+returns c = header_made _ _ _ _ (c.read_le.ensures ∙ refl) refl

@@ -13,8 +13,8 @@ counted : (s : List ℕ) (links k n : ℕ) → k ≡ rest_count (get_or s (flags
 counted s links k n h e = h ∙ ap (rest_count (get_or s (flags_at links) 0)) e
 
 pub returns-then-bytes-need : goal.returns-then-bytes-need
-returns-then-bytes-need c = sym (rest_cut _ _ _ _ (counted c.args.bytes.now c.args.header.links_nr _ _ c.rest_count-rest.ensures.0 c.read_u32_le-count.ensures) refl (omega arith) c.if-bytes-need.true)
+returns-then-bytes-need c = sym (rest_cut _ _ _ _ (counted c.args.bytes.now c.args.header.links_nr _ _ c.rest_count-rest.ensures.0 c.read_le-count.ensures) refl (omega arith) c.if-bytes-need.true)
 
 pub returns : goal.returns
 returns c =
-    sym (rest_read _ _ _ _ (counted c.args.bytes.now c.args.header.links_nr _ _ c.rest_count-rest.ensures.0 c.read_u32_le-count.ensures) refl _ _ _ c.read_u64_le.ensures c.le_bytes.ensures.0 c.read_u32_le-count.ensures (omega arith))
+    sym (rest_read _ _ _ _ (counted c.args.bytes.now c.args.header.links_nr _ _ c.rest_count-rest.ensures.0 c.read_le-count.ensures) refl _ _ _ c.read_le.ensures c.le_bytes.ensures.0 c.read_le-count.ensures (omega arith))

@@ -6,5 +6,5 @@ pub returns : goal.returns
 returns c =
     let a = c.args in
     format_stored (channel_block_meant a.block) _ c.to_u8-code.ensures c.four_bytes.ensures c.four_bytes-2.ensures
-    c.put_u32_le.ensures c.put_u32_le-2.ensures c.put_u32_le-3.ensures c.put_u32_le-4.ensures
-    c.put_u32_le-5.ensures c.put_u32_le-6.ensures
+    c.write_le.ensures c.write_le-2.ensures c.write_le-3.ensures c.write_le-4.ensures
+    c.write_le-5.ensures c.write_le-6.ensures

@@ -13,6 +13,6 @@ returns c =
     let a = c.args in
     let at : ℕ = 24 + a.header.links_nr * 8 in
     block_read a.bytes.now (span a.bytes.now at (length a.bytes.now - at)) (header_meant a.header) c.read_all_le.ensures
-    c.read_all_le-2.ensures c.from_u8.ensures c.read_u32_le.ensures c.read_u32_le-2.ensures
-    c.read_u32_le-3.ensures c.read_u32_le-4.ensures c.read_u16_le.ensures
+    c.read_all_le-2.ensures c.from_u8.ensures c.read_le.ensures c.read_le-2.ensures
+    c.read_le-3.ensures c.read_le-4.ensures c.read_le-5.ensures
     ∙ ap (block_in a.bytes.now (header_meant a.header)) (span_rest a.bytes.now at)

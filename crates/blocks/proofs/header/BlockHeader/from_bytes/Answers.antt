@@ -7,4 +7,4 @@ returns-then-bytes-lt24 c = sym (header_short _ c.if-bytes-lt24.true)
 
 pub returns : goal.returns
 returns c =
-    sym (header_read _ _ _ _ _ c.read_u32_le.ensures c.read_u32_le-2.ensures c.read_u64_le.ensures c.read_u64_le-2.ensures c.if-bytes-lt24.false)
+    sym (header_read _ _ _ _ _ c.read_le.ensures c.read_le-2.ensures c.read_le-3.ensures c.read_le-4.ensures c.if-bytes-lt24.false)
