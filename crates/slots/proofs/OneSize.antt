@@ -1,5 +1,5 @@
 -- In records of one size a fixed number has a value in all or in none, and it lies at one place.
-use Rattle.std.specs.Prelude.{if◌then◌else◌}
+use Rattle.std.specs.Prelude.{if◌then◌else◌, Result, Ok, Err}
 use mathlib.Core.Path.{◌≡◌, refl, sym, ap, subst, ◌∙◌}
 use mathlib.Core.Bool.{Bool, true, false}
 use mathlib.Core.List.{List}
@@ -19,8 +19,7 @@ use Rattle.fields.specs.Known.{value_at, FieldTold, FieldPlaced, FieldCase, Fiel
 use Rattle.fields.specs.declared.form.Number.{Number}
 use Rattle.fields.specs.declared.form.Form.{Form}
 use Rattle.fields.specs.declared.form.Form.TheVariants.{Number as numbered}
-use Rattle.fields.specs.declared.field.FieldFound.{FieldFound}
-use Rattle.fields.specs.declared.field.FieldFound.TheVariants.{Field, Refused}
+use Rattle.fields.specs.declared.field.FieldSpan.{FieldSpan}
 use Rattle.fields.proofs.Forms.{value_form}
 use Rattle.fields.proofs.Fields.{either_way, readable}
 use Rattle.fields.proofs.Values.{looked_for, refused_as, sound_at}
@@ -54,18 +53,18 @@ unfolding bounded_value_of
 not_judged s g c e = rw e
 
 -- s is the record that was asked
-module _ (s : List ℕ) (g : Group) (c : Channel) (fixed : is_fixed_number c ≡ true) {form : Form} {number : Number} {big : Bool} {found : FieldFound}
+module _ (s : List ℕ) (g : Group) (c : Channel) (fixed : is_fixed_number c ≡ true) {form : Form} {number : Number} {big : Bool} {found : Result FieldSpan Refusal}
     (ef : form ≡ form_of c.data_type) (en : form ≡ numbered number big)
     (told : FieldTold (number_kind number) (value_at (number_kind number) false s (g.id_size + c.byte_offset) c) s c found) where
   as_value : value_at (number_kind number) false s (g.id_size + c.byte_offset) c ≡ value_of s g.id_size c
   as_value = looked_for s g.id_size c {form = numbered number big} {payload = false} (sym en ∙ ef) (sym (never_variable c fixed)) refl refl
 
-  pub none_has : {why : Refusal} → found ≡ Refused why → (t : List ℕ) → length t ≡ length s → has_no_value (bounded_value_of t g c) ≡ true
+  pub none_has : {why : Refusal} → found ≡ Err why → (t : List ℕ) → length t ≡ length s → has_no_value (bounded_value_of t g c) ≡ true
   none_has {why} e t el =
       not_judged t g c (refusal_locality s t g.id_size c (refusal_number why) (told_of why) (sym el) (sym as_value ∙ refused_as told e))
 
-  module _ {at n : ℕ} (e : found ≡ Field at n) (inside : area_of (length s) g c ≡ answer tt) where
-    value : value_of s g.id_size c ≡ answer (decoded c.data_type s at n c)
+  module _ {f : FieldSpan} (e : found ≡ Ok f) (inside : area_of (length s) g c ≡ answer tt) where
+    value : value_of s g.id_size c ≡ answer (decoded c.data_type s f.at f.length c)
     value = sym as_value ∙ (subst (FieldCase _ _ s c) e told.told).value
 
     abbrev value_in : List ℕ → Value
@@ -78,11 +77,11 @@ module _ (s : List ℕ) (g : Group) (c : Channel) (fixed : is_fixed_number c ≡
         → (v : Value) × (bounded_value_of t g c ≡ answer (record { value = v; valid = false }))
     invalid_in_all ea h t el = (value_in t, each_has t el (sym (all_invalid t g c ea h)))
 
-    sound : Sound (number_kind number) s at n c
+    sound : Sound (number_kind number) s f.at f.length c
     sound = sound_at told e
 
-    bounds : FieldBounds s at c.bit_offset c.bit_count
-    bounds = readable number s at n c sound
+    bounds : FieldBounds s f.at c.bit_offset c.bit_count
+    bounds = readable number s f.at f.length c sound
 
     pub flag_asked : {a : ℕ} → a ≡ bit c.flags 0 → (a ≡ 1 → ⊥) → length s < 2 ^ 64 → FlagAsked g c
     flag_asked ea h fits =
@@ -98,7 +97,7 @@ module _ (s : List ℕ) (g : Group) (c : Channel) (fixed : is_fixed_number c ≡
     module _ (placed : FieldPlaced (g.id_size + c.byte_offset) (span_in false (number_kind number) (length s) c) found)
         {flagAt flag_bit : ℕ} (flag : FlagOf g c flagAt flag_bit) where
       abbrev slot : Slot
-      slot = record { number = number; big_endian = big; at = at; offset = c.bit_offset; count = c.bit_count; flag_at = flagAt; flag_bit = flag_bit }
+      slot = record { number = number; big_endian = big; at = f.at; offset = c.bit_offset; count = c.bit_count; flag_at = flagAt; flag_bit = flag_bit }
 
       within : Within (length s) slot
       within =
@@ -113,16 +112,16 @@ module _ (s : List ℕ) (g : Group) (c : Channel) (fixed : is_fixed_number c ≡
             flag_bit = flag.low;
           }
 
-      place : start_of g.id_size c ≡ at
+      place : start_of g.id_size c ≡ f.at
       place =
           ap (λ (t : Bool). if t then 0 else (g.id_size + c.byte_offset)) (never_variable c fixed)
           ∙ sym (subst (FieldPlaced (g.id_size + c.byte_offset) (span_in false (number_kind number) (length s) c)) e placed).0
 
       -- the value is the number in the slot
-      in_slot : (t : List ℕ) → value_in t ≡ number_value number c.bit_count (number_in (order_meant big) t at c)
+      in_slot : (t : List ℕ) → value_in t ≡ number_value number c.bit_count (number_in (order_meant big) t f.at c)
       in_slot t =
           sym (value_form c.data_type t (start_of g.id_size c) (span_of t c) c)
-          ∙ ap (λ (f : Form). form_value f t (start_of g.id_size c) (span_of t c) c) (sym ef ∙ en)
+          ∙ ap (λ (m : Form). form_value m t (start_of g.id_size c) (span_of t c) c) (sym ef ∙ en)
           ∙ ap (λ (p : ℕ). number_value number c.bit_count (number_in (order_meant big) t p c)) place
 
       pub slot_found : SlotOf (length s) g c slot
@@ -132,6 +131,6 @@ module _ (s : List ℕ) (g : Group) (c : Channel) (fixed : is_fixed_number c ≡
           value_in t,
           each_has t el (flag.tells t bytes),
           subst (Words number (slot_word slot t)) (sym (in_slot t))
-              (words number c.bit_count (number_in (order_meant big) t at c) (slot_fits within (order_meant big) t refl)),
+              (words number c.bit_count (number_in (order_meant big) t f.at c) (slot_fits within (order_meant big) t refl)),
         );
       }

@@ -2,12 +2,12 @@
 use mathlib.Core.Path.{◌≡◌, refl, sym, ap, ap₂, subst, ◌∙◌}
 use mathlib.Core.Bool.{Bool, true, false}
 use mathlib.Core.List.{List}
-use Prim.Native.Nat.{ℕ, ◌+◌, ◌/◌, ◌%◌, ◌≤◌, ◌<◌}
+use Prim.Native.Nat.{ℕ, ◌+◌, ◌*◌, ◌/◌, ◌%◌, ◌≤◌, ◌<◌}
 use native.Mathlib.Omega.{arith}
 use lib.ListN.{length}
 use Rattle.definitions.specs.Bytes.{Order, little, big, number_of, le, u64_at, bits, field_at}
 use Rattle.words.proofs.Numbers.{Bytes}
-use Rattle.bit_fields.proofs.Ways.{near, low_le, low_be}
+use Rattle.bit_fields.proofs.Ways.{near, low}
 use Rattle.fields.specs.Form.{order_meant}
 use Rattle.fields.specs.Known.{Fitting}
 use Rattle.fields.specs.declared.form.Number.{Number}
@@ -22,13 +22,16 @@ held_field : (o : Order) (s : List ℕ) (at offset count : ℕ) {word from : ℕ
 held_field o s at offset count {word} {from} h =
     ap (λ (k : ℕ). field_at o (le 8 word) (from / 8) k count) h.low ∙ ap (λ (bs : List ℕ). bits (number_of o bs) offset count) h.bytes
 
+whole_bytes : (from : ℕ) → from ≡ from / 8 * 8 + from % 8
+whole_bytes from = omega arith
+
 -- what is cut from a word at that shift is the field in its bytes
 shifted : (b : Bool) (word from count : ℕ) {x shift : ℕ} → shift ≡ shift_in b from count → from + count ≤ 64
     → x ≡ bits (number_of (order_meant b) (le 8 word)) shift count → x ≡ field_at (order_meant b) (le 8 word) (from / 8) (from % 8) count
 shifted true word from count es to e =
-    near big word from count (e ∙ ap (λ (n : ℕ). bits (number_of big (le 8 word)) n count) (es ∙ low_be from count to)) refl to
+    near big word from count (e ∙ ap (λ (n : ℕ). bits (number_of big (le 8 word)) n count) (es ∙ low big from count to refl)) refl to
 shifted false word from count es to e =
-    near little word from count (e ∙ ap (λ (n : ℕ). bits (number_of little (le 8 word)) n count) (es ∙ low_le from)) refl to
+    near little word from count (e ∙ ap (λ (n : ℕ). bits (number_of little (le 8 word)) n count) (es ∙ whole_bytes from ∙ low little from count to refl)) refl to
 
 shift_below : (b : Bool) (from count : ℕ) → 1 ≤ count → from + count ≤ 64 → shift_in b from count < 64
 shift_below true from count some to = omega arith

@@ -1,5 +1,5 @@
 -- Where in each record of one size a channel's number lies, and the bit that tells whether it is valid.
-use Rattle.std.specs.Prelude.{◌≡◌, Bool, true, false, List, ℕ, ◌+◌, ◌-◌, ◌*◌, ◌/◌, ◌%◌, ◌^◌, ◌≤◌, ◌<◌, length, get_or, ltb, eqb, if◌then◌else◌}
+use Rattle.std.specs.Prelude.{◌≡◌, Bool, true, false, List, ℕ, ◌+◌, ◌-◌, ◌*◌, ◌/◌, ◌%◌, ◌^◌, ◌≤◌, ◌<◌, length, get_or, ltb, eqb, Option, Some, None, if◌then◌else◌}
 use Rattle.definitions.specs.Reply.{answer}
 use Rattle.definitions.specs.Bytes.{bit, bytes_for, field_at}
 use Rattle.definitions.specs.Channel.{Channel, Group, Value, float_bits, is_floating, bounded_value_of}
@@ -11,8 +11,7 @@ use Rattle.tally.specs.Words.{signed_zero, Words}
 use Rattle.slots.specs.declared.slot.Slot.{Slot}
 use Rattle.slots.specs.declared.slot.SlotFound.{SlotFound}
 use Rattle.slots.specs.declared.slot.SlotFound.TheVariants.{Found, AllInvalid, NoValue}
-use Rattle.slots.specs.declared.word.PlaceFound.{PlaceFound}
-use Rattle.slots.specs.declared.word.PlaceFound.TheVariants.{Place, NoPlace}
+use Rattle.slots.specs.declared.word.WordPlace.{WordPlace}
 
 -- the word of a field x of count bits: an integer as the word that counts it from the least one of 64 bits, and a float as a
 -- double's pattern
@@ -53,9 +52,9 @@ SlotTold size g c AllInvalid = (s : List ℕ) → length s ≡ size → (v : Val
 SlotTold size g c NoValue = (s : List ℕ) → length s ≡ size → has_no_value (bounded_value_of s g c) ≡ true
 
 -- bit `from` of the eight bytes at p is the first one of the field
-abbrev pub PlaceTold : ℕ → Slot → PlaceFound → Type 0
-PlaceTold size w (Place p from) = (p + 8 ≤ size) × (8 * p + from ≡ 8 * w.at + w.offset) × (from + w.count ≤ 64)
-PlaceTold size w NoPlace = Unit {0}
+abbrev pub PlaceTold : ℕ → Slot → Option WordPlace → Type 0
+PlaceTold size w (Some p) = (p.at + 8 ≤ size) × (8 * p.at + p.from ≡ 8 * w.at + w.offset) × (p.from + w.count ≤ 64)
+PlaceTold size w None = Unit {0}
 
 -- how far below the field the word of eight bytes is read: those before it stand there, or where the first byte is the highest, those
 -- after it
@@ -65,5 +64,5 @@ shift_in false from count = from
 
 pub record ShiftTold (size : ℕ) (w : Slot) (p shift : ℕ) : Type 0 where
   pub from : ℕ
-  pub place : PlaceTold size w (Place p from)
+  pub place : PlaceTold size w (Some (record { at = p; from = from }))
   pub is : shift ≡ shift_in w.big_endian from w.count

@@ -7,4 +7,4 @@ mod word;
 
 pub use record::{float_at, integer_at, record_begin};
 pub use slot::{Slot, SlotFound, find_slot, has_flag, is_fixed_number, is_valid_by, is_valid_in};
-pub use word::{PlaceFound, far_word, find_place, shift_of};
+pub use word::{WordPlace, far_word, find_place, shift_of};

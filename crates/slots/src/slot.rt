@@ -7,7 +7,7 @@ ghost use Rattle.slots.specs.Slots.{slot_valid, SlotTold};
 ghost use Rattle.slots.specs.Known.{FlagAsked, FlagOf};
 
 use bit_fields::cut;
-use fields::{Channel, FieldFound, Form, Group, Number, find_field, form_of};
+use fields::{Channel, Form, Group, Number, find_field, form_of};
 
 #[derive(Clone, Copy)]
 pub struct Slot {
@@ -38,8 +38,7 @@ pub(crate) struct Flag {
 pub fn is_fixed_number(channel: Channel) -> bool
     ensures { result ≡ is_fixed_number (channel_meant channel) }
 {
-    let data_type = channel.data_type;
-    let Form::Number(_, _) = form_of(data_type) else {
+    let Form::Number(_, _) = form_of(channel.data_type) else {
         return false;
     };
     !channel.is_variable_length()
@@ -66,14 +65,12 @@ pub fn find_slot(record: &[u8], group: Group, channel: Channel) -> SlotFound
     requires { (is_fixed_number (channel_meant channel) ≡ true) × (area_of (length «record».now) (group_meant group) (channel_meant channel) ≡ answer tt) }
     ensures { SlotTold (length «record».now) (group_meant group) (channel_meant channel) result }
 {
-    let data_type = channel.data_type;
-    let form = form_of(data_type);
+    let form = form_of(channel.data_type);
     let Form::Number(number, big_endian) = form else {
         return SlotFound::NoValue;
     };
     let start = channel.byte_offset as usize;
-    let found = find_field(record, group.record_id_size, start, false, form, channel);
-    let FieldFound::Field { at, length: _ } = found else {
+    let Ok(field) = find_field(record, group.record_id_size, start, false, form, channel) else {
         return SlotFound::NoValue;
     };
     // bit 0: every value is invalid
@@ -84,7 +81,7 @@ pub fn find_slot(record: &[u8], group: Group, channel: Channel) -> SlotFound
     SlotFound::Found(Slot {
         number,
         big_endian,
-        at,
+        at: field.at,
         offset: channel.bit_offset as u32,
         count: channel.bit_count,
         flag_at: flag.at,

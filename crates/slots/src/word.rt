@@ -13,29 +13,35 @@ use fields::{Number, float_bits, number_at};
 use words::swapped;
 
 // The first byte of eight of a record that hold the field, and the bit of them at which it begins
-#[derive(Clone, Copy)]
-pub enum PlaceFound {
-    Place(usize, u32),
-    NoPlace,
+#[derive(Clone, Copy, Debug, PartialEq, Eq)]
+pub struct WordPlace {
+    pub at: usize,
+    pub from: u32,
 }
 
 // The eight bytes from the field's first on, else the last eight of the record, which then hold the field
-pub fn find_place(size: usize, slot: Slot) -> PlaceFound
+pub fn find_place(size: usize, slot: Slot) -> Option<WordPlace>
     requires { Within size slot }
     ensures { PlaceTold size slot result }
 {
     if size < 8 {
-        return PlaceFound::NoPlace;
+        return None;
     }
     let last = size - 8;
     if slot.at <= last {
         if 64 < slot.offset + slot.count {
-            return PlaceFound::NoPlace;
+            return None;
         }
-        return PlaceFound::Place(slot.at, slot.offset);
+        return Some(WordPlace {
+            at: slot.at,
+            from: slot.offset,
+        });
     }
     let over = (slot.at - last) as u32;
-    PlaceFound::Place(last, 8 * over + slot.offset)
+    Some(WordPlace {
+        at: last,
+        from: 8 * over + slot.offset,
+    })
 }
 
 // The value of the highest of `count` bits
