@@ -1,5 +1,5 @@
 -- The ways through a report.
-use Rattle.std.specs.Prelude.{if◌then◌else◌}
+use Rattle.std.specs.Prelude.{if◌then◌else◌, Result, Ok}
 use mathlib.Core.Path.{◌≡◌, refl, sym, ap, ◌∙◌}
 use mathlib.Core.Bool.{Bool, true, false}
 use mathlib.Core.List.{List, ◌++◌}
@@ -10,13 +10,12 @@ use Rattle.definitions.specs.Reply.{Outcome, answer, refusal}
 use Rattle.definitions.specs.Channel.{Channel, Group, is_fixed_number, area_of}
 use Rattle.definitions.specs.Chain.{file_limit, id_dt, joined, chain_of, total_of, data_length, bad_size}
 use Rattle.definitions.specs.Report.{Report, first_records, readings, report_of, last_record_in, report_on, reported}
+use Rattle.refusals.specs.declared.Refusal.{Refusal}
 use Rattle.places.proofs.Answers.{unfollowed}
 use Rattle.records.proofs.Records.{data_whole, size_good}
 use Rattle.tally.specs.Meaning.{report_meant}
 use Rattle.tally.specs.declared.report.Report.{Report as Line}
 use Rattle.report.specs.Meaning.{reported_by, InWords}
-use Rattle.report.specs.declared.report.ReportRead.{ReportRead}
-use Rattle.report.specs.declared.report.ReportRead.TheVariants.{Report as Lined}
 use Rattle.report.proofs.Lines.{last_in_front}
 
 module _ (f : List ℕ) (start size : ℕ) (g : Group) (c : Channel) (out : List ℕ) where
@@ -64,6 +63,6 @@ module _ (f : List ℕ) (start size : ℕ) (g : Group) (c : Channel) (out : List
             sym (by_data ∙ rw (fixed, h, sym ek, sym er, sym buffer))
 
 -- the answer that holds the line
-pub lined_back : (read : ReportRead) (line : Line) {out : List ℕ} {o : Outcome Report} → (read ≡ Lined line) × InWords read
+pub lined_back : (read : Result Line Refusal) (line : Line) {out : List ℕ} {o : Outcome Report} → (read ≡ Ok line) × InWords read
     → record { reply = answer (report_meant line); buffer = out } ≡ o → (reported_by read out ≡ o) × InWords read
-lined_back read line {out} e eo = (ap (λ (x : ReportRead). reported_by x out) e.0 ∙ eo, e.1)
+lined_back read line {out} e eo = (ap (λ (x : Result Line Refusal). reported_by x out) e.0 ∙ eo, e.1)

@@ -6,4 +6,4 @@ mod report;
 mod run;
 mod walk;
 
-pub use report::{ReportRead, report_channel};
+pub use report::report_channel;

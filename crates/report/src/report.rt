@@ -1,5 +1,5 @@
 // The line of a channel over all records of a chain.
-ghost use Rattle.std.specs.Prelude.{◌≡◌, true, ◌/◌, length};
+ghost use Rattle.std.specs.Prelude.{◌≡◌, true, ◌/◌, length, Ok};
 ghost use Rattle.definitions.specs.Reply.{answer};
 ghost use Rattle.definitions.specs.Channel.{is_fixed_number, area_of};
 ghost use Rattle.definitions.specs.Chain.{joined};
@@ -10,31 +10,12 @@ ghost use Rattle.tally.specs.Meaning.{report_meant};
 ghost use Rattle.report.specs.Meaning.{reported_by, InWords};
 
 use crate::walk::tally_records;
-use chain::{DataBlock, DataPosition, FileAddress, Located, Place, locate_data};
-use fields::{AreaChecked, Channel, Group, check_area};
+use chain::{DataBlock, DataPosition, FileAddress, Place, locate_data};
+use fields::{Channel, Group, check_area};
 use records::{bad_size, window};
 use refusals::Refusal;
 use slots::{SlotFound, find_slot, is_fixed_number};
 use tally::{Report, invalid_report, report_of, valueless_report};
-
-#[derive(Clone, Copy)]
-pub enum ReportRead {
-    Report(Report),
-    Refused(Refusal),
-}
-
-impl ReportRead {
-    // Why there is no report. Only a refusal is asked, so the second arm is never taken.
-    pub fn refusal(self) -> Refusal
-        requires { (why : Refusal) × (self ≡ ReportRead.Refused why) }
-        ensures { self ≡ ReportRead.Refused result }
-    {
-        match self {
-            ReportRead::Refused(why) => why,
-            ReportRead::Report(_) => Refusal::BadRecordSize,
-        }
-    }
-}
 
 // Of n records. All of them have a value or none has, so the bytes of the buffer, which is one record long, stand for any record:
 // they are asked before the first one is read.
@@ -86,10 +67,10 @@ fn report_records(
 }
 
 // The line as it is; the low word of its sum is one word
-fn lined(report: Report) -> ReportRead
-    ensures { (result ≡ ReportRead.Report report) × InWords result }
+fn lined(report: Report) -> Result<Report, Refusal>
+    ensures { (result ≡ Ok report) × InWords result }
 {
-    ReportRead::Report(report)
+    Ok(report)
 }
 
 // The chain is accepted first, and the description then, so that a refusal leaves the buffer alone.
@@ -100,28 +81,22 @@ pub fn report_channel(
     group: Group,
     channel: Channel,
     buffer: &mut [u8],
-) -> ReportRead
+) -> Result<Report, Refusal>
     ensures { (reported_by result buffer.new ≡ reported file.now start.0 record_size (group_meant group) (channel_meant channel) buffer.old) × InWords result }
 {
     if bad_size(record_size, buffer.len() as u64) {
-        return ReportRead::Refused(Refusal::BadRecordSize);
+        return Err(Refusal::BadRecordSize);
     }
-    let found = locate_data(file, start, &DataBlock::ID, DataPosition(0));
-    let Located::Whole(total, place) = found else {
-        return ReportRead::Refused(found.refusal());
-    };
+    let located = locate_data(file, start, &DataBlock::ID, DataPosition(0))?;
     if !is_fixed_number(channel) {
-        return ReportRead::Refused(Refusal::NoNumberChannel);
+        return Err(Refusal::NoNumberChannel);
     }
     let size = record_size as usize;
-    let area = check_area(size, group, channel);
-    let AreaChecked::Inside = area else {
-        return ReportRead::Refused(area.refusal());
-    };
-    let n = total.0 / record_size;
+    check_area(size, group, channel)?;
+    let n = located.total.0 / record_size;
     let report = report_records(
         file,
-        place,
+        located.place,
         &DataBlock::ID,
         n,
         group,

@@ -9,7 +9,7 @@ ghost use Rattle.report.specs.Rows.{RowAsked, FlagTold, RowTo};
 
 use fields::Number;
 use slots::{
-    PlaceFound, Slot, far_word, find_place, float_at, has_flag, integer_at, is_valid_by,
+    Slot, WordPlace, far_word, find_place, float_at, has_flag, integer_at, is_valid_by,
     is_valid_in, record_begin, shift_of,
 };
 use tally::{
@@ -211,7 +211,7 @@ fn read_row(
     size: usize,
     first: usize,
     n: usize,
-    place: PlaceFound,
+    place: Option<WordPlace>,
     slot: Slot,
     before: Tally,
 ) -> Row
@@ -225,7 +225,7 @@ fn read_row(
     if !has_marks(before) {
         return none;
     }
-    let PlaceFound::Place(at, from) = place else {
+    let Some(WordPlace { at, from }) = place else {
         return none;
     };
     let shift = shift_of(from, slot);

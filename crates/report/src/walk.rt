@@ -7,11 +7,12 @@ ghost use Rattle.slots.specs.Slots.{Within};
 ghost use Rattle.report.specs.Visits.{seen, visited, few_records};
 
 use crate::feed::feed;
-use chain::{BlockRead, NextRead, Place, data_of, fragment_at, next_list};
+use chain::{Place, data_of, next_fragment};
 use slots::Slot;
 use tally::{Tally, empty_tally};
 
-// The buffer, of one record, takes those that are cut.
+// The buffer, of one record, takes those that are cut. An accepted chain refuses nothing on the way, so each step may be
+// unwrapped.
 pub(crate) fn tally_records(
     file: &[u8],
     begin: Place,
@@ -26,31 +27,11 @@ pub(crate) fn tally_records(
     let mut place = begin;
     let mut tally = empty_tally();
     let mut fill = 0;
-    loop {
-        if place.index < place.list.links {
-            let read = fragment_at(file, place, id);
-            let BlockRead::Block(block) = read else {
-                return tally;
-            };
-            let data = data_of(file, block);
-            let fed = feed(data, size, slot, tally, buffer, fill);
-            let met = fed.tally;
-            tally = met;
-            fill = fed.fill;
-            place = place.behind(block.size);
-        } else {
-            let next = next_list(file, place);
-            match next {
-                NextRead::Refused(_) => {
-                    return tally;
-                }
-                NextRead::End(_) => {
-                    return tally;
-                }
-                NextRead::List(entered) => {
-                    place = entered;
-                }
-            }
-        }
+    while let Some(fragment) = next_fragment(file, &mut place, id).unwrap() {
+        let data = data_of(file, fragment.block);
+        let fed = feed(data, size, slot, tally, buffer, fill);
+        tally = fed.tally;
+        fill = fed.fill;
     }
+    tally
 }

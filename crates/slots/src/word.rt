@@ -10,7 +10,7 @@ ghost use Rattle.slots.specs.Known.{SignBit};
 use crate::slot::Slot;
 use bit_fields::cut;
 use fields::{Number, float_bits, number_at};
-use words::swapped;
+use words::{Big, ByteOrder, Little};
 
 // The first byte of eight of a record that hold the field, and the bit of them at which it begins
 #[derive(Clone, Copy, Debug, PartialEq, Eq)]
@@ -92,9 +92,10 @@ pub(crate) fn near_field(word: u64, shift: u32, big_endian: bool, count: u32) ->
     ensures { result ≡ bits (number_of (order_meant big_endian) (le 8 word)) shift count }
 {
     if big_endian {
-        return cut(swapped(word), shift, count);
+        cut(Big::of_word(word), shift, count)
+    } else {
+        cut(Little::of_word(word), shift, count)
     }
-    cut(word, shift, count)
 }
 
 // Of the record, which need not have eight bytes; nor need they hold the field

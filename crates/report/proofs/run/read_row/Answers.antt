@@ -16,13 +16,13 @@ returns-in_default c =
     row_none a.size a.slot a.before a.records.now a.first a.n c.requires.3 c.requires.2
 
 pub shift_of-shift-requires : goal.shift_of-shift-requires
-shift_of-shift-requires c = (subst (PlaceTold c.args.size c.args.slot) c.in-Place.is c.requires.1).2
+shift_of-shift-requires c = (subst (PlaceTold c.args.size c.args.slot) c.in-Some.is c.requires.1).2
 
 pub kind_row-requires : goal.kind_row-requires
 kind_row-requires c =
     record {
       within = c.requires.0;
-      place = record { from = _; place = (subst (PlaceTold c.args.size c.args.slot) c.in-Place.is c.requires.1); is = c.shift_of-shift.ensures };
+      place = record { from = _; place = (subst (PlaceTold c.args.size c.args.slot) c.in-Some.is c.requires.1); is = c.shift_of-shift.ensures };
       sane = c.requires.2;
       marks = some_marks c.args.before c.has_marks.ensures c.if-not-has_marks.false;
       ahead = omega (arith, c.requires.3);

@@ -4,18 +4,17 @@ use mathlib.Core.Path.{◌≡◌}
 use Prim.Native.Nat.{◌<◌}
 use lib.ListN.{length}
 use Rattle.definitions.specs.Chain.{joined}
-use Rattle.chain.specs.Walk.{Walked}
-use Rattle.chain.proofs.Walks.{turns_left}
+use Rattle.chain.specs.Walk.{Walked, turns_left}
 use Rattle.tally.specs.Tallies.{Sane}
 use Rattle.report.specs.Visits.{Held, visited}
 use Rattle.report.proofs.walk.tally_records.Given as goal
 
-abbrev pub invariant-loop-place : goal.invariant-loop-place
-invariant-loop-place l =
+abbrev pub invariant-loop-fragment : goal.invariant-loop-fragment
+invariant-loop-fragment l =
     (length l.buffer ≡ length l.initial.buffer)
     × Sane l.tally
     × (l.fill < l.size)
     × ((w : Walked l.id l.file l.initial.place) → (v : Walked l.id l.file l.place) × (v.blocks ≡ w.blocks) × Held (visited l.slot) l.size l.initial.tally (joined l.file v.before) l.buffer l.tally l.fill)
 
-abbrev pub decreases-loop-place : goal.decreases-loop-place
-decreases-loop-place l = turns_left l.place
+abbrev pub decreases-loop-fragment : goal.decreases-loop-fragment
+decreases-loop-fragment l = turns_left l.place
