@@ -12,10 +12,10 @@ use lib.ListN.{length, get_or, drop, length-drop}
 use lib.Seq.{get_or-drop}
 use Rattle.definitions.specs.Bytes.{Order}
 use Rattle.definitions.specs.Unicode.{Encoding, latin1, utf8, utf16, within, unit_of, Char as Character, scalar, damage, scalar_if, utf8_char, utf16_char, char_of, inside, char_at}
-use Rattle.text.specs.Meaning.{char_meant}
+use Rattle.text.specs.Meaning.{read_as, char_meant}
 use Rattle.text.specs.Parts.{Modest, CharRead}
-use Rattle.text.specs.declared.character.Char.{Char}
-use Rattle.text.specs.declared.character.Char.TheVariants.{Scalar, Damage}
+use Rattle.std.specs.Prelude.{Option, None}
+use Rattle.text.specs.declared.character.Scalar.{Scalar}
 use Rattle.text.proofs.Tests.{of_inside}
 use Rattle.text.proofs.Scalars.{scalar_below}
 use Rattle.text.proofs.Spelling.{Spelt, Byte, char_spelt}
@@ -37,7 +37,7 @@ modest_by e n a b c d (scalar v m) ha hb hc hd h =
 modest_by e n a b c d damage ha hb hc hd h = tt
 
 -- what the bytes at a place give is the first character there
-read_at : (e : Encoding) (s : List ℕ) (at : ℕ) (r : Char) → ((i : ℕ) → Byte e (get_or s i 0))
+read_at : (e : Encoding) (s : List ℕ) (at : ℕ) (r : Option Scalar) → ((i : ℕ) → Byte e (get_or s i 0))
     → char_meant r ≡ inside (length s - at) (char_of e (get_or s at 0) (get_or s (at + 1) 0) (get_or s (at + 2) 0) (get_or s (at + 3) 0)) → CharRead e (drop at s) r
 read_at e s at r known f =
     record {
@@ -47,21 +47,21 @@ read_at e s at r known f =
 
 -- ---- one byte
 
-pub read_latin1 : (s : List ℕ) (at : ℕ) → Bytes s → at < length s → CharRead latin1 (drop at s) (Scalar (get_or s at 0) 0)
+pub read_latin1 : (s : List ℕ) (at : ℕ) → Bytes s → at < length s → CharRead latin1 (drop at s) (read_as (get_or s at 0) 0)
 unfolding char_of
 read_latin1 s at known h =
     let k : 0 < length s - at = omega arith in
-    read_at latin1 s at (Scalar (get_or s at 0) 0) known (simp (lt-ltb _ _ k))
+    read_at latin1 s at (read_as (get_or s at 0) 0) known (simp (lt-ltb _ _ k))
 
-pub read_ascii : (s : List ℕ) (at : ℕ) → at < length s → get_or s at 0 < 0x80 → CharRead utf8 (drop at s) (Scalar (get_or s at 0) 0)
+pub read_ascii : (s : List ℕ) (at : ℕ) → at < length s → get_or s at 0 < 0x80 → CharRead utf8 (drop at s) (read_as (get_or s at 0) 0)
 unfolding char_of utf8_char
 read_ascii s at h l =
     let k : 0 < length s - at = omega arith in
-    read_at utf8 s at (Scalar (get_or s at 0) 0) (λ i. tt) (simp (lt-ltb _ _ l, lt-ltb _ _ k))
+    read_at utf8 s at (read_as (get_or s at 0) 0) (λ i. tt) (simp (lt-ltb _ _ l, lt-ltb _ _ k))
 
 -- ---- four bytes of UTF-8
 
-pub read_utf8 : (s : List ℕ) (at a b c d : ℕ) (q r : Char) → a ≡ get_or s at 0 → b ≡ get_or s (at + 1) 0 → c ≡ get_or s (at + 2) 0 → d ≡ get_or s (at + 3) 0
+pub read_utf8 : (s : List ℕ) (at a b c d : ℕ) (q r : Option Scalar) → a ≡ get_or s at 0 → b ≡ get_or s (at + 1) 0 → c ≡ get_or s (at + 2) 0 → d ≡ get_or s (at + 3) 0
     → char_meant q ≡ utf8_char a b c d → char_meant r ≡ inside (length s - at) (char_meant q) → CharRead utf8 (drop at s) r
 unfolding char_of
 read_utf8 s at a b c d q r pa pb pc pd hq hr = read_at utf8 s at r (λ i. tt) (rw (hq, pa, pb, pc, pd) at hr)
@@ -70,13 +70,13 @@ read_utf8 s at a b c d q r pa pb pc pd hq hr = read_at utf8 s at r (λ i. tt) (r
 
 -- one below the surrogates
 pub read_unit : (o : Order) (s : List ℕ) (at u : ℕ) → Bytes s → at + 1 < length s → u ≡ unit_of o (get_or s at 0) (get_or s (at + 1) 0) → u < 0xD800
-    → CharRead (utf16 o) (drop at s) (Scalar u 1)
+    → CharRead (utf16 o) (drop at s) (read_as u 1)
 unfolding char_of utf16_char
 read_unit o s at u known h e l =
     let k : 1 < length s - at = omega arith in
-    read_at (utf16 o) s at (Scalar u 1) known (simp (sym e, lt-ltb _ _ l, lt-ltb _ _ k))
+    read_at (utf16 o) s at (read_as u 1) known (simp (sym e, lt-ltb _ _ l, lt-ltb _ _ k))
 
-pub read_pair : (o : Order) (s : List ℕ) (at u w : ℕ) (q r : Char) → Bytes s
+pub read_pair : (o : Order) (s : List ℕ) (at u w : ℕ) (q r : Option Scalar) → Bytes s
     → u ≡ unit_of o (get_or s at 0) (get_or s (at + 1) 0) → w ≡ unit_of o (get_or s (at + 2) 0) (get_or s (at + 2 + 1) 0)
     → char_meant q ≡ utf16_char u w → char_meant r ≡ inside (length s - at) (char_meant q) → CharRead (utf16 o) (drop at s) r
 unfolding char_of
@@ -102,7 +102,7 @@ short_pair n u v w h =
     short_by n (ltb u 0xD800) (ltb u 0xDC00) (ltb u 0xE000) (within 0xDC00 0xE000 v) (within 0xDC00 0xE000 w) u
     (0x10000 + (u - 0xD800) * 1024 + (v - 0xDC00)) (0x10000 + (u - 0xD800) * 1024 + (w - 0xDC00)) (le-ltb _ _ k)
 
-pub read_short : (o : Order) (s : List ℕ) (at u w : ℕ) (q r : Char) → Bytes s → length s - at < 4
+pub read_short : (o : Order) (s : List ℕ) (at u w : ℕ) (q r : Option Scalar) → Bytes s → length s - at < 4
     → u ≡ unit_of o (get_or s at 0) (get_or s (at + 1) 0) → char_meant q ≡ utf16_char u w → char_meant r ≡ inside (length s - at) (char_meant q) → CharRead (utf16 o) (drop at s) r
 unfolding char_of
 read_short o s at u w q r known h eu hq hr = read_at (utf16 o) s at r known (rw (hq, eu) at hr ∙ short_pair (length s - at) _ w _ h)
@@ -119,7 +119,7 @@ half_char : (u v : ℕ) → inside 1 (utf16_char u v) ≡ damage
 unfolding utf16_char
 half_char u v = half_by (ltb u 0xD800) (ltb u 0xDC00) (ltb u 0xE000) (within 0xDC00 0xE000 v) u (0x10000 + (u - 0xD800) * 1024 + (v - 0xDC00))
 
-pub read_half : (o : Order) (s : List ℕ) (at : ℕ) → length s ≡ at + 1 → CharRead (utf16 o) (drop at s) Damage
+pub read_half : (o : Order) (s : List ℕ) (at : ℕ) → length s ≡ at + 1 → CharRead (utf16 o) (drop at s) None
 unfolding char_of
 read_half o s at h =
     let l : length s - at ≡ 1 = omega arith in

@@ -2,9 +2,7 @@ pub mod Tests
 pub mod Scalars
 pub mod Widths
 pub mod Spelling
-pub mod Decided
 pub mod FirstChar
-pub mod Copying
 pub mod Walk
 pub mod Units
 pub mod Reading

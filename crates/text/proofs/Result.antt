@@ -11,7 +11,7 @@ use lib.Seq.{sets}
 use Rattle.definitions.specs.Reply.{Outcome, answer, refusal, told}
 use Rattle.definitions.specs.Unicode.{Encoding, latin1, utf8, stopped, Char as Character, chars, all_sound, chars_utf8, placeholder, Text, text_from, text_of, TextWritten, written_text, text_written}
 use Rattle.text.specs.Parts.{size_of, as_is, whole_text}
-use Rattle.text.specs.declared.utf16.Size.TheVariants.{Sound, Damaged}
+use Rattle.std.specs.Prelude.{Some, None}
 use Rattle.definitions.proofs.Stores.{sets_front}
 use Rattle.text.proofs.Texts.{latin1_sound}
 use Rattle.text.proofs.Verbatim.{utf8_whole}
@@ -85,33 +85,33 @@ pub latin1_small : (out s : List ℕ) (n : ℕ) → n ≡ length (chars_utf8 (ch
 latin1_small out s n k l h = sized_small out latin1 s n (latin1_sound s).0 k l h
 
 -- what the first pass found
-size_by : (b : Bool) (n x : ℕ) → Sound n ≡ (if b then Sound x else Damaged) → (b ≡ true) × (n ≡ x)
+size_by : (b : Bool) (n x : ℕ) → Some n ≡ (if b then Some x else None) → (b ≡ true) × (n ≡ x)
 size_by true n x h = (refl, cc)
 size_by false n x h = (cc, cc)
 
-damaged_by : (b : Bool) (x : ℕ) → Damaged ≡ (if b then Sound x else Damaged) → b ≡ false
+damaged_by : (b : Bool) (x : ℕ) → None ≡ (if b then Some x else None) → b ≡ false
 damaged_by true x h = cc
 damaged_by false x h = refl
 
-found_size : (cs : List Character) (n : ℕ) → Sound n ≡ size_of cs → (all_sound cs ≡ true) × (n ≡ length (chars_utf8 cs))
+found_size : (cs : List Character) (n : ℕ) → Some n ≡ size_of cs → (all_sound cs ≡ true) × (n ≡ length (chars_utf8 cs))
 unfolding size_of
 found_size cs n h = size_by (all_sound cs) n (length (chars_utf8 cs)) h
 
-pub found_room : (cs : List Character) (n room : ℕ) → Sound n ≡ size_of cs → n ≤ room → length (chars_utf8 cs) ≤ room
+pub found_room : (cs : List Character) (n room : ℕ) → Some n ≡ size_of cs → n ≤ room → length (chars_utf8 cs) ≤ room
 found_room cs n room g l = omega (arith, (found_size cs n g).1)
 
-found_damage : (cs : List Character) → Damaged ≡ size_of cs → all_sound cs ≡ false
+found_damage : (cs : List Character) → None ≡ size_of cs → all_sound cs ≡ false
 unfolding size_of
 found_damage cs h = damaged_by (all_sound cs) (length (chars_utf8 cs)) h
 
-pub out_damaged : (out : List ℕ) (e : Encoding) (s : List ℕ) (r : Outcome TextWritten) → Damaged ≡ size_of (chars e 0 s)
+pub out_damaged : (out : List ℕ) (e : Encoding) (s : List ℕ) (r : Outcome TextWritten) → None ≡ size_of (chars e 0 s)
     → r ≡ written_text out (as_is (placeholder e) true) → r ≡ written_text out (whole_text e s)
 out_damaged out e s r g w = broken_written out e s r (found_damage (chars e 0 s) g) w
 
-pub out_fits : (out₀ out : List ℕ) (e : Encoding) (s : List ℕ) (n : ℕ) → Sound n ≡ size_of (chars e 0 s) → n ≤ length out₀
+pub out_fits : (out₀ out : List ℕ) (e : Encoding) (s : List ℕ) (n : ℕ) → Some n ≡ size_of (chars e 0 s) → n ≤ length out₀
     → out ≡ sets out₀ 0 (chars_utf8 (chars e 0 s)) → record { reply = answer (record { count = n; damaged = false }); buffer = out } ≡ written_text out₀ (whole_text e s)
 out_fits out₀ out e s n g l o = let f = found_size (chars e 0 s) n g in sized_fits out₀ out e s n f.0 f.1 l o
 
-pub out_small : (out : List ℕ) (e : Encoding) (s : List ℕ) (n : ℕ) → Sound n ≡ size_of (chars e 0 s) → n < 18446744073709551616 → length out < n
+pub out_small : (out : List ℕ) (e : Encoding) (s : List ℕ) (n : ℕ) → Some n ≡ size_of (chars e 0 s) → n < 18446744073709551616 → length out < n
     → record { reply = refusal 6 n; buffer = out } ≡ written_text out (whole_text e s)
 out_small out e s n g l h = let f = found_size (chars e 0 s) n g in sized_small out e s n f.0 f.1 l h

@@ -3,16 +3,15 @@ use mathlib.Core.Path.{◌≡◌, refl, sym, ap, ◌∙◌}
 use mathlib.Core.List.{List, [], ◌∷◌}
 use mathlib.Core.Bool.{true, false}
 use Prim.Native.Nat.{ℕ, zero, suc, ◌+◌, ◌*◌, ◌≤◌, ◌<◌}
-use native.Mathlib.Nat.{add-zero, zero-add}
+use native.Mathlib.Nat.{add-zero}
 use native.Mathlib.Omega.{arith}
 use lib.ListN.{length, get_or, drop, length-drop, length-append, drop_of_length-le}
 use lib.Seq.{sets, length-sets, drop-drop, drop-cons}
 use Rattle.definitions.specs.Unicode.{Encoding, Char as Character, scalar, damage, char_at, more_of, chars, all_sound, chars_utf8, utf8_of}
-use Rattle.text.specs.Meaning.{char_meant}
+use Rattle.text.specs.Meaning.{read_as, char_meant}
 use Rattle.text.specs.Parts.{Modest, CharRead, size_of}
-use Rattle.text.specs.declared.character.Char.{Char}
-use Rattle.text.specs.declared.character.Char.TheVariants.{Scalar, Damage}
-use Rattle.text.specs.declared.utf16.Size.TheVariants.{Sound, Damaged}
+use Rattle.std.specs.Prelude.{Option, Some, None}
+use Rattle.text.specs.declared.character.Scalar.{Scalar}
 use Rattle.text.proofs.Tests.{inside_back}
 use Rattle.definitions.proofs.Stores.{sets_append}
 
@@ -50,7 +49,7 @@ pub record Turn (e : Encoding) (s : List ℕ) (at c m : ℕ) : Type 0 where
   pub step : rest e s at ≡ scalar c m ∷ rest e s (at + 1 + m)
   pub size : length (chars_utf8 (rest e s at)) ≡ length (utf8_of c) + length (chars_utf8 (rest e s (at + 1 + m)))
 
-pub turn : (e : Encoding) (s : List ℕ) (at c m : ℕ) (r : Char) → at < length s → r ≡ Scalar c m → CharRead e (drop at s) r → Turn e s at c m
+pub turn : (e : Encoding) (s : List ℕ) (at c m : ℕ) (r : Option Scalar) → at < length s → r ≡ read_as c m → CharRead e (drop at s) r → Turn e s at c m
 turn e s at c m r h q read =
     let same : scalar c m ≡ char_at e (drop at s) = sym (ap char_meant q) ∙ read.same in
     let modest : Modest (scalar c m) = rw q at read.modest in
@@ -65,7 +64,7 @@ turn e s at c m r h q read =
     }
 
 -- and of a damaged one
-pub damage_here : (e : Encoding) (s : List ℕ) (at : ℕ) (r : Char) → at < length s → r ≡ Damage → CharRead e (drop at s) r → rest e s at ≡ damage ∷ rest e s (at + 1)
+pub damage_here : (e : Encoding) (s : List ℕ) (at : ℕ) (r : Option Scalar) → at < length s → r ≡ None → CharRead e (drop at s) r → rest e s at ≡ damage ∷ rest e s (at + 1)
 damage_here e s at r h q read =
     rest_step e s at damage h (sym (ap char_meant q) ∙ read.same) ∙ ap (λ (k : ℕ). damage ∷ rest e s k) (add-zero (at + 1))
 
@@ -73,9 +72,6 @@ damage_here e s at r h q read =
 pub record Checked (e : Encoding) (s : List ℕ) (at : ℕ) : Type 0 where
   pub reached : at ≤ length s
   pub same : all_sound (rest e s at) ≡ all_sound (chars e 0 s)
-
-pub checked_start : (e : Encoding) (s : List ℕ) → Checked e s 0
-checked_start e s = record { reached = omega arith; same = refl }
 
 pub checked_turn : (e : Encoding) (s : List ℕ) (at c m : ℕ) → Checked e s at → Turn e s at c m → Checked e s (at + 1 + m)
 checked_turn e s at c m i t = record { reached = t.inside; same = sym (ap all_sound t.step) ∙ i.same }
@@ -92,9 +88,6 @@ pub record Measured (e : Encoding) (s : List ℕ) (at n : ℕ) : Type 0 where
   pub bound : n ≤ 2 * at
   pub count : n + length (chars_utf8 (rest e s at)) ≡ length (chars_utf8 (chars e 0 s))
 
-pub measured_start : (e : Encoding) (s : List ℕ) → Measured e s 0 0
-measured_start e s = record { checked = checked_start e s; bound = omega arith; count = zero-add _ }
-
 pub measured_turn : (e : Encoding) (s : List ℕ) (at n c m w : ℕ) → Measured e s at n → Turn e s at c m → w ≡ length (utf8_of c) → Measured e s (at + 1 + m) (n + w)
 measured_turn e s at n c m w i t p =
     record {
@@ -106,11 +99,11 @@ measured_turn e s at n c m w i t p =
 pub measured_size : (e : Encoding) (s : List ℕ) (at n : ℕ) → Measured e s at n → length s ≤ at → n ≡ length (chars_utf8 (chars e 0 s))
 measured_size e s at n i h = omega (arith, i.count, ap length (ap chars_utf8 (rest_end e s at h)))
 
-pub measured_sound : (e : Encoding) (s : List ℕ) (at n : ℕ) → Measured e s at n → length s ≤ at → Sound n ≡ size_of (chars e 0 s)
+pub measured_sound : (e : Encoding) (s : List ℕ) (at n : ℕ) → Measured e s at n → length s ≤ at → Some n ≡ size_of (chars e 0 s)
 unfolding size_of
 measured_sound e s at n i h = simp (sym (checked_sound e s at i.checked h), measured_size e s at n i h)
 
-pub measured_damage : (e : Encoding) (s : List ℕ) (at n : ℕ) → Measured e s at n → rest e s at ≡ damage ∷ rest e s (at + 1) → Damaged ≡ size_of (chars e 0 s)
+pub measured_damage : (e : Encoding) (s : List ℕ) (at n : ℕ) → Measured e s at n → rest e s at ≡ damage ∷ rest e s (at + 1) → None ≡ size_of (chars e 0 s)
 unfolding size_of
 measured_damage e s at n i q = simp (sym (checked_damage e s at i.checked q))
 
@@ -120,9 +113,6 @@ pub record Wrote (e : Encoding) (s out₀ out : List ℕ) (at n : ℕ) : Type 0 
   pub long : length out ≡ length out₀
   pub count : n + length (chars_utf8 (rest e s at)) ≡ length (chars_utf8 (chars e 0 s))
   pub same : sets out n (chars_utf8 (rest e s at)) ≡ sets out₀ 0 (chars_utf8 (chars e 0 s))
-
-pub wrote_start : (e : Encoding) (s out : List ℕ) → Wrote e s out out 0 0
-wrote_start e s out = record { reached = omega arith; long = refl; count = zero-add _; same = refl }
 
 -- the character at hand fits
 pub wrote_room : (e : Encoding) (s out₀ out : List ℕ) (at n c m : ℕ) → Wrote e s out₀ out at n → Turn e s at c m

@@ -1,16 +1,19 @@
 -- What the code's own types mean in the definitions.
-use Rattle.std.specs.Prelude.{ℕ, List, Result}
+use Rattle.std.specs.Prelude.{ℕ, List, Option, Some, None, Result}
 use Rattle.definitions.specs.Reply.{Reply, Outcome}
 use Rattle.definitions.specs.Unicode.{Char as Character, scalar, damage, TextWritten as Written}
 use Rattle.refusals.specs.Meaning.{replied}
 use Rattle.refusals.specs.declared.Refusal.{Refusal}
-use Rattle.text.specs.declared.character.Char.{Char}
-use Rattle.text.specs.declared.character.Char.TheVariants.{Scalar, Damage}
+use Rattle.text.specs.declared.character.Scalar.{Scalar}
 use Rattle.text.specs.declared.answer.TextWritten.{TextWritten}
 
-abbrev pub char_meant : Char → Character
-char_meant (Scalar c more) = scalar c more
-char_meant Damage = damage
+-- the character that was read
+abbrev pub read_as : ℕ → ℕ → Option Scalar
+read_as value more = Some (record { value = value; more = more })
+
+abbrev pub char_meant : Option Scalar → Character
+char_meant (Some c) = scalar c.value c.more
+char_meant None = damage
 
 abbrev pub written_meant : TextWritten → Written
 written_meant t = record { count = t.count; damaged = t.damaged }

@@ -1,25 +1,18 @@
-// What is read at a place of a text.
+// What is read at a place of a text: a scalar value, or damage.
 ghost use Rattle.std.specs.Prelude.{◌≡◌};
 ghost use Rattle.definitions.specs.Unicode.{inside};
 ghost use Rattle.text.specs.Meaning.{char_meant};
 
 #[derive(Clone, Copy)]
-pub enum Char {
-    // a scalar value, and how many bytes after its first belong to it: a character takes at least one byte
-    Scalar { value: u32, more: usize },
-    Damage,
+pub struct Scalar {
+    pub value: u32,
+    // how many bytes after its first belong to it: a character takes at least one byte
+    pub more: usize,
 }
 
 // a character that does not end within the bytes left is damage
-pub fn inside(read: Char, left: usize) -> Char
+pub fn inside(read: Option<Scalar>, left: usize) -> Option<Scalar>
     ensures { char_meant result ≡ inside left (char_meant read) }
 {
-    match read {
-        Char::Scalar { value, more } => if more < left {
-            Char::Scalar { value, more }
-        } else {
-            Char::Damage
-        },
-        Char::Damage => Char::Damage,
-    }
+    read.filter(|scalar| scalar.more < left)
 }

@@ -14,11 +14,9 @@ use refusals::Refusal;
 fn latin1_size(text: &[u8]) -> usize
     ensures { result ≡ length (chars_utf8 (chars latin1 0 text.now)) }
 {
-    let mut at: usize = 0;
     let mut size: usize = 0;
-    while at < text.len() {
-        size = size + 1 + (text[at] / 128) as usize;
-        at += 1;
+    for byte in text {
+        size += 1 + (*byte / 128) as usize;
     }
     size
 }
@@ -27,11 +25,9 @@ fn put_latin1(text: &[u8], out: &mut [u8])
     requires { length (chars_utf8 (chars latin1 0 text.now)) ≤ length out.old }
     ensures { out.new ≡ sets out.old 0 (chars_utf8 (chars latin1 0 text.now)) }
 {
-    let mut at: usize = 0;
     let mut end: usize = 0;
-    while at < text.len() {
-        end = put_utf8(out, end, text[at] as u32);
-        at += 1;
+    for byte in text {
+        end = put_utf8(out, end, *byte as u32);
     }
 }
 

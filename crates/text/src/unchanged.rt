@@ -12,10 +12,8 @@ fn copy(from: &[u8], out: &mut [u8])
     requires { length from.now ≤ length out.old }
     ensures { out.new ≡ sets out.old 0 from.now }
 {
-    let mut i: usize = 0;
-    while i < from.len() {
-        out[i] = from[i];
-        i += 1;
+    for (at, byte) in from.iter().enumerate() {
+        out[at] = *byte;
     }
 }
 

@@ -7,41 +7,28 @@ ghost use Rattle.text.specs.Meaning.{char_meant, wrote};
 ghost use Rattle.text.specs.Parts.{high_byte, CharRead, size_of, whole_text};
 
 use crate::answer::TextWritten;
-use crate::character::{Char, inside};
+use crate::character::{Scalar, inside};
 use crate::damaged::write_damaged_utf16;
 use crate::encode::{put_utf8, utf8_width};
 use refusals::Refusal;
 
 #[tactic(auto, unfolding(definitions::specs::Unicode::utf16_char))]
-fn utf16_char(unit: u32, next: u32) -> Char
+fn utf16_char(unit: u32, next: u32) -> Option<Scalar>
     ensures { char_meant result ≡ utf16_char unit next }
 {
-    if unit < 0xD800 {
-        return Char::Scalar {
+    if unit < 0xD800 || 0xE000 <= unit {
+        return Some(Scalar {
             value: unit,
             more: 1,
-        };
+        });
     }
-    if 0xE000 <= unit {
-        return Char::Scalar {
-            value: unit,
-            more: 1,
-        };
+    if 0xDC00 <= unit || next < 0xDC00 || 0xE000 <= next {
+        return None;
     }
-    if 0xDC00 <= unit {
-        return Char::Damage;
-    }
-    if next < 0xDC00 {
-        return Char::Damage;
-    }
-    if next < 0xE000 {
-        Char::Scalar {
-            value: 0x10000 + (unit - 0xD800) * 1024 + (next - 0xDC00),
-            more: 3,
-        }
-    } else {
-        Char::Damage
-    }
+    Some(Scalar {
+        value: 0x10000 + (unit - 0xD800) * 1024 + (next - 0xDC00),
+        more: 3,
+    })
 }
 
 // where in a unit its high byte stands
@@ -61,7 +48,7 @@ fn unit_at(text: &[u8], at: usize, big_endian: bool) -> u32
 }
 
 // by two units, which is as long as a character can be: in fewer than four bytes the second does not matter
-fn char_at(text: &[u8], at: usize, big_endian: bool) -> Char
+fn char_at(text: &[u8], at: usize, big_endian: bool) -> Option<Scalar>
     requires { at + 1 < length text.now }
     ensures { CharRead (utf16 (order_meant big_endian)) (drop at text.now) result }
 {
@@ -73,15 +60,8 @@ fn char_at(text: &[u8], at: usize, big_endian: bool) -> Char
     inside(utf16_char(unit, unit_at(text, at + 2, big_endian)), left)
 }
 
-// what a text takes as UTF-8
-#[derive(Clone, Copy)]
-pub enum Size {
-    Sound(usize),
-    Damaged,
-}
-
-// a unit below the surrogates decides alone; half a unit at the end is damage
-fn measure(text: &[u8], big_endian: bool) -> Size
+// what a sound text takes as UTF-8: a unit below the surrogates decides alone; half a unit at the end is damage
+fn measure(text: &[u8], big_endian: bool) -> Option<usize>
     ensures { result ≡ size_of (chars (utf16 (order_meant big_endian)) 0 text.now) }
 {
     let mut at: usize = 0;
@@ -92,17 +72,15 @@ fn measure(text: &[u8], big_endian: bool) -> Size
             size += utf8_width(unit);
             at += 2;
         } else {
-            let Char::Scalar { value, more } = char_at(text, at, big_endian) else {
-                return Size::Damaged;
-            };
-            size += utf8_width(value);
-            at = at + 1 + more;
+            let scalar = char_at(text, at, big_endian)?;
+            size += utf8_width(scalar.value);
+            at = at + 1 + scalar.more;
         }
     }
     if at < text.len() {
-        return Size::Damaged;
+        return None;
     }
-    Size::Sound(size)
+    Some(size)
 }
 
 // damage writes nothing, and there is none where the text was measured
@@ -118,15 +96,12 @@ fn put_utf16(text: &[u8], big_endian: bool, out: &mut [u8])
             end = put_utf8(out, end, unit);
             at += 2;
         } else {
-            let read = char_at(text, at, big_endian);
-            match read {
-                Char::Scalar { value, more } => {
-                    end = put_utf8(out, end, value);
-                    at = at + 1 + more;
+            match char_at(text, at, big_endian) {
+                Some(scalar) => {
+                    end = put_utf8(out, end, scalar.value);
+                    at = at + 1 + scalar.more;
                 }
-                Char::Damage => {
-                    at += 1;
-                }
+                None => at += 1,
             }
         }
     }
@@ -135,7 +110,7 @@ fn put_utf16(text: &[u8], big_endian: bool, out: &mut [u8])
 pub fn write_utf16(text: &[u8], big_endian: bool, out: &mut [u8]) -> Result<TextWritten, Refusal>
     ensures { wrote result out.new ≡ written_text out.old (whole_text (utf16 (order_meant big_endian)) text.now) }
 {
-    let Size::Sound(size) = measure(text, big_endian) else {
+    let Some(size) = measure(text, big_endian) else {
         return write_damaged_utf16(big_endian, out);
     };
     let count = size as u64;

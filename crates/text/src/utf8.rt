@@ -2,25 +2,23 @@
 ghost use Rattle.std.specs.Prelude.{◌≡◌, ◌≤◌, ◌<◌, length, get_or, drop};
 ghost use Rattle.definitions.specs.Unicode.{utf8, six_bits, is_scalar, utf8_two, utf8_three, utf8_four, utf8_char, chars, all_sound, written_text};
 ghost use Rattle.text.specs.Meaning.{char_meant, wrote};
-ghost use Rattle.text.specs.Parts.{CharRead, whole_text};
+ghost use Rattle.text.specs.Parts.{CharRead, continuing, whole_text};
 
 use crate::answer::TextWritten;
-use crate::character::{Char, inside};
+use crate::character::{Scalar, inside};
 use crate::damaged::write_damaged_utf8;
 use crate::unchanged::write_unchanged;
 use refusals::Refusal;
 
-// 64 for a byte that continues nothing, so that no sum below wants a guard
+// the six bits of a byte that continues a character
 #[tactic(auto, unfolding(definitions::specs::Unicode::six_bits))]
-fn six_bits(byte: u32) -> u32
-    ensures { (result ≡ six_bits byte) × (result ≤ 64) }
+fn continuing(byte: u32) -> Option<u32>
+    ensures { result ≡ continuing byte }
 {
-    if byte < 0x80 {
-        64
-    } else if byte < 0xC0 {
-        byte - 0x80
+    if 0x80 <= byte && byte < 0xC0 {
+        Some(byte - 0x80)
     } else {
-        64
+        None
     }
 }
 
@@ -28,91 +26,61 @@ fn six_bits(byte: u32) -> u32
 fn is_scalar(value: u32) -> bool
     ensures { result ≡ is_scalar value }
 {
-    if value < 0xD800 {
-        true
-    } else if value < 0xE000 {
-        false
-    } else {
-        value < 0x110000
-    }
+    matches!(value, 0..=0xD7FF | 0xE000..=0x10FFFF)
 }
 
 #[tactic(auto, unfolding(definitions::specs::Unicode::utf8_two))]
-fn two_bytes(a: u32, b: u32) -> Char
+fn two_bytes(a: u32, b: u32) -> Option<Scalar>
     requires { (0xC0 ≤ a) × (a < 0xE0) }
     ensures { char_meant result ≡ utf8_two a b }
 {
-    let x = six_bits(b);
-    let value = (a - 0xC0) * 64 + x;
-    if 64 <= x {
-        return Char::Damage;
-    }
+    let value = (a - 0xC0) * 64 + continuing(b)?;
     if value < 0x80 {
-        return Char::Damage;
+        return None;
     }
-    Char::Scalar { value, more: 1 }
+    Some(Scalar { value, more: 1 })
 }
 
 #[tactic(auto, unfolding(definitions::specs::Unicode::utf8_three))]
-fn three_bytes(a: u32, b: u32, c: u32) -> Char
+fn three_bytes(a: u32, b: u32, c: u32) -> Option<Scalar>
     requires { (0xE0 ≤ a) × (a < 0xF0) }
     ensures { char_meant result ≡ utf8_three a b c }
 {
-    let x = six_bits(b);
-    let y = six_bits(c);
-    let value = (a - 0xE0) * 4096 + x * 64 + y;
-    if 64 <= x {
-        return Char::Damage;
-    }
-    if 64 <= y {
-        return Char::Damage;
-    }
+    let value = (a - 0xE0) * 4096 + continuing(b)? * 64 + continuing(c)?;
     if value < 0x800 {
-        return Char::Damage;
+        return None;
     }
     if is_scalar(value) {
-        Char::Scalar { value, more: 2 }
+        Some(Scalar { value, more: 2 })
     } else {
-        Char::Damage
+        None
     }
 }
 
 #[tactic(auto, unfolding(definitions::specs::Unicode::utf8_four))]
-fn four_bytes(a: u32, b: u32, c: u32, d: u32) -> Char
+fn four_bytes(a: u32, b: u32, c: u32, d: u32) -> Option<Scalar>
     requires { (0xF0 ≤ a) × (a < 0xF8) }
     ensures { char_meant result ≡ utf8_four a b c d }
 {
-    let x = six_bits(b);
-    let y = six_bits(c);
-    let z = six_bits(d);
-    let value = (a - 0xF0) * 262144 + x * 4096 + y * 64 + z;
-    if 64 <= x {
-        return Char::Damage;
-    }
-    if 64 <= y {
-        return Char::Damage;
-    }
-    if 64 <= z {
-        return Char::Damage;
-    }
+    let value = (a - 0xF0) * 262144 + continuing(b)? * 4096 + continuing(c)? * 64 + continuing(d)?;
     if value < 0x10000 {
-        return Char::Damage;
+        return None;
     }
     if value < 0x110000 {
-        Char::Scalar { value, more: 3 }
+        Some(Scalar { value, more: 3 })
     } else {
-        Char::Damage
+        None
     }
 }
 
 #[tactic(auto, unfolding(definitions::specs::Unicode::utf8_char))]
-fn utf8_char(a: u32, b: u32, c: u32, d: u32) -> Char
+fn utf8_char(a: u32, b: u32, c: u32, d: u32) -> Option<Scalar>
     ensures { char_meant result ≡ utf8_char a b c d }
 {
     if a < 0x80 {
-        Char::Scalar { value: a, more: 0 }
+        Some(Scalar { value: a, more: 0 })
     } else if a < 0xC0 {
-        Char::Damage
+        None
     } else if a < 0xE0 {
         two_bytes(a, b)
     } else if a < 0xF0 {
@@ -120,7 +88,7 @@ fn utf8_char(a: u32, b: u32, c: u32, d: u32) -> Char
     } else if a < 0xF8 {
         four_bytes(a, b, c, d)
     } else {
-        Char::Damage
+        None
     }
 }
 
@@ -132,7 +100,7 @@ fn byte_at(text: &[u8], at: usize) -> u32
 }
 
 // by four bytes, which is as long as a character can be
-fn char_at(text: &[u8], at: usize) -> Char
+fn char_at(text: &[u8], at: usize) -> Option<Scalar>
     requires { at < length text.now }
     ensures { CharRead utf8 (drop at text.now) result }
 {
@@ -152,10 +120,10 @@ fn is_sound(text: &[u8]) -> bool
         if text[at] < 0x80 {
             at += 1;
         } else {
-            let Char::Scalar { value: _, more } = char_at(text, at) else {
+            let Some(scalar) = char_at(text, at) else {
                 return false;
             };
-            at = at + 1 + more;
+            at = at + 1 + scalar.more;
         }
     }
     true

@@ -10,13 +10,13 @@ returns-in_default c =
 
 pub put_utf16-requires : goal.put_utf16-requires
 put_utf16-requires c =
-    found_room _ _ _ (sym c.in-Sound.is ∙ c.measure.ensures) c.if-out-size.false
+    found_room _ _ _ (sym c.in-Some.is ∙ c.measure.ensures) c.if-out-size.false
 
 pub returns-then-out-size : goal.returns-then-out-size
 returns-then-out-size c =
-    out_small _ _ _ _ (sym c.in-Sound.is ∙ c.measure.ensures) (omega arith) c.if-out-size.true
+    out_small _ _ _ _ (sym c.in-Some.is ∙ c.measure.ensures) (omega arith) c.if-out-size.true
 
 pub returns : goal.returns
 returns c =
-    out_fits _ _ _ _ _ (sym c.in-Sound.is ∙ c.measure.ensures)
+    out_fits _ _ _ _ _ (sym c.in-Some.is ∙ c.measure.ensures)
     c.if-out-size.false c.put_utf16.ensures
