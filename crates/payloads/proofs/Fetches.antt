@@ -1,5 +1,6 @@
 -- From a record and its payload, each fetched or refused, to the value.
-use mathlib.Core.Path.{◌≡◌, sym, ap, ◌∙◌}
+use Rattle.std.specs.Prelude.{Ok, Err}
+use mathlib.Core.Path.{◌≡◌, ap, ◌∙◌}
 use mathlib.Core.Bool.{Bool, true, false}
 use mathlib.Core.List.{List}
 use Prim.Native.Nat.{ℕ}
@@ -11,18 +12,14 @@ use Rattle.definitions.specs.Payload.{id_sd, holds_position, joined_of, payload_
 use Rattle.refusals.specs.Meaning.{refused}
 use Rattle.refusals.specs.declared.Refusal.{Refusal}
 use Rattle.records.specs.Meaning.{fetched_by}
-use Rattle.records.specs.declared.record.RecordRead.{RecordRead}
-use Rattle.records.specs.declared.record.RecordRead.TheVariants.{Record, Refused}
 use Rattle.payloads.specs.Meaning.{stored_by}
-use Rattle.payloads.specs.declared.payload.PayloadStored.{PayloadStored}
-use Rattle.payloads.specs.declared.payload.PayloadStored.TheVariants.{Bytes, Refused as NotStored}
 
 -- ---- the value
 
 module _ (s : List ℕ) (g : Group) (c : Channel) (payload : List ℕ) where
-  pub value_refused : (n t : ℕ) → value_of payload g.id_size c ≡ refusal n t → refusal n t ≡ payload_value_of s g c payload
+  pub value_refused : {n t : ℕ} → value_of payload g.id_size c ≡ refusal n t → refusal n t ≡ payload_value_of s g c payload
   unfolding payload_value_of
-  value_refused n t e = rw e
+  value_refused e = rw e
 
   pub value_judged : {v : Value} {valid : Bool} → value_of payload g.id_size c ≡ answer v → valid ≡ valid_of s g c
       → answer (record { value = v; valid = valid; size = length payload }) ≡ payload_value_of s g c payload
@@ -37,31 +34,30 @@ module _ (f : List ℕ) (start k size : ℕ) (g : Group) (c : Channel) (out room
   unfolding payload_fetched
   no_position h = rw h
 
-  module _ (holds : holds_position c ≡ true) {r : RecordRead} {left : List ℕ} (e : fetched_by r left ≡ fetched f start k size out) where
+  module _ (holds : holds_position c ≡ true) where
     -- all that follows is by what the fetch gave
-    behind : {x : RecordRead} → r ≡ x
-        → payload_behind (joined_of id_sd f c.data_link) size g c (fetched_by x left) room ≡ payload_fetched f start k size g c out room
+    behind : (o : Outcome (Unit {0})) → o ≡ fetched f start k size out
+        → payload_behind (joined_of id_sd f c.data_link) size g c o room ≡ payload_fetched f start k size g c out room
     unfolding payload_fetched
-    behind is = rw holds
-        (ap (λ (x : RecordRead). payload_behind (joined_of id_sd f c.data_link) size g c (fetched_by x left) room) (sym is)
-        ∙ ap (λ (o : Outcome (Unit {0})). payload_behind (joined_of id_sd f c.data_link) size g c o room) e)
+    behind o e = rw holds (ap (λ (o : Outcome (Unit {0})). payload_behind (joined_of id_sd f c.data_link) size g c o room) e)
 
-    pub no_record : {x : Refusal} → r ≡ Refused x
+    pub no_record : (x : Refusal) {left : List ℕ} → fetched_by (Err x) left ≡ fetched f start k size out
         → record { reply = refused x; record_buffer = left; payload_buffer = room } ≡ payload_fetched f start k size g c out room
-    no_record is = behind is
+    no_record x {left} e = behind (fetched_by (Err x) left) e
 
-    module _ (is : r ≡ Record) {p : PayloadStored} {after : List ℕ}
-        (es : stored_by p after ≡ stored (payload_of (joined_of id_sd f c.data_link) (take size left) g.id_size c) room) where
-      by_payload : {x : PayloadStored} → p ≡ x
-          → value_behind size g c (fetched_by Record left) (stored_by x after) ≡ payload_fetched f start k size g c out room
-      by_payload so =
-          ap (λ (x : PayloadStored). value_behind size g c (fetched_by Record left) (stored_by x after)) (sym so)
-          ∙ ap (value_behind size g c (fetched_by Record left)) es ∙ behind is
+    module _ {u : Unit {0}} {left : List ℕ} (e : fetched_by (Ok u) left ≡ fetched f start k size out) where
+      by_payload : (p : Outcome (List ℕ)) → p ≡ stored (payload_of (joined_of id_sd f c.data_link) (take size left) g.id_size c) room
+          → value_behind size g c (fetched_by (Ok u) left) p ≡ payload_fetched f start k size g c out room
+      by_payload p es = ap (value_behind size g c (fetched_by (Ok u) left)) es ∙ behind (fetched_by (Ok u) left) e
 
-      pub no_payload : {x : Refusal} → p ≡ NotStored x
+      pub no_payload : (x : Refusal) {after : List ℕ}
+          → stored_by (Err x) after ≡ stored (payload_of (joined_of id_sd f c.data_link) (take size left) g.id_size c) room
           → record { reply = refused x; record_buffer = left; payload_buffer = after } ≡ payload_fetched f start k size g c out room
-      no_payload so = by_payload so
+      no_payload x {after} es = by_payload (stored_by (Err x) after) es
 
-      pub payload_then : {n : ℕ} {v : Reply PayloadValue} → p ≡ Bytes n → v ≡ payload_value_of (take size left) g c (take n after)
+      pub payload_then : (n : ℕ) {after : List ℕ} {v : Reply PayloadValue}
+          → stored_by (Ok n) after ≡ stored (payload_of (joined_of id_sd f c.data_link) (take size left) g.id_size c) room
+          → v ≡ payload_value_of (take size left) g c (take n after)
           → record { reply = v; record_buffer = left; payload_buffer = after } ≡ payload_fetched f start k size g c out room
-      payload_then so ev = ap (λ (x : Reply PayloadValue). record { reply = x; record_buffer = left; payload_buffer = after }) ev ∙ by_payload so
+      payload_then n {after} es ev =
+          ap (λ (x : Reply PayloadValue). record { reply = x; record_buffer = left; payload_buffer = after }) ev ∙ by_payload (stored_by (Ok n) after) es

@@ -1,5 +1,6 @@
 -- The payload at a position of the joined data.
-use mathlib.Core.Path.{◌≡◌, sym, ap, ◌∙◌}
+use Rattle.std.specs.Prelude.{Ok, Err}
+use mathlib.Core.Path.{◌≡◌, refl, sym, ap, ◌∙◌}
 use mathlib.Core.Bool.{true, false}
 use mathlib.Core.List.{List, [], ◌∷◌}
 use Prim.Native.Nat.{ℕ, ◌+◌, ◌≤◌, ◌<◌}
@@ -12,13 +13,12 @@ use Rattle.definitions.specs.Reply.{answer, refusal}
 use Rattle.definitions.specs.Bytes.{le_of, span, u32_at}
 use Rattle.definitions.specs.Chain.{Block, file_limit, joined, chain_of, total_of, length_by}
 use Rattle.definitions.specs.Payload.{id_sd, payload_at, joined_of}
-use Rattle.chain.specs.Meaning.{located_reply}
+use Rattle.refusals.specs.Meaning.{refused}
 use Rattle.chain.specs.Located.{Locates}
 use Rattle.chain.specs.Walk.{Walked}
 use Rattle.places.specs.declared.place.DataPosition.{DataPosition}
-use Rattle.places.specs.declared.place.Place.{Place}
 use Rattle.chain.specs.declared.acceptance.Located.{Located}
-use Rattle.chain.specs.declared.acceptance.Located.TheVariants.{Whole}
+use Rattle.refusals.specs.declared.Refusal.{Refusal}
 use Rattle.places.proofs.Answers.{unfollowed}
 use Rattle.chain.proofs.Walks.{length_total}
 use Rattle.words.proofs.Spans.{length_span}
@@ -56,24 +56,24 @@ module _ (j : List ℕ) (p : ℕ) where
 -- ---- in that of a chain
 
 module _ (f : List ℕ) (start : ℕ) (short : length f ≤ file_limit) where
-  pub chain_refused_law : (p n t : ℕ) → length_by id_sd f start ≡ refusal n t → payload_from f start p ≡ refusal n t
+  pub chain_refused_law : (p : ℕ) (r : Refusal) → Locates id_sd f start p (length_by id_sd f start) (Err r) → payload_from f start p ≡ refused r
   unfolding joined_of total_of
-  chain_refused_law p n t e = rw (unfollowed (chain_of id_sd f start) _ n t (length_total f start id_sd short ∙ e))
+  chain_refused_law p r found = rw (unfollowed (chain_of id_sd f start) _ _ _ (length_total f start id_sd short ∙ sym found.replied))
 
-  -- a chain that is accepted: its length n, and a place that is not behind the position p
-  module _ (p : ℕ) {r : Located} {n : DataPosition} {place : Place} (found : Locates id_sd f start p (length_by id_sd f start) r) (is : r ≡ Whole n place) where
-    accepted : (bs : List Block) × (chain_of id_sd f start ≡ answer bs) × (length (joined f bs) ≡ n.0)
-    accepted = whole id_sd f start n.0 (length_total f start id_sd short ∙ sym found.replied ∙ ap located_reply is)
+  -- a chain that is accepted, and a place that is not behind the position p
+  module _ (p : ℕ) {l : Located} (found : Locates id_sd f start p (length_by id_sd f start) (Ok l)) where
+    accepted : (bs : List Block) × (chain_of id_sd f start ≡ answer bs) × (length (joined f bs) ≡ l.total.0)
+    accepted = whole id_sd f start l.total.0 (length_total f start id_sd short ∙ sym found.replied)
 
-    pub on_the_way : Walked id_sd f place
+    pub on_the_way : Walked id_sd f l.place
     on_the_way =
-        let kept = found.place n place is in
+        let kept = found.place l refl in
         record { start = start; before = kept.0; blocks = accepted.0; at = kept.1; whole = accepted.1 }
 
-    pub ahead : place.position.0 ≤ p
-    ahead = (found.place n place is).2
+    pub ahead : l.place.position.0 ≤ p
+    ahead = (found.place l refl).2
 
-    as_long : length (joined f on_the_way.blocks) ≡ n.0
+    as_long : length (joined f on_the_way.blocks) ≡ l.total.0
     unfolding on_the_way
     as_long = accepted.2
 
@@ -81,23 +81,24 @@ module _ (f : List ℕ) (start : ℕ) (short : length f ≤ file_limit) where
     unfolding joined_of on_the_way
     in_chain = rw accepted.1
 
-    pub found_no_length : leb (p + 4) n.0 ≡ false → payload_from f start p ≡ refusal 23 0
-    found_no_length h = in_chain ∙ length_past _ p (omega (arith, as_long, leb-false (p + 4) n.0 h))
+    pub found_no_length : leb (p + 4) l.total.0 ≡ false → payload_from f start p ≡ refusal 23 0
+    found_no_length h = in_chain ∙ length_past _ p (omega (arith, as_long, leb-false (p + 4) l.total.0 h))
 
-    module _ (h : leb (p + 4) n.0 ≡ true) {first : DataPosition} {read : LengthRead} (ef : first.0 ≡ p + 4)
-        (has : (w : Walked id_sd f place) → HasLength f w.blocks p read) where
+    module _ (h : leb (p + 4) l.total.0 ≡ true) {first : DataPosition} {read : LengthRead} (ef : first.0 ≡ p + 4)
+        (has : (w : Walked id_sd f l.place) → HasLength f w.blocks p read) where
       room : p + 4 ≤ length (joined f on_the_way.blocks)
-      room = omega (arith, as_long, leb-true (p + 4) n.0 h)
+      room = omega (arith, as_long, leb-true (p + 4) l.total.0 h)
 
       size_is : read.length ≡ u32_at (joined f on_the_way.blocks) p
       size_is = (has on_the_way).is room
 
-      pub found_cut : leb (first.0 + read.length) n.0 ≡ false → payload_from f start p ≡ refusal 23 0
-      found_cut l = in_chain ∙ payload_past _ p room (omega (arith, as_long, ef, size_is, leb-false (first.0 + read.length) n.0 l))
+      pub found_cut : leb (first.0 + read.length) l.total.0 ≡ false → payload_from f start p ≡ refusal 23 0
+      found_cut e = in_chain ∙ payload_past _ p room (omega (arith, as_long, ef, size_is, leb-false (first.0 + read.length) l.total.0 e))
 
-      pub found_whole : leb (first.0 + read.length) n.0 ≡ true → Lies f (payload_from f start p) read.reached first.0 read.length
-      found_whole l =
-          let inside : first.0 + read.length ≤ length (joined f on_the_way.blocks) = omega (arith, as_long, leb-true (first.0 + read.length) n.0 l) in
+      pub found_whole : leb (first.0 + read.length) l.total.0 ≡ true
+          → Lies f (payload_from f start p) (record { place = read.reached; first = first; length = read.length })
+      found_whole e =
+          let inside : first.0 + read.length ≤ length (joined f on_the_way.blocks) = omega (arith, as_long, leb-true (first.0 + read.length) l.total.0 e) in
           let on = (has on_the_way).on in
           record {
             walked = on.walked;

@@ -1,16 +1,15 @@
 -- Where a payload lies in the joined data of its chain.
-use Rattle.std.specs.Prelude.{◌≡◌, ℕ, ◌+◌, ◌≤◌, List, length}
+use Rattle.std.specs.Prelude.{◌≡◌, ℕ, ◌+◌, ◌≤◌, List, length, Result, Ok, Err}
 use Rattle.definitions.specs.Reply.{Reply, answer, and_then}
 use Rattle.definitions.specs.Bytes.{span, u32_at}
 use Rattle.definitions.specs.Chain.{Block, joined}
 use Rattle.definitions.specs.Payload.{id_sd, joined_of, payload_at}
 use Rattle.refusals.specs.Meaning.{refused}
+use Rattle.refusals.specs.declared.Refusal.{Refusal}
 use Rattle.chain.specs.Walk.{Walked}
-use Rattle.places.specs.declared.place.Place.{Place}
 use Rattle.records.specs.Window.{ReadsOn}
 use Rattle.payloads.specs.declared.payload.LengthRead.{LengthRead}
 use Rattle.payloads.specs.declared.payload.PayloadFound.{PayloadFound}
-use Rattle.payloads.specs.declared.payload.PayloadFound.TheVariants.{Payload, Refused}
 
 -- the payload at a position in what the `##SD` blocks of the chain from `start` on join to
 abbrev pub payload_from : List ℕ → ℕ → ℕ → Reply (List ℕ)
@@ -21,13 +20,13 @@ pub record HasLength (f : List ℕ) (blocks : List Block) (position : ℕ) (r : 
   pub is : position + 4 ≤ length (joined f blocks) → r.length ≡ u32_at (joined f blocks) position
   pub on : ReadsOn id_sd f blocks (position + 4) r.reached
 
--- it is the n bytes from `first` on of what a walk joins that stands at p, not behind them
-pub record Lies (f : List ℕ) (payload : Reply (List ℕ)) (p : Place) (first n : ℕ) : Type 0 where
-  pub walked : Walked id_sd f p
-  pub ahead : p.position.0 ≤ first
-  pub inside : first + n ≤ length (joined f walked.blocks)
-  pub is : payload ≡ answer (span (joined f walked.blocks) first n)
+-- it is that of what a walk joins that stands at the place, not behind it
+pub record Lies (f : List ℕ) (payload : Reply (List ℕ)) (p : PayloadFound) : Type 0 where
+  pub walked : Walked id_sd f p.place
+  pub ahead : p.place.position.0 ≤ p.first.0
+  pub inside : p.first.0 + p.length ≤ length (joined f walked.blocks)
+  pub is : payload ≡ answer (span (joined f walked.blocks) p.first.0 p.length)
 
-abbrev pub Finds : List ℕ → Reply (List ℕ) → PayloadFound → Type 0
-Finds f payload (Payload p q n) = Lies f payload p q.0 n
-Finds f payload (Refused r) = payload ≡ refused r
+abbrev pub Finds : List ℕ → Reply (List ℕ) → Result PayloadFound Refusal → Type 0
+Finds f payload (Ok p) = Lies f payload p
+Finds f payload (Err r) = payload ≡ refused r

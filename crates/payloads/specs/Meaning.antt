@@ -1,40 +1,33 @@
 -- What each answer, with the buffers that its call leaves, means in the definitions.
-use Rattle.std.specs.Prelude.{◌≡◌, ℕ, ◌≤◌, List, length, take}
-use Rattle.definitions.specs.Reply.{Reply, Outcome, answer}
+use Rattle.std.specs.Prelude.{◌≡◌, ℕ, ◌≤◌, List, length, take, Result, Ok}
+use Rattle.definitions.specs.Reply.{Reply, Outcome}
 use Rattle.definitions.specs.Payload.{PayloadValue, Outcomes}
-use Rattle.refusals.specs.Meaning.{refused}
+use Rattle.refusals.specs.Meaning.{replied}
+use Rattle.refusals.specs.declared.Refusal.{Refusal}
 use Rattle.fields.specs.Meaning.{value_meant}
-use Rattle.payloads.specs.declared.position.PositionRead.{PositionRead}
-use Rattle.payloads.specs.declared.position.PositionRead.TheVariants.{Position, Refused as NotRead}
-use Rattle.payloads.specs.declared.payload.PayloadStored.{PayloadStored}
-use Rattle.payloads.specs.declared.payload.PayloadStored.TheVariants.{Bytes, Refused as NotStored}
+use Rattle.places.specs.declared.place.DataPosition.{DataPosition}
 use Rattle.payloads.specs.declared.value.DecodedPayload.{DecodedPayload}
-use Rattle.payloads.specs.declared.value.PayloadRead.{PayloadRead}
-use Rattle.payloads.specs.declared.value.PayloadRead.TheVariants.{Value, Refused}
 
-abbrev pub position_reply : PositionRead → Reply ℕ
-position_reply (Position q) = answer q.0
-position_reply (NotRead r) = refused r
+abbrev pub position_reply : Result DataPosition Refusal → Reply ℕ
+position_reply = replied (λ q. q.0)
 
 -- the payload is what stands in the front of the buffer
-abbrev pub stored_reply : PayloadStored → List ℕ → Reply (List ℕ)
-stored_reply (Bytes n) left = answer (take n left)
-stored_reply (NotStored r) left = refused r
+abbrev pub stored_reply : Result ℕ Refusal → List ℕ → Reply (List ℕ)
+stored_reply r left = replied (λ n. take n left) r
 
-abbrev pub stored_by : PayloadStored → List ℕ → Outcome (List ℕ)
+abbrev pub stored_by : Result ℕ Refusal → List ℕ → Outcome (List ℕ)
 stored_by r left = record { reply = stored_reply r left; buffer = left }
 
 -- the buffer is left so, with as many bytes as are told
-pub record Stores (o : Outcome (List ℕ)) (r : PayloadStored) (left : List ℕ) : Type 0 where
+pub record Stores (o : Outcome (List ℕ)) (r : Result ℕ Refusal) (left : List ℕ) : Type 0 where
   pub outcome : stored_by r left ≡ o
-  pub room : (n : ℕ) → r ≡ Bytes n → n ≤ length left
+  pub room : (n : ℕ) → r ≡ Ok n → n ≤ length left
 
 abbrev pub payload_meant : DecodedPayload → PayloadValue
 payload_meant v = record { value = value_meant v.value; valid = v.is_valid; size = v.length }
 
-abbrev pub payload_reply : PayloadRead → Reply PayloadValue
-payload_reply (Value v) = answer (payload_meant v)
-payload_reply (Refused r) = refused r
+abbrev pub payload_reply : Result DecodedPayload Refusal → Reply PayloadValue
+payload_reply = replied payload_meant
 
-abbrev pub payload_fetched_by : PayloadRead → List ℕ → List ℕ → Outcomes PayloadValue
+abbrev pub payload_fetched_by : Result DecodedPayload Refusal → List ℕ → List ℕ → Outcomes PayloadValue
 payload_fetched_by r a b = record { reply = payload_reply r; record_buffer = a; payload_buffer = b }

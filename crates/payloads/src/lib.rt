@@ -5,4 +5,4 @@ mod payload;
 mod position;
 mod value;
 
-pub use value::{DecodedPayload, PayloadRead, read_payload};
+pub use value::{DecodedPayload, read_payload};

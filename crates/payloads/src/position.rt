@@ -9,25 +9,13 @@ use chain::DataPosition;
 use decoder::Channel;
 use fields::{bytes_needed, ends_outside};
 use refusals::Refusal;
-use words::read_u64_le;
-
-#[derive(Clone, Copy)]
-pub(crate) enum PositionRead {
-    Position(DataPosition),
-    Refused(Refusal),
-}
+use words::read_le;
 
 // Whether the channel's field in the record is a position: eight whole bytes of a channel of variable length
 pub(crate) fn holds_position(channel: Channel) -> bool
     ensures { result ≡ holds_position (channel_meant channel) }
 {
-    if !channel.is_variable_length() {
-        return false;
-    }
-    if channel.bit_offset != 0 {
-        return false;
-    }
-    channel.bit_count == 64
+    channel.is_variable_length() && channel.bit_offset == 0 && channel.bit_count == 64
 }
 
 // Little-endian, whatever the data type: that is the payload's
@@ -35,30 +23,21 @@ fn position_at(record: &[u8], at: usize) -> DataPosition
     requires { at + 8 ≤ length «record».now }
     ensures { result.0 ≡ u64_at «record».now at }
 {
-    DataPosition(read_u64_le(record, at))
+    DataPosition(read_le(record, at))
 }
 
 // The position in a record, behind the record id and the byte offset
-pub(crate) fn position_in(record: &[u8], record_id_size: usize, channel: Channel) -> PositionRead
+pub(crate) fn position_in(
+    record: &[u8],
+    record_id_size: usize,
+    channel: Channel,
+) -> Result<DataPosition, Refusal>
     ensures { position_reply result ≡ position_of «record».now record_id_size (channel_meant channel) }
 {
     let byte_offset = channel.byte_offset as usize;
     if ends_outside(record.len(), record_id_size, byte_offset, 8) {
         let needed = bytes_needed(record_id_size, byte_offset, 8);
-        return PositionRead::Refused(Refusal::FieldOutside(needed));
+        return Err(Refusal::FieldOutside(needed));
     }
-    PositionRead::Position(position_at(record, record_id_size + byte_offset))
-}
-
-impl PositionRead {
-    // Why there is no position. Only a refusal is asked, so the second arm is never taken.
-    pub(crate) fn refusal(self) -> Refusal
-        requires { (why : Refusal) × (self ≡ PositionRead.Refused why) }
-        ensures { self ≡ PositionRead.Refused result }
-    {
-        match self {
-            PositionRead::Refused(why) => why,
-            PositionRead::Position(_) => Refusal::NoPosition,
-        }
-    }
+    Ok(position_at(record, record_id_size + byte_offset))
 }
