@@ -1,59 +1,19 @@
--- Ends that are tested without a sum, addresses, the bytes from an address on, and the end of a chain.
-use mathlib.Core.Path.{◌≡◌, refl, sym}
-use mathlib.Core.Bool.{Bool, true, false, not, ◌&&◌}
+-- Addresses, and the bytes from an address on.
+use mathlib.Core.Path.{◌≡◌}
+use mathlib.Core.Bool.{true, not}
 use mathlib.Core.List.{List}
 use Prim.Native.Nat.{ℕ, ◌+◌, ◌-◌, ◌≤◌, ◌<◌}
 use native.Mathlib.Omega.{arith}
 use native.Mathlib.Nat.{add-zero}
 use lib.ListN.{length, take, drop, length-drop}
 use lib.Seq.{drop-drop, get_or-drop}
-use lib.Dec.{leb, ltb, eqb}
-use borrow.Author.Tests.{eq-eqb, ne_eqb, lt-leb, le-leb, lt-ltb, le-ltb, leb-true, ltb-true, ltb-false, eqb-false, not-true}
+use lib.Dec.{leb, eqb}
+use borrow.Author.Tests.{leb-true, eqb-false, not-true}
 use Rattle.definitions.specs.Bytes.{span, id_at}
 use Rattle.definitions.specs.Chain.{has_header}
 use Rattle.definitions.proofs.Replies.{both}
-use Rattle.places.specs.Places.{ended}
-use Rattle.places.specs.declared.place.Place.{Place}
-
--- ---- an end
-
-module _ (at size len : ℕ) where
-  pub past_short : len < size → true ≡ ltb len (at + size)
-  past_short l = let h : len < at + size = omega arith in sym (lt-ltb _ _ h)
-
-  past_test : (t : Bool) → ltb (len - size) at ≡ t → size ≤ len → t ≡ ltb len (at + size)
-  past_test true e l =
-      let h : len < at + size = omega (arith, ltb-true (len - size) at e) in
-      sym (lt-ltb _ _ h)
-  past_test false e l =
-      let h : at + size ≤ len = omega (arith, ltb-false (len - size) at e) in
-      sym (le-ltb _ _ h)
-
-  pub past_by : size ≤ len → ltb (len - size) at ≡ ltb len (at + size)
-  past_by l = past_test (ltb (len - size) at) refl l
-
--- ---- a position between two others
-
-module _ (q first end : ℕ) where
-  pub stands_not : q < first → false ≡ (leb first q && ltb q end)
-  stands_not l = rw (lt-leb _ _ l)
-
-  pub stands_by : first ≤ q → ltb q end ≡ (leb first q && ltb q end)
-  stands_by l = rw (le-leb _ _ l)
-
--- ---- an address
 
 module _ (f : List ℕ) (a : ℕ) where
-  pub header_nowhere : a ≡ 0 → false ≡ has_header f a
-  header_nowhere h = rw (eq-eqb _ _ h)
-
-  header_test : (t : Bool) → ltb (length f) (a + 24) ≡ t → not t ≡ leb (a + 24) (length f)
-  header_test true e = sym (lt-leb (a + 24) (length f) (ltb-true (length f) (a + 24) e))
-  header_test false e = sym (le-leb (a + 24) (length f) (ltb-false (length f) (a + 24) e))
-
-  pub header_by : (a ≡ 0 → ⊥) → (past : Bool) → past ≡ ltb (length f) (a + 24) → not past ≡ has_header f a
-  header_by z past e = rw (ne_eqb _ _ z) (header_test past (sym e))
-
   pub header_there : has_header f a ≡ true → (0 < a) × (a + 24 ≤ length f)
   header_there h =
       let p = both (not (eqb a 0)) (leb (a + 24) (length f)) h in
@@ -72,12 +32,3 @@ module _ (f : List ℕ) (a : ℕ) where
 -- n bytes behind the first k of those from an address on
 pub part : (l : List ℕ) (a k n : ℕ) → take (k + n - k) (drop k (drop a l)) ≡ span l (a + k) n
 part l a k n = let e : k + n - k ≡ n = omega arith in rw (e, drop-drop)
-
--- ---- the end of a chain
-
-module _ (p : Place) where
-  pub ended_not : p.lists ≡ 0 → false ≡ ended p
-  ended_not z = rw (eq-eqb _ _ z)
-
-  pub ended_by : (p.lists ≡ 0 → ⊥) → eqb p.list.next.0 0 ≡ ended p
-  ended_by z = rw (ne_eqb _ _ z)

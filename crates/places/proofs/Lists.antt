@@ -5,8 +5,8 @@ use mathlib.Core.List.{List}
 use Prim.Native.Nat.{ℕ, ◌+◌, ◌*◌, ◌≤◌}
 use native.Mathlib.Omega.{arith}
 use lib.ListN.{length, drop}
-use lib.Dec.{leb, ltb, eqb}
-use borrow.Author.Tests.{eq-eqb, ne_eqb, ltb-false, eqb-true, eqb-false, not-false}
+use lib.Dec.{ltb, eqb}
+use borrow.Author.Tests.{ltb-false, eqb-true, eqb-false, not-false}
 use Rattle.definitions.specs.Reply.{answer, refusal}
 use Rattle.definitions.specs.Bytes.{id_at}
 use Rattle.definitions.specs.Header.{Header, header_of}
@@ -15,15 +15,6 @@ use Rattle.definitions.specs.Chain.{fragment_limit, has_header, agrees, admitted
 use Rattle.blocks.proofs.Headers.{needed}
 use Rattle.definitions.proofs.Replies.{both}
 use Rattle.places.proofs.Answers.{passed, followed, answered}
-
--- ---- whether it agrees with itself
-
-module _ (d : DataList) where
-  pub disagrees : (d.count ≡ d.links → ⊥) → false ≡ agrees d
-  disagrees h = rw (ne_eqb _ _ h)
-
-  pub agrees_by : d.count ≡ d.links → leb (d.rest_at + d.rest * 8) d.header.block_length ≡ agrees d
-  agrees_by h = rw (eq-eqb _ _ h)
 
 -- ---- the ways out
 

@@ -30,16 +30,11 @@ pub fn data_block_at(file: &[u8], address: FileAddress, id: &[u8; 4]) -> Result<
     }
     let bytes = bytes_from(file, address);
     let header = BlockHeader::from_bytes(bytes)?;
-    if !id_at(bytes, 0, id) {
-        return Err(Refusal::BadDataBlock);
-    }
-    if header.links_nr != 0 {
-        return Err(Refusal::BadDataBlock);
-    }
-    if header.block_len < 24 {
-        return Err(Refusal::BadDataBlock);
-    }
-    if address.ends_outside(header.block_len, file) {
+    if !id_at(bytes, 0, id)
+        || header.links_nr != 0
+        || header.block_len < 24
+        || address.ends_outside(header.block_len, file)
+    {
         return Err(Refusal::BadDataBlock);
     }
     Ok(DataBlock {

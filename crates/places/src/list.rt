@@ -13,10 +13,8 @@ fn agrees_with_itself(list: DataListBlock) -> bool
     requires { list.rest_at + list.rest * 8 < 18446744073709551616 }
     ensures { result ≡ agrees (list_meant list) }
 {
-    if list.data_block_nr as u64 != list.links {
-        return false;
-    }
-    list.rest_at + list.rest * 8 <= list.header.block_len
+    u64::from(list.data_block_nr) == list.links
+        && list.rest_at + list.rest * 8 <= list.header.block_len
 }
 
 // The list at an address, with so many fragments in the lists before it

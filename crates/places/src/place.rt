@@ -7,15 +7,15 @@ ghost use Rattle.places.specs.Places.{start_at, further, behind, ended, entered}
 use blocks::DataListBlock;
 
 // where a block stands in the file
-#[derive(Clone, Copy, Debug, PartialEq, Eq)]
+#[derive(Clone, Copy, Debug, Default, PartialEq, Eq)]
 pub struct FileAddress(pub u64);
 
 // how many bytes of the joined data are before
-#[derive(Clone, Copy, Debug, PartialEq, Eq)]
+#[derive(Clone, Copy, Debug, Default, PartialEq, Eq)]
 pub struct DataPosition(pub u64);
 
 // What a walk keeps of a list that it has read, so that the list is read once
-#[derive(Clone, Copy, Debug, PartialEq, Eq)]
+#[derive(Clone, Copy, Debug, Default, PartialEq, Eq)]
 pub struct OpenList {
     pub address: FileAddress,
     // the data links: where in the bytes from the address on, and how many
@@ -28,7 +28,7 @@ pub struct OpenList {
 }
 
 // Before fragment `index` of the list read last. At the start no list is read, and the next one is the first.
-#[derive(Clone, Copy, Debug, PartialEq, Eq)]
+#[derive(Clone, Copy, Debug, Default, PartialEq, Eq)]
 pub struct Place {
     pub list: OpenList,
     // how many lists are read
@@ -44,10 +44,7 @@ pub struct Place {
 pub(crate) fn sum_passes(a: u64, b: u64, limit: u64) -> bool
     ensures { result ≡ ltb limit (a + b) }
 {
-    if limit < b {
-        return true;
-    }
-    limit - b < a
+    limit < b || limit - b < a
 }
 
 impl FileAddress {
@@ -63,10 +60,7 @@ impl FileAddress {
 pub(crate) fn has_header(file: &[u8], address: FileAddress) -> bool
     ensures { result ≡ has_header file.now address.0 }
 {
-    if address.0 == 0 {
-        return false;
-    }
-    !address.ends_outside(24, file)
+    address.0 != 0 && !address.ends_outside(24, file)
 }
 
 // The file from an address on. Nothing else reads the file.
@@ -74,8 +68,7 @@ pub fn bytes_from(file: &[u8], address: FileAddress) -> &[u8]
     requires { address.0 ≤ length file.now }
     ensures { result.now ≡ drop address.0 file.now }
 {
-    let at = address.0 as usize;
-    &file[at..]
+    &file[address.0 as usize..]
 }
 
 impl DataPosition {
@@ -83,20 +76,14 @@ impl DataPosition {
     pub fn is_behind(self, from: DataPosition, size: u64) -> bool
         ensures { result ≡ leb (from.0 + size) self.0 }
     {
-        if self.0 < from.0 {
-            return false;
-        }
-        size <= self.0 - from.0
+        from.0 <= self.0 && size <= self.0 - from.0
     }
 
     // whether it is that of a byte from one position on and before another
     pub fn stands_in(self, first: DataPosition, end: DataPosition) -> bool
         ensures { result ≡ (leb first.0 self.0 && ltb self.0 end.0) }
     {
-        if self.0 < first.0 {
-            return false;
-        }
-        self.0 < end.0
+        first.0 <= self.0 && self.0 < end.0
     }
 
     pub fn further(self, size: u64) -> DataPosition
@@ -123,17 +110,10 @@ impl Place {
     {
         Place {
             list: OpenList {
-                address: FileAddress(0),
-                links_at: 0,
-                links: 0,
-                flags: 0,
-                rest_at: 0,
                 next: first,
+                ..OpenList::default()
             },
-            lists: 0,
-            fragments: 0,
-            index: 0,
-            position: DataPosition(0),
+            ..Place::default()
         }
     }
 
@@ -142,14 +122,10 @@ impl Place {
         requires { (self.index + 1 < 18446744073709551616) × (self.position.0 + size < 18446744073709551616) }
         ensures { result ≡ behind self size }
     {
-        let list = self.list;
-        let position = self.position;
         Place {
-            list,
-            lists: self.lists,
-            fragments: self.fragments,
             index: self.index + 1,
-            position: position.further(size),
+            position: self.position.further(size),
+            ..self
         }
     }
 
@@ -157,10 +133,7 @@ impl Place {
     pub fn has_ended(self) -> bool
         ensures { result ≡ ended self }
     {
-        if self.lists == 0 {
-            return false;
-        }
-        self.list.is_last()
+        self.lists != 0 && self.list.is_last()
     }
 
     // before the first fragment of the next list, which was read
@@ -168,12 +141,9 @@ impl Place {
         requires { (self.lists + 1 < 18446744073709551616) × (self.fragments + self.index < 18446744073709551616) }
         ensures { result ≡ entered self (list_meant list) }
     {
-        let last = self.list;
-        let address = last.next;
-        let position = self.position;
         Place {
             list: OpenList {
-                address,
+                address: self.list.next,
                 links_at: list.links_at,
                 links: list.links,
                 flags: list.flags,
@@ -183,7 +153,7 @@ impl Place {
             lists: self.lists + 1,
             fragments: self.fragments + self.index,
             index: 0,
-            position,
+            position: self.position,
         }
     }
 }
