@@ -1,23 +1,19 @@
 -- What a list declares for its chain, and which lists keep to it.
-use Rattle.std.specs.Prelude.{if◌then◌else◌}
-use mathlib.Core.Path.{◌≡◌, refl, sym, ap, ap₂, ◌∙◌}
+use mathlib.Core.Path.{◌≡◌, refl, sym, ap₂}
 use mathlib.Core.Bool.{Bool, true, false, true≢false, not}
 use mathlib.Core.List.{List, []}
-use Prim.Native.Nat.{ℕ, ◌%◌}
-use native.Mathlib.Nat.{div-one}
+use Prim.Native.Nat.{ℕ}
 use native.Mathlib.Omega.{arith}
 use lib.ListN.{drop}
-use lib.Dec.{leb, eqb}
-use borrow.Author.Tests.{eq-eqb, ne_eqb, le-leb, eqb-true, eqb-false, not-false}
+use lib.Dec.{eqb}
+use borrow.Author.Tests.{eq-eqb, le-leb, eqb-true, not-false}
 use Rattle.definitions.specs.Reply.{Reply, answer, refusal, and_then}
-use Rattle.definitions.specs.Bytes.{u64_at, bit}
-use Rattle.definitions.specs.DataList.{DataList, one_length}
+use Rattle.definitions.specs.DataList.{DataList}
 use Rattle.definitions.specs.Chain.{Declaration, by_length, by_offsets, declaration_of, keeps_to, list_at, chained_at, lists, list_limit, chain_of}
 use Rattle.definitions.proofs.Replies.{both}
 use Rattle.places.specs.Places.{opened}
 use Rattle.steps.specs.Steps.{declaration_in, declared_at}
 use Rattle.places.specs.declared.place.FileAddress.{FileAddress}
-use Rattle.places.specs.declared.place.OpenList.{OpenList}
 use Rattle.places.proofs.Answers.{passed, followed, answered}
 
 -- ---- to keep to a declaration
@@ -35,57 +31,6 @@ kept_same (by_length n c) (by_length m k) h =
 kept_same (by_length n c) by_offsets h = absurd (true≢false (sym h))
 kept_same by_offsets (by_length m k) h = absurd (true≢false (sym h))
 kept_same by_offsets by_offsets h = refl
-
--- ---- flag bit 0
-
-pub flag_is : (flags : ℕ) → bit flags 0 ≡ flags % 2
-flag_is flags = ap (λ (x : ℕ). x % 2) (div-one flags)
-
-module _ (flags : ℕ) where
-  pub flag_set : flags % 2 ≡ 1 → one_length flags ≡ true
-  flag_set h = eq-eqb _ _ (flag_is flags ∙ h)
-
-  pub flag_clear : (flags % 2 ≡ 1 → ⊥) → one_length flags ≡ false
-  flag_clear h = ne_eqb _ _ (λ e. h (sym (flag_is flags) ∙ e))
-
--- ---- the ways through the test of a list l behind the list b
-
-module _ (t x y : Bool) where
-  pub chosen_first : t ≡ true → x ≡ (if t then x else y)
-  chosen_first e = rw e
-
-  pub chosen_second : t ≡ false → y ≡ (if t then x else y)
-  chosen_second e = rw e
-
-module _ (last : Bool) (m n c k : ℕ) where
-  -- one of two flags x and y is set, and the other is not
-  mixed : (x y : ℕ) (s t : Bool) → one_length x ≡ s → one_length y ≡ t → (x % 2 ≡ y % 2 → ⊥)
-      → false ≡ keeps_to (if s then by_length m c else by_offsets) last (if t then by_length n k else by_offsets)
-  mixed x y true true e g h = absurd (h (sym (flag_is x) ∙ eqb-true _ _ e ∙ sym (eqb-true _ _ g) ∙ flag_is y))
-  mixed x y true false e g h = refl
-  mixed x y false true e g h = refl
-  mixed x y false false e g h = absurd (h (omega (arith, eqb-false (bit x 0) 1 e, eqb-false (bit y 0) 1 g)))
-
-module _ (f : List ℕ) (b l : OpenList) (last : Bool) where
-  abbrev Kept : Bool
-  Kept = keeps_to (declaration_in f b) last (declaration_in f l)
-
-  pub kept_mixed : (b.flags % 2 ≡ l.flags % 2 → ⊥) → false ≡ Kept
-  kept_mixed h = mixed last _ _ _ _ b.flags l.flags _ _ refl refl h
-
-  module _ (same : b.flags % 2 ≡ l.flags % 2) where
-    pub kept_offsets : l.flags % 2 ≡ 0 → true ≡ Kept
-    kept_offsets z = rw (flag_clear b.flags (λ o. omega arith), flag_clear l.flags (λ o. omega arith))
-
-    module _ (odd : l.flags % 2 ≡ 0 → ⊥) (m n : ℕ)
-        (em : m ≡ u64_at (drop b.address.0 f) b.rest_at) (en : n ≡ u64_at (drop l.address.0 f) l.rest_at) where
-      pub kept_other : (m ≡ n → ⊥) → false ≡ Kept
-      kept_other z =
-          rw (flag_set b.flags (omega arith), flag_set l.flags (omega arith), sym em, sym en, ne_eqb n m (λ e. z (sym e)))
-
-      pub kept_by_count : m ≡ n → (if last then leb l.links b.links else eqb l.links b.links) ≡ Kept
-      kept_by_count e =
-          rw (flag_set b.flags (omega arith), flag_set l.flags (omega arith), sym em, sym en, eq-eqb n m (sym e))
 
 -- ---- a list of the chain
 

@@ -1,6 +1,6 @@
 -- What a walk meets: the list of its place, the ways to the next one, and what that tells.
 use Rattle.std.specs.Prelude.{if◌then◌else◌}
-use mathlib.Core.Path.{◌≡◌, refl, sym, ap, subst, ◌∙◌}
+use mathlib.Core.Path.{◌≡◌, refl, sym, subst, ◌∙◌}
 use mathlib.Core.Bool.{Bool, true, false}
 use mathlib.Core.List.{List}
 use Prim.Native.Nat.{ℕ, ◌+◌, ◌≤◌, ◌<◌}
@@ -124,8 +124,3 @@ module _ (f : List ℕ) (p : Place) where
   pub next_tells : (x : Onward) → next_of f p ≡ answer x → Tells f p x
   unfolding next_of
   next_tells x a = tells_by (ended p) x refl a
-
-  -- a list that is entered adds no data
-  pub list_stays : (q : Place) → next_of f p ≡ answer (a_list q) → q.position.0 ≡ p.position.0
-  unfolding Tells
-  list_stays q a = ap (λ (x : Place). x.position.0) (sym (next_tells (a_list q) a).2)

@@ -9,7 +9,7 @@ ghost use Rattle.steps.specs.Steps.{LinkWithin, ListKnown, fragment_at};
 
 use places::{DataBlock, FileAddress, OpenList, Place, bytes_from, data_block_at};
 use refusals::Refusal;
-use words::read_u64_le;
+use words::read_le;
 
 // The link of the fragment. A number that is read in a function of its own is one load where the compiler weighs what to
 // inline, and the walk's loops take in the whole fragment.
@@ -18,7 +18,7 @@ fn link_at(bytes: &[u8], place: Place) -> FileAddress
     ensures { result.0 ≡ u64_at bytes.now (place.list.links_at + place.index * 8) }
 {
     let at = place.list.links_at as usize + place.index as usize * 8;
-    FileAddress(read_u64_le(bytes, at))
+    FileAddress(read_le(bytes, at))
 }
 
 // The one length of the list's fragments
@@ -26,7 +26,7 @@ pub(crate) fn one_length(bytes: &[u8], list: OpenList) -> u64
     requires { list.rest_at + 8 ≤ length bytes.now }
     ensures { result ≡ u64_at bytes.now list.rest_at }
 {
-    read_u64_le(bytes, list.rest_at as usize)
+    read_le(bytes, list.rest_at as usize)
 }
 
 // Whether no fragment of the chain follows
@@ -34,11 +34,7 @@ fn is_last_fragment(place: Place) -> bool
     requires { place.index + 1 < 18446744073709551616 }
     ensures { result ≡ (eqb place.list.next.0 0 && leb place.list.links (place.index + 1)) }
 {
-    let ends_list = place.list.links <= place.index + 1;
-    if !place.list.is_last() {
-        return false;
-    }
-    ends_list
+    place.list.is_last() && place.list.links <= place.index + 1
 }
 
 // Whether the length or the offset that the list declares of its fragment is true. `bytes` is the file from the list on.
@@ -49,12 +45,11 @@ fn truly_declared(bytes: &[u8], place: Place, size: u64) -> bool
     let list = place.list;
     if list.flags % 2 == 1 {
         let length = one_length(bytes, list);
-        if size < length {
-            return is_last_fragment(place);
-        }
-        return size == length;
+        size == length || size < length && is_last_fragment(place)
+    } else {
+        let at = list.rest_at as usize + place.index as usize * 8;
+        place.position.0 == read_le(bytes, at)
     }
-    read_u64_le(bytes, list.rest_at as usize + place.index as usize * 8) == place.position.0
 }
 
 // The fragment at a place, where `bytes` is the file from its list on. The link alone says where it is.
@@ -62,8 +57,7 @@ fn fragment_in(file: &[u8], bytes: &[u8], place: Place, id: &[u8; 4]) -> Result<
     requires { LinkWithin bytes.now place.list place.index }
     ensures { (d : DataList) → Opens place.list d → block_reply result ≡ fragment_of id.now file.now bytes.now d place.index place.position.0 }
 {
-    let link = link_at(bytes, place);
-    let block = data_block_at(file, link, id)?;
+    let block = data_block_at(file, link_at(bytes, place), id)?;
     if !truly_declared(bytes, place, block.size) {
         return Err(Refusal::UntrueDeclaration);
     }
@@ -75,8 +69,6 @@ pub fn fragment_at(file: &[u8], place: Place, id: &[u8; 4]) -> Result<DataBlock,
     requires { (ListKnown file.now place) × (place.index < place.list.links) }
     ensures { block_reply result ≡ fragment_at id.now file.now place }
 {
-    let list = place.list;
-    let address = list.address;
-    let bytes = bytes_from(file, address);
+    let bytes = bytes_from(file, place.list.address);
     fragment_in(file, bytes, place, id)
 }

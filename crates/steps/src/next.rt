@@ -21,8 +21,7 @@ fn one_length_of(file: &[u8], list: OpenList) -> u64
     requires { (list.address.0 ≤ length file.now) × (list.rest_at + 8 ≤ length (drop list.address.0 file.now)) }
     ensures { result ≡ u64_at (drop list.address.0 file.now) list.rest_at }
 {
-    let address = list.address;
-    one_length(bytes_from(file, address), list)
+    one_length(bytes_from(file, list.address), list)
 }
 
 // Whether a list declares what the one before it does: flag bit 0 or offsets, and with the flag one length and one count, which
@@ -52,22 +51,15 @@ pub fn next_list(file: &[u8], place: Place) -> Result<Next, Refusal>
     requires { ListKnown file.now place }
     ensures { next_reply result ≡ next_of file.now place }
 {
-    let position = place.position;
     if place.has_ended() {
-        return Ok(Next::End(position));
+        return Ok(Next::End(place.position));
     }
     if LIST_LIMIT <= place.lists {
         return Err(Refusal::TooManyLists);
     }
-    let last = place.list;
-    let address = last.next;
-    let list = list_at(file, address, place.fragments + place.index)?;
+    let list = list_at(file, place.list.next, place.fragments + place.index)?;
     let entered = place.enter(list);
-    if place.lists == 0 {
-        return Ok(Next::List(entered));
-    }
-    let here = entered.list;
-    if !keeps_to(file, last, here) {
+    if place.lists != 0 && !keeps_to(file, place.list, entered.list) {
         return Err(Refusal::UntrueDeclaration);
     }
     Ok(Next::List(entered))

@@ -13,6 +13,7 @@ use Rattle.steps.specs.Steps.{declaration_in, a_list}
 use Rattle.places.specs.declared.place.Place.{Place}
 use Rattle.steps.proofs.Steps.{lengths_within, next_end, next_many, next_refused, next_first, next_untrue, next_kept}
 use Rattle.steps.proofs.next.next_list.Goals as goal
+use Rattle.steps.proofs.next.next_list.Goals.{else-place-ne0-via-then-place-ne0+else-not-keeps_to, else-place-ne0-via-else-place-ne0}
 
 pub returns-then-has_ended : goal.returns-then-has_ended
 returns-then-has_ended c = next_end _ _ (sym c.has_ended.ensures ∙ c.if-has_ended.true)
@@ -26,15 +27,9 @@ returns-in_err-list c =
     let p = err_from_is_err_and c.from_residual.result c.from_residual.ensures.1 in
     rw (p.1, p.2) (next_refused _ _ (sym c.has_ended.ensures ∙ c.if-has_ended.false) c.if-place-ge-LIST_LIMIT.false _ _ (sym c.in_err-list.ensures))
 
--- the first list is held to nothing
-pub returns-then-place-eq0 : goal.returns-then-place-eq0
-returns-then-place-eq0 c =
-    ap (λ (q : Place). answer (a_list q)) c.enter-entered.ensures
-    ∙ next_first _ _ (sym c.has_ended.ensures ∙ c.if-has_ended.false) c.if-place-ge-LIST_LIMIT.false _ (sym c.in_ok-list.ensures) c.if-place-eq0.true
-
 pub keeps_to-requires : goal.keeps_to-requires
 keeps_to-requires c =
-    lengths_within _ _ c.requires c.if-place-eq0.false _ (sym c.in_ok-list.ensures) _ c.enter-entered.ensures
+    lengths_within _ _ c.requires c.if-place-ne0.true _ (sym c.in_ok-list.ensures) _ c.enter-entered.ensures
 
 -- whether it keeps to the list before
 kept : (f : List ℕ) (p : Place) (d : DataList) (q : Place) (b : Bool) → q ≡ entered p d
@@ -44,9 +39,17 @@ kept f p d q b is e = e ∙ ap (λ (x : Place). keeps_to (declaration_in f p.lis
 
 pub returns-then-not-keeps_to : goal.returns-then-not-keeps_to
 returns-then-not-keeps_to c =
-    next_untrue _ _ (sym c.has_ended.ensures ∙ c.if-has_ended.false) c.if-place-ge-LIST_LIMIT.false _ (sym c.in_ok-list.ensures) c.if-place-eq0.false _ (kept c.args.file.now c.args.place (list_meant c.in_ok-list.list) _ _ c.enter-entered.ensures c.keeps_to.ensures) (c.if-not-keeps_to.true)
+    next_untrue _ _ (sym c.has_ended.ensures ∙ c.if-has_ended.false) c.if-place-ge-LIST_LIMIT.false _ (sym c.in_ok-list.ensures) c.if-place-ne0.true _ (kept c.args.file.now c.args.place (list_meant c.in_ok-list.list) _ _ c.enter-entered.ensures c.keeps_to.ensures) (c.if-not-keeps_to.true)
 
+-- the first list is held to nothing
 pub returns : goal.returns
 returns c =
+    let more = sym c.has_ended.ensures ∙ c.if-has_ended.false in
+    let read = sym c.in_ok-list.ensures in
     ap (λ (q : Place). answer (a_list q)) c.enter-entered.ensures
-    ∙ next_kept _ _ (sym c.has_ended.ensures ∙ c.if-has_ended.false) c.if-place-ge-LIST_LIMIT.false _ (sym c.in_ok-list.ensures) c.if-place-eq0.false _ (kept c.args.file.now c.args.place (list_meant c.in_ok-list.list) _ _ c.enter-entered.ensures c.keeps_to.ensures) (c.if-not-keeps_to.false)
+    ∙ elim c.else-place-ne0.branch [
+      | else-place-ne0-via-then-place-ne0+else-not-keeps_to w ↦
+          next_kept _ _ more c.if-place-ge-LIST_LIMIT.false _ read w.if-place-ne0.true _
+          (kept c.args.file.now c.args.place (list_meant c.in_ok-list.list) _ _ c.enter-entered.ensures w.keeps_to.ensures) w.if-not-keeps_to.false
+      | else-place-ne0-via-else-place-ne0 w ↦ next_first _ _ more c.if-place-ge-LIST_LIMIT.false _ read w.if-place-ne0.false
+    ]
