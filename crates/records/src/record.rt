@@ -10,20 +10,11 @@ use refusals::Refusal;
 // the bytes of a record
 const RECORD_LIMIT: u64 = 16384;
 
-// the last position that a word can hold, behind all data
-const LAST_POSITION: u64 = 18446744073709551615;
-
 // Whether records of that size are none, or too long for the buffer's room
 pub fn bad_size(size: u64, room: u64) -> bool
     ensures { result ≡ bad_size size room }
 {
-    if size == 0 {
-        return true;
-    }
-    if RECORD_LIMIT < size {
-        return true;
-    }
-    room < size
+    size == 0 || RECORD_LIMIT < size || room < size
 }
 
 // Whether a record ends behind the data. One division, since the product could wrap.
@@ -34,15 +25,11 @@ pub fn ends_behind(total: u64, number: u64, size: u64) -> bool
     total / size <= number
 }
 
-// The position of a record's first byte. A product that could wrap is behind all data, and is not taken.
+// The position of a record's first byte. One that no word can count is behind all data, as the last that a word can.
 fn first_byte(number: u64, size: u64) -> DataPosition
-    requires { 0 < size }
     ensures { number * size ≤ 18446744073709551615 → result.0 ≡ number * size }
 {
-    if LAST_POSITION / size < number {
-        return DataPosition(LAST_POSITION);
-    }
-    DataPosition(number * size)
+    DataPosition(number.saturating_mul(size))
 }
 
 // Record `number` of the joined data, in the front of the buffer. The chain is accepted first, so that a refusal leaves the buffer alone.

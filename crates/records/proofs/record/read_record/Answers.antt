@@ -14,9 +14,6 @@ use Rattle.records.proofs.record.read_record.Goals as goal
 pub returns-then-bad_size : goal.returns-then-bad_size
 returns-then-bad_size c = fetch_bad _ _ _ _ _ (sym c.bad_size.ensures ∙ c.if-bad_size.true)
 
-pub first_byte-from-requires : goal.first_byte-from-requires
-first_byte-from-requires c = (size_good c.args.record_size (length c.args.buffer.now) (sym c.bad_size.ensures ∙ c.if-bad_size.false)).0
-
 -- a refused chain is handed on
 pub returns-in_err-located : goal.returns-in_err-located
 unfolding data_length
