@@ -6,21 +6,22 @@ use Prim.Native.Nat.{ℕ, suc, ◌+◌, ◌-◌, ◌*◌, ◌/◌, ◌%◌, ◌^
 use native.Mathlib.Nat.{mul-le-mul_right}
 use native.Mathlib.Omega.{arith}
 use lib.Dec.{ltb}
-use lib.IntN.{ℤ, pos, negsuc}
+use lib.IntN.{pos, negsuc}
 use lib.Signed.{shr_z}
+use mathlib.Core.Logic.{inl, inr}
+use mir.Syntax.{w64}
+use mir.Val.{to_z}
+use Rattle.definitions.proofs.Replies.{le_or_lt}
 use lib.Pow.{pow_pos, pow-add, shl_lt, shl_exact, shl-shr, high}
 use borrow.Author.Tests.{lt-ltb, le-ltb, ltb-true, ltb-false}
 use Rattle.definitions.specs.Bytes.{twos_complement}
 
--- on either side of the sign bit of a word
-module _ (x : ℕ) {r : ℤ} where
-  pub not_negative : r ≡ pos x → x < 2 ^ 63 → r ≡ twos_complement 64 x
-  not_negative er h = rw (lt-ltb x (2 ^ 63) h) er
-
-  pub negative : r ≡ negsuc (2 ^ 64 - 1 - x) → 2 ^ 63 ≤ x → r ≡ twos_complement 64 x
-  negative er h =
-      let e : 2 ^ 64 - 1 - x ≡ 2 ^ 64 - suc x = omega arith in
-      rw (le-ltb x (2 ^ 63) h) (er ∙ ap negsuc e)
+-- the integer with a word's bits, on either side of the sign bit
+pub word_signed : (x : ℕ) → to_z w64 x ≡ twos_complement 64 x
+word_signed x = elim (le_or_lt (2 ^ 63) x) [
+  | inl l ↦ rw (le-ltb x (2 ^ 63) l)
+  | inr l ↦ rw (lt-ltb x (2 ^ 63) l)
+]
 
 -- x of `width` bits at the top of a word, where its sign is the word's, and shifted down again
 module _ (width x : ℕ) (some : 1 ≤ width) (few : width ≤ 64) (below : x < 2 ^ width) where
