@@ -13,7 +13,7 @@ use fields::Channel;
 use refusals::Refusal;
 use words::{id_at, put_all_le, read_all_le, read_le, write_le};
 
-#[derive(Clone, Copy)]
+#[derive(Clone, Copy, Debug, PartialEq, Eq)]
 pub struct ChannelBlock {
     pub header: BlockHeader,
     pub next_ch_addr: u64,
@@ -113,9 +113,8 @@ impl ChannelBlock {
     pub fn channel(self) -> Channel
         ensures { channel_meant result ≡ described (channel_block_meant self) }
     {
-        let data_type = self.data_type;
         Channel {
-            data_type,
+            data_type: self.data_type,
             channel_type: self.channel_type,
             bit_offset: self.bit_offset,
             byte_offset: self.byte_offset,
@@ -163,8 +162,7 @@ fn put_format(out: &mut [u8], block: ChannelBlock)
     requires { 160 ≤ length out.old }
     ensures { out.new ≡ sets out.old 88 (format_bytes (channel_block_meant block)) }
 {
-    let data_type = block.data_type;
-    let code = data_type.to_u8();
+    let code = block.data_type.to_u8();
     write_le(
         out,
         88,

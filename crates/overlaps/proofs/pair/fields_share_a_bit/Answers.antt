@@ -1,19 +1,11 @@
 use mathlib.Core.Path.{◌≡◌, sym, ap₂, ◌∙◌}
 use Prim.Native.Nat.{ℕ, min}
-use Rattle.overlaps.proofs.Pairs.{at_start, in_first, in_second, none_shared, one_shared, next_byte}
+use Rattle.overlaps.proofs.Pairs.{none_shared, one_shared, next_byte}
 use Rattle.overlaps.proofs.pair.fields_share_a_bit.Goals as goal
 
 -- the smaller of the two ends
 the_end : {m n p q end : ℕ} → end ≡ min p q → p ≡ m → q ≡ n → end ≡ min m n
 the_end e ep eq = e ∙ ap₂ min ep eq
-
-pub run_in-requires : goal.run_in-requires
-run_in-requires c =
-    in_first _ _ _ c.loop-byte.invariant (the_end c.min-end.ensures c.byte_end.ensures c.byte_end-2.ensures) c.loop-byte-test.true
-
-pub run_in-requires-in-loop-byte : goal.run_in-requires-in-loop-byte
-run_in-requires-in-loop-byte c =
-    in_second _ _ _ c.loop-byte.invariant (the_end c.min-end.ensures c.byte_end.ensures c.byte_end-2.ensures) c.loop-byte-test.true
 
 pub returns-then-meet : goal.returns-then-meet
 returns-then-meet c =
@@ -26,6 +18,3 @@ loop-byte-preserved c =
 pub returns : goal.returns
 returns c =
     sym (none_shared _ _ _ c.loop-byte.invariant (the_end c.min-end.ensures c.byte_end.ensures c.byte_end-2.ensures) c.loop-byte-test.false)
-
-pub loop-byte-init : goal.loop-byte-init
-loop-byte-init c = at_start _ _ c.max-start.ensures
