@@ -2,8 +2,6 @@
 use Rattle.std.proofs.lemmas.Result.{err_from_is_err_and}
 use mathlib.Core.Path.{sym}
 use native.Mathlib.Omega.{arith}
-use Prim.Native.Nat.{◌≤◌}
-use lib.ListN.{length}
 use lib.Seq.{length-take-le}
 use Rattle.definitions.specs.Table.{table_value_fetched}
 use Rattle.fields.specs.Meaning.{group_meant, channel_meant}
@@ -24,8 +22,7 @@ slice_bounds-any_bounded_value-end c =
 
 pub slice_bounds-any_bounded_value-end-2 : goal.slice_bounds-any_bounded_value-end-2
 slice_bounds-any_bounded_value-end-2 c =
-    let room : c.args.record_size ≤ length c.fetch_record.new.buffer = omega (arith, c.fetch_record.auto, fits _ _ _ _ _ c.in_ok-fetch_record.ensures) in
-    sym (length-take-le _ _ room)
+    sym (length-take-le _ _ (omega (arith, c.fetch_record.auto, fits _ _ _ _ _ c.in_ok-fetch_record.ensures)))
 
 pub returns : goal.returns
 unfolding table_value_fetched
