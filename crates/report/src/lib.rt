@@ -2,7 +2,9 @@
 #![tactic(auto)]
 
 mod feed;
+mod in_place;
 mod report;
+mod row;
 mod run;
 mod walk;
 

@@ -7,7 +7,7 @@ ghost use Rattle.slots.specs.Slots.{slot_valid, SlotTold};
 ghost use Rattle.slots.specs.Known.{FlagAsked, FlagOf};
 
 use bit_fields::cut;
-use fields::{Channel, Form, Group, Number, find_field, form_of};
+use fields::{Channel, FieldStart, Form, Group, Number, find_field, form_of};
 
 #[derive(Clone, Copy)]
 pub struct Slot {
@@ -69,8 +69,11 @@ pub fn find_slot(record: &[u8], group: Group, channel: Channel) -> SlotFound
     let Form::Number(number, big_endian) = form else {
         return SlotFound::NoValue;
     };
-    let start = channel.byte_offset as usize;
-    let Ok(field) = find_field(record, group.record_id_size, start, false, form, channel) else {
+    let start = FieldStart {
+        skipped: group.record_id_size,
+        byte_offset: channel.byte_offset as usize,
+    };
+    let Ok(field) = find_field(record, start, false, form, channel) else {
         return SlotFound::NoValue;
     };
     // bit 0: every value is invalid
