@@ -6,8 +6,9 @@ ghost use Rattle.doubles.specs.Meaning.{narrow_meant, OnlyOne};
 
 use crate::patterns::{
     ALL_BUT_SIGN, BIAS, FRACTION_BITS, INFINITY_32, LEADING, LEAST_NORMAL_32, MORE_BIAS,
-    MORE_FRACTION_BITS, NAN, NAN_32, SIGN, SIGN_32, UNIT_PLACES_32,
+    MORE_FRACTION_BITS, NAN, NAN_32, SIGN, UNIT_PLACES_32,
 };
+use crate::sign::with_sign;
 use crate::widening::widen;
 
 // The least normal 32-bit float as a double, and 2^128, which is above every finite one.
@@ -44,14 +45,6 @@ fn narrow_magnitude(magnitude: u64) -> u32
     INFINITY_32
 }
 
-// A pattern whose sign is clear, with a sign.
-fn with_sign_32(negative: bool, pattern: u32) -> u32
-    requires { pattern < 2 ^ 31 }
-    ensures { result ≡ cond negative (2 ^ 31) 0 + pattern }
-{
-    if negative { SIGN_32 + pattern } else { pattern }
-}
-
 // The 32-bit pattern that widens to a double's; none where the double is wider. Of the NaNs that is so of one, its sign clear.
 pub fn narrow(bits: u64) -> Option<u32>
     ensures { narrow_meant result ≡ fitting (narrows bits) (narrowed bits) }
@@ -60,7 +53,7 @@ pub fn narrow(bits: u64) -> Option<u32>
         return Some(NAN_32);
     }
     let magnitude = narrow_magnitude(bits & ALL_BUT_SIGN);
-    let single = with_sign_32(bits >= SIGN, magnitude);
+    let single = with_sign::<32>(bits >= SIGN, magnitude as u64) as u32;
     if widen(single) == bits {
         return Some(single);
     }

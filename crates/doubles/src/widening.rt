@@ -41,10 +41,10 @@ pub fn widen(bits: u32) -> u64
     let magnitude = bits & ALL_BUT_SIGN_32;
     let negative = bits >= SIGN_32;
     if magnitude < INFINITY_32 {
-        return with_sign(negative, widen_number(magnitude));
+        return with_sign::<64>(negative, widen_number(magnitude));
     }
     if magnitude == INFINITY_32 {
-        return with_sign(negative, INFINITY);
+        return with_sign::<64>(negative, INFINITY);
     }
     NAN
 }

@@ -16,14 +16,14 @@ narrow_magnitude-magnitude-requires c = mask_lt c.args.bits 63
 
 pub returns-then-widen-bits : goal.returns-then-widen-bits
 returns-then-widen-bits c =
-    single_way c.args.bits c.with_sign_32-single.result c.if-bits-eq-NAN.false c.with_sign_32-single.type_inv
+    single_way c.args.bits c.with_sign-single.result c.if-bits-eq-NAN.false c.with_sign-single.ensures.1
     (sym c.widen.ensures ∙ c.if-widen-bits.true)
 
 pub returns : goal.returns
 returns c =
     let b = c.args.bits in
     let r = c.narrow_magnitude-magnitude.result in
-    wider_way b c.with_sign_32-single.result c.if-bits-eq-NAN.false r
+    wider_way b c.with_sign-single.result c.if-bits-eq-NAN.false r
     (subst (λ (m : ℕ). OnlyOne m r) (and_mask b 63) c.narrow_magnitude-magnitude.ensures.1)
-    c.with_sign_32-single.ensures
+    c.with_sign-single.ensures.0
     (λ e. c.if-widen-bits.false (c.widen.ensures ∙ e))

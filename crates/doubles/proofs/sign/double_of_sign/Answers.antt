@@ -10,4 +10,4 @@ pub returns : goal.returns
 returns c =
     let a = c.args in
     let d = c.double_of in
-    integer_with_sign a.negative a.magnitude d.result c.with_sign.result d.ensures c.with_sign.ensures
+    integer_with_sign a.negative a.magnitude d.result c.with_sign.result d.ensures c.with_sign.ensures.0

@@ -14,12 +14,12 @@ with_sign-requires c =
 
 pub returns-then-magnitude-lt-INFINITY_32 : goal.returns-then-magnitude-lt-INFINITY_32
 returns-then-magnitude-lt-INFINITY_32 c =
-    masked_with_sign c.args.bits _ _ (omega (arith, c.if-magnitude-lt-INFINITY_32.true)) c.widen_number.ensures c.with_sign.ensures
+    masked_with_sign c.args.bits _ _ (omega (arith, c.if-magnitude-lt-INFINITY_32.true)) c.widen_number.ensures c.with_sign.ensures.0
 
 pub returns-then-magnitude-eq-INFINITY_32 : goal.returns-then-magnitude-eq-INFINITY_32
 returns-then-magnitude-eq-INFINITY_32 c =
     let b = c.args.bits in
-    masked_with_sign b _ _ (omega (arith, c.if-magnitude-eq-INFINITY_32.true)) (sym (ap widened c.if-magnitude-eq-INFINITY_32.true ∙ infinity_widened)) c.with_sign-then-magnitude-eq-INFINITY_32.ensures
+    masked_with_sign b _ _ (omega (arith, c.if-magnitude-eq-INFINITY_32.true)) (sym (ap widened c.if-magnitude-eq-INFINITY_32.true ∙ infinity_widened)) c.with_sign-then-magnitude-eq-INFINITY_32.ensures.0
 
 pub returns : goal.returns
 returns c =
