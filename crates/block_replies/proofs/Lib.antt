@@ -1,4 +1,3 @@
-pub mod Handed
 pub mod Structs
 pub mod InOrder
 pub mod Examples

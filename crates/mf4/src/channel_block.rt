@@ -4,21 +4,19 @@ ghost use Rattle.definitions.specs.ChannelBlock.{channel_block_of, channel_writt
 ghost use Rattle.block_replies.specs.Replies.{written_c, returned, returned_by};
 ghost use Rattle.block_replies.specs.Channels.{channel_c, block_given};
 
-use block_replies::{
-    Mf4ChannelBlock, Mf4ChannelReply, Mf4WrittenReply, block_of, channel_reply, written_reply,
-};
+use block_replies::{Mf4ChannelBlock, Mf4ChannelReply, Mf4WrittenReply};
 use channels::ChannelBlock;
 
 #[unsafe(no_mangle)]
 pub extern "C" fn mf4_read_channel(bytes: &[u8]) -> Mf4ChannelReply
     ensures { result ≡ channel_c (channel_block_of bytes.now) }
 {
-    channel_reply(ChannelBlock::from_bytes(bytes))
+    ChannelBlock::from_bytes(bytes).into()
 }
 
 #[unsafe(no_mangle)]
 pub extern "C" fn mf4_write_channel(block: Mf4ChannelBlock, out: &mut [u8]) -> Mf4WrittenReply
     ensures { returned result out.new ≡ returned_by written_c (channel_written out.old (block_given block)) }
 {
-    written_reply(block_of(block).to_bytes(out))
+    ChannelBlock::from(block).to_bytes(out).into()
 }

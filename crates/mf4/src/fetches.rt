@@ -6,19 +6,16 @@ ghost use Rattle.replies.specs.Replies.{done_c};
 ghost use Rattle.block_replies.specs.Channels.{channel_given};
 ghost use Rattle.replies.specs.Values.{group_given, valid_value_c, length_c};
 
-use block_replies::{Mf4Channel, channel_of};
+use block_replies::Mf4Channel;
 use chain::{FileAddress, data_length};
 use records::{read_record, read_value};
-use replies::{
-    Mf4DoneReply, Mf4Group, Mf4LengthReply, Mf4ValidValueReply, fetched_reply, group_of,
-    length_reply, valid_value_reply,
-};
+use replies::{Mf4DoneReply, Mf4Group, Mf4LengthReply, Mf4ValidValueReply};
 
 #[unsafe(no_mangle)]
 pub extern "C" fn mf4_data_length(file: &[u8], start: u64) -> Mf4LengthReply
     ensures { result ≡ length_c (data_length file.now start) }
 {
-    length_reply(data_length(file, FileAddress(start)))
+    data_length(file, FileAddress(start)).into()
 }
 
 #[unsafe(no_mangle)]
@@ -31,7 +28,7 @@ pub extern "C" fn mf4_read_record(
 ) -> Mf4DoneReply
     ensures { returned result buffer.new ≡ returned_by done_c (fetched file.now start number record_size buffer.old) }
 {
-    fetched_reply(read_record(file, FileAddress(start), number, record_size, buffer))
+    read_record(file, FileAddress(start), number, record_size, buffer).into()
 }
 
 #[unsafe(no_mangle)]
@@ -46,13 +43,14 @@ pub extern "C" fn mf4_record_value(
 ) -> Mf4ValidValueReply
     ensures { returned result buffer.new ≡ returned_by valid_value_c (value_fetched file.now start number record_size (group_given group) (channel_given channel) buffer.old) }
 {
-    valid_value_reply(read_value(
+    read_value(
         file,
         FileAddress(start),
         number,
         record_size,
-        group_of(group),
-        channel_of(channel),
+        group.into(),
+        channel.into(),
         buffer,
-    ))
+    )
+    .into()
 }

@@ -3,21 +3,19 @@ ghost use Rattle.std.specs.Prelude.{◌≡◌};
 ghost use Rattle.definitions.specs.Header.{header_of, header_written};
 ghost use Rattle.block_replies.specs.Replies.{header_c, header_given, written_c, returned, returned_by};
 
-use block_replies::{
-    Mf4Header, Mf4HeaderReply, Mf4WrittenReply, header_of, header_reply, written_reply,
-};
+use block_replies::{Mf4Header, Mf4HeaderReply, Mf4WrittenReply};
 use blocks::BlockHeader;
 
 #[unsafe(no_mangle)]
 pub extern "C" fn mf4_read_header(bytes: &[u8]) -> Mf4HeaderReply
     ensures { result ≡ header_c (header_of bytes.now) }
 {
-    header_reply(BlockHeader::from_bytes(bytes))
+    BlockHeader::from_bytes(bytes).into()
 }
 
 #[unsafe(no_mangle)]
 pub extern "C" fn mf4_write_header(header: Mf4Header, out: &mut [u8]) -> Mf4WrittenReply
     ensures { returned result out.new ≡ returned_by written_c (header_written out.old (header_given header)) }
 {
-    written_reply(header_of(header).to_bytes(out))
+    BlockHeader::from(header).to_bytes(out).into()
 }

@@ -5,10 +5,10 @@ ghost use Rattle.block_replies.specs.Channels.{channel_given};
 ghost use Rattle.replies.specs.Values.{group_given, payload_c};
 ghost use Rattle.block_replies.specs.Replies.{returned_both, returned_both_by};
 
-use block_replies::{Mf4Channel, channel_of};
+use block_replies::Mf4Channel;
 use chain::FileAddress;
 use payloads::read_payload;
-use replies::{Mf4Group, Mf4PayloadReply, group_of, payload_reply};
+use replies::{Mf4Group, Mf4PayloadReply};
 
 #[unsafe(no_mangle)]
 pub extern "C" fn mf4_record_payload(
@@ -23,14 +23,15 @@ pub extern "C" fn mf4_record_payload(
 ) -> Mf4PayloadReply
     ensures { returned_both result «record».new payload.new ≡ returned_both_by payload_c (payload_fetched file.now start number record_size (group_given group) (channel_given channel) «record».old payload.old) }
 {
-    payload_reply(read_payload(
+    read_payload(
         file,
         FileAddress(start),
         number,
         record_size,
-        group_of(group),
-        channel_of(channel),
+        group.into(),
+        channel.into(),
         record,
         payload,
-    ))
+    )
+    .into()
 }

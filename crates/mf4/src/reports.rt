@@ -6,9 +6,9 @@ ghost use Rattle.block_replies.specs.Channels.{channel_given};
 ghost use Rattle.replies.specs.Values.{group_given};
 ghost use Rattle.replies.specs.Reports.{report_c};
 
-use block_replies::{Mf4Channel, channel_of};
+use block_replies::Mf4Channel;
 use chain::FileAddress;
-use replies::{Mf4Group, Mf4ReportReply, group_of, report_reply};
+use replies::{Mf4Group, Mf4ReportReply};
 use report::report_channel;
 
 #[unsafe(no_mangle)]
@@ -22,12 +22,13 @@ pub extern "C" fn mf4_report(
 ) -> Mf4ReportReply
     ensures { returned result buffer.new ≡ returned_by report_c (reported file.now start record_size (group_given group) (channel_given channel) buffer.old) }
 {
-    report_reply(report_channel(
+    report_channel(
         file,
         FileAddress(start),
         record_size,
-        group_of(group),
-        channel_of(channel),
+        group.into(),
+        channel.into(),
         buffer,
-    ))
+    )
+    .into()
 }

@@ -6,9 +6,9 @@ ghost use Rattle.replies.specs.Replies.{done_c};
 ghost use Rattle.block_replies.specs.Channels.{channel_given};
 ghost use Rattle.replies.specs.Stored.{number_given};
 
-use block_replies::{Mf4Channel, channel_of};
+use block_replies::Mf4Channel;
 use encoder::encode_channel_value;
-use replies::{Mf4DoneReply, Mf4Number, number_of, stored_reply};
+use replies::{Mf4DoneReply, Mf4Number};
 
 #[unsafe(no_mangle)]
 pub extern "C" fn mf4_write_value(
@@ -19,10 +19,11 @@ pub extern "C" fn mf4_write_value(
 ) -> Mf4DoneReply
     ensures { returned result «record».new ≡ returned_by done_c (value_written «record».old record_id_size (channel_given channel) (number_given value)) }
 {
-    stored_reply(encode_channel_value(
+    encode_channel_value(
         record_id_size as usize,
-        channel_of(channel),
-        number_of(value),
+        channel.into(),
+        value.into(),
         record,
-    ))
+    )
+    .into()
 }

@@ -6,33 +6,30 @@ ghost use Rattle.replies.specs.Replies.{done_c};
 ghost use Rattle.block_replies.specs.Channels.{channel_given};
 ghost use Rattle.replies.specs.Values.{group_given, valid_value_c};
 
-use block_replies::{Mf4Channel, channel_of};
+use block_replies::Mf4Channel;
 use chain::FileAddress;
-use replies::{
-    Mf4DoneReply, Mf4Group, Mf4ValidValueReply, changed_reply, fetched_reply, group_of,
-    valid_value_reply,
-};
+use replies::{Mf4DoneReply, Mf4Group, Mf4ValidValueReply};
 use table::{Table, extend_table, fetch_record, fetch_value, open_table, shorten_table};
 
 #[unsafe(no_mangle)]
 pub extern "C" fn mf4_open_table(file: &[u8], start: u64, table: &mut Table) -> Mf4DoneReply
     ensures { returned result table.new ≡ returned_by done_c (opened file.now start table.old) }
 {
-    changed_reply(open_table(file, FileAddress(start), table))
+    open_table(file, FileAddress(start), table).into()
 }
 
 #[unsafe(no_mangle)]
 pub extern "C" fn mf4_extend_table(file: &[u8], block_addr: u64, table: &mut Table) -> Mf4DoneReply
     ensures { returned result table.new ≡ returned_by done_c (extended file.now block_addr table.old) }
 {
-    changed_reply(extend_table(file, FileAddress(block_addr), table))
+    extend_table(file, FileAddress(block_addr), table).into()
 }
 
 #[unsafe(no_mangle)]
 pub extern "C" fn mf4_shorten_table(table: &mut Table) -> Mf4DoneReply
     ensures { returned result table.new ≡ returned_by done_c (shortened table.old) }
 {
-    changed_reply(shorten_table(table))
+    shorten_table(table).into()
 }
 
 #[unsafe(no_mangle)]
@@ -45,7 +42,7 @@ pub extern "C" fn mf4_table_record(
 ) -> Mf4DoneReply
     ensures { returned result buffer.new ≡ returned_by done_c (table_fetched file.now table.now number record_size buffer.old) }
 {
-    fetched_reply(fetch_record(file, table, number, record_size, buffer))
+    fetch_record(file, table, number, record_size, buffer).into()
 }
 
 #[unsafe(no_mangle)]
@@ -60,13 +57,14 @@ pub extern "C" fn mf4_table_value(
 ) -> Mf4ValidValueReply
     ensures { returned result buffer.new ≡ returned_by valid_value_c (table_value_fetched file.now table.now number record_size (group_given group) (channel_given channel) buffer.old) }
 {
-    valid_value_reply(fetch_value(
+    fetch_value(
         file,
         table,
         number,
         record_size,
-        group_of(group),
-        channel_of(channel),
+        group.into(),
+        channel.into(),
         buffer,
-    ))
+    )
+    .into()
 }

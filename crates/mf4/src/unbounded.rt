@@ -5,9 +5,9 @@ ghost use Rattle.replies.specs.Replies.{flag_c};
 ghost use Rattle.block_replies.specs.Channels.{channel_given};
 ghost use Rattle.replies.specs.Values.{group_given, valid_value_c};
 
-use block_replies::{Mf4Channel, channel_of};
+use block_replies::Mf4Channel;
 use decoder::{check_value_validity, decode_channel_value_with_validity};
-use replies::{Mf4Group, Mf4ValidValueReply, flag, group_of, valid_value_reply};
+use replies::{Mf4Group, Mf4ValidValueReply, flag};
 
 #[unsafe(no_mangle)]
 pub extern "C" fn mf4_check_validity_unbounded(
@@ -17,7 +17,7 @@ pub extern "C" fn mf4_check_validity_unbounded(
 ) -> u8
     ensures { result ≡ flag_c (valid_of «record».now (group_given group) (channel_given channel)) }
 {
-    flag(check_value_validity(record, group_of(group), channel_of(channel)))
+    flag(check_value_validity(record, group.into(), channel.into()))
 }
 
 #[unsafe(no_mangle)]
@@ -28,9 +28,5 @@ pub extern "C" fn mf4_decode_valid_value_unbounded(
 ) -> Mf4ValidValueReply
     ensures { result ≡ valid_value_c (valid_value_of «record».now (group_given group) (channel_given channel)) }
 {
-    valid_value_reply(decode_channel_value_with_validity(
-        record,
-        group_of(group),
-        channel_of(channel),
-    ))
+    decode_channel_value_with_validity(record, group.into(), channel.into()).into()
 }

@@ -4,9 +4,9 @@ ghost use Rattle.definitions.specs.Channel.{bounded_value_of};
 ghost use Rattle.block_replies.specs.Channels.{channel_given};
 ghost use Rattle.replies.specs.Values.{group_given, valid_value_c};
 
-use block_replies::{Mf4Channel, channel_of};
+use block_replies::Mf4Channel;
 use decoder::decode_channel_value_with_bounded_validity;
-use replies::{Mf4Group, Mf4ValidValueReply, group_of, valid_value_reply};
+use replies::{Mf4Group, Mf4ValidValueReply};
 
 #[unsafe(no_mangle)]
 pub extern "C" fn mf4_decode_valid_value(
@@ -16,9 +16,5 @@ pub extern "C" fn mf4_decode_valid_value(
 ) -> Mf4ValidValueReply
     ensures { result ≡ valid_value_c (bounded_value_of «record».now (group_given group) (channel_given channel)) }
 {
-    valid_value_reply(decode_channel_value_with_bounded_validity(
-        record,
-        group_of(group),
-        channel_of(channel),
-    ))
+    decode_channel_value_with_bounded_validity(record, group.into(), channel.into()).into()
 }

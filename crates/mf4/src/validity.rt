@@ -4,9 +4,9 @@ ghost use Rattle.definitions.specs.Channel.{bounded_valid_of};
 ghost use Rattle.block_replies.specs.Channels.{channel_given};
 ghost use Rattle.replies.specs.Values.{group_given, validity_c};
 
-use block_replies::{Mf4Channel, channel_of};
+use block_replies::Mf4Channel;
 use decoder::check_bounded_validity;
-use replies::{Mf4Group, Mf4ValidityReply, group_of, validity_reply};
+use replies::{Mf4Group, Mf4ValidityReply};
 
 #[unsafe(no_mangle)]
 pub extern "C" fn mf4_check_validity(
@@ -16,5 +16,5 @@ pub extern "C" fn mf4_check_validity(
 ) -> Mf4ValidityReply
     ensures { result ≡ validity_c (bounded_valid_of «record».now (group_given group) (channel_given channel)) }
 {
-    validity_reply(check_bounded_validity(record, group_of(group), channel_of(channel)))
+    check_bounded_validity(record, group.into(), channel.into()).into()
 }

@@ -4,9 +4,9 @@ ghost use Rattle.definitions.specs.Channel.{value_of, record_double};
 ghost use Rattle.block_replies.specs.Channels.{channel_given};
 ghost use Rattle.replies.specs.Values.{value_c};
 
-use block_replies::{Mf4Channel, channel_of};
+use block_replies::Mf4Channel;
 use decoder::{decode_channel_value, decode_f64_from_record};
-use replies::{Mf4ValueReply, value_reply};
+use replies::Mf4ValueReply;
 
 #[unsafe(no_mangle)]
 pub extern "C" fn mf4_decode_value(
@@ -16,7 +16,7 @@ pub extern "C" fn mf4_decode_value(
 ) -> Mf4ValueReply
     ensures { result ≡ value_c (value_of «record».now record_id_size (channel_given channel)) }
 {
-    value_reply(decode_channel_value(record, record_id_size as usize, channel_of(channel)))
+    decode_channel_value(record, record_id_size as usize, channel.into()).into()
 }
 
 #[unsafe(no_mangle)]
@@ -27,5 +27,5 @@ pub extern "C" fn mf4_decode_double_bits(
 ) -> u64
     ensures { result ≡ record_double «record».now record_id_size (channel_given channel) }
 {
-    decode_f64_from_record(record, record_id_size as usize, channel_of(channel))
+    decode_f64_from_record(record, record_id_size as usize, channel.into())
 }

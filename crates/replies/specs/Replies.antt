@@ -1,7 +1,9 @@
 -- A reply as C sees it: 0 and the answer's fields, or the refusal's number, what it tells, and zeros.
-use Rattle.std.specs.Prelude.{ℕ, Bool, true, false}
+use Rattle.std.specs.Prelude.{ℕ, Bool, true, false, Result}
 use Rattle.definitions.specs.Reply.{Reply, answer, refusal}
 use Rattle.definitions.specs.Unicode.{TextWritten}
+use Rattle.refusals.specs.Meaning.{replied}
+use Rattle.refusals.specs.declared.Refusal.{Refusal}
 use Rattle.replies.specs.declared.done.Mf4DoneReply.{Mf4DoneReply}
 use Rattle.replies.specs.declared.texts.Mf4TextReply.{Mf4TextReply}
 
@@ -11,6 +13,10 @@ flag_c true = 1
 flag_c false = 0
 
 -- ---- done
+
+-- what the library's answer that something is done replies
+abbrev pub done_reply : Result (Unit {0}) Refusal → Reply (Unit {0})
+done_reply = replied (λ u. u)
 
 -- of a call that answers nothing else
 abbrev pub done_c : Reply (Unit {0}) → Mf4DoneReply

@@ -1,45 +1,34 @@
-// Lengths and records of chains.
+// Lengths of chains.
 ghost use Rattle.std.specs.Prelude.{◌≡◌};
 ghost use Rattle.chain.specs.Meaning.{chain_reply};
-ghost use Rattle.records.specs.Meaning.{record_reply};
-ghost use Rattle.replies.specs.Replies.{done_c};
 ghost use Rattle.replies.specs.Values.{length_c};
 
-use crate::done::{Mf4DoneReply, refused_reply};
-use chain::ChainRead;
-use records::RecordRead;
+use places::DataPosition;
+use refusals::Refusal;
 
 #[repr(C)]
-#[derive(Clone, Copy)]
+#[derive(Clone, Copy, Debug, Default, PartialEq, Eq)]
 pub struct Mf4LengthReply {
     pub reply: u32,
     pub told: u64,
     pub length: u64,
 }
 
-pub fn length_reply(read: ChainRead) -> Mf4LengthReply
-    ensures { result ≡ length_c (chain_reply read) }
-{
-    let ChainRead::Whole(total) = read else {
-        let why = read.refusal();
-        return Mf4LengthReply {
-            reply: why.number(),
-            told: why.told(),
-            length: 0,
-        };
-    };
-    Mf4LengthReply {
-        reply: 0,
-        told: 0,
-        length: total.0,
-    }
-}
+impl From<Result<DataPosition, Refusal>> for Mf4LengthReply {
+    ghost from_gives = { λ read reply. reply ≡ length_c (chain_reply read) };
 
-pub fn fetched_reply(read: RecordRead) -> Mf4DoneReply
-    ensures { result ≡ done_c (record_reply read) }
-{
-    let RecordRead::Record = read else {
-        return refused_reply(read.refusal());
-    };
-    Mf4DoneReply { reply: 0, told: 0 }
+    fn from(read: Result<DataPosition, Refusal>) -> Mf4LengthReply {
+        match read {
+            Ok(total) => Mf4LengthReply {
+                reply: 0,
+                told: 0,
+                length: total.0,
+            },
+            Err(why) => Mf4LengthReply {
+                reply: why.number(),
+                told: why.told(),
+                length: 0,
+            },
+        }
+    }
 }

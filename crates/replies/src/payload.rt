@@ -4,11 +4,12 @@ ghost use Rattle.payloads.specs.Meaning.{payload_reply};
 ghost use Rattle.replies.specs.Values.{payload_c};
 
 use crate::texts::flag;
-use crate::values::decoded;
-use payloads::PayloadRead;
+use crate::values::Shown;
+use payloads::DecodedPayload;
+use refusals::Refusal;
 
 #[repr(C)]
-#[derive(Clone, Copy)]
+#[derive(Clone, Copy, Debug, Default, PartialEq, Eq)]
 pub struct Mf4PayloadReply {
     pub reply: u32,
     pub told: u64,
@@ -20,32 +21,29 @@ pub struct Mf4PayloadReply {
     pub payload_length: u64,
 }
 
-pub fn payload_reply(read: PayloadRead) -> Mf4PayloadReply
-    ensures { result ≡ payload_c (payload_reply read) }
-{
-    let PayloadRead::Value(payload) = read else {
-        let why = read.refusal();
-        return Mf4PayloadReply {
-            reply: why.number(),
-            told: why.told(),
-            kind: 0,
-            is_valid: 0,
-            number: 0,
-            at: 0,
-            length: 0,
-            payload_length: 0,
-        };
-    };
-    let value = payload.value;
-    let told = decoded(value);
-    Mf4PayloadReply {
-        reply: 0,
-        told: 0,
-        kind: told.kind,
-        is_valid: flag(payload.is_valid),
-        number: told.number,
-        at: told.at,
-        length: told.length,
-        payload_length: payload.length,
+impl From<Result<DecodedPayload, Refusal>> for Mf4PayloadReply {
+    ghost from_gives = { λ read reply. reply ≡ payload_c (payload_reply read) };
+
+    fn from(read: Result<DecodedPayload, Refusal>) -> Mf4PayloadReply {
+        match read {
+            Ok(payload) => {
+                let told = Shown::from(payload.value);
+                Mf4PayloadReply {
+                    reply: 0,
+                    told: 0,
+                    kind: told.kind,
+                    is_valid: flag(payload.is_valid),
+                    number: told.number,
+                    at: told.at,
+                    length: told.length,
+                    payload_length: payload.length,
+                }
+            }
+            Err(why) => Mf4PayloadReply {
+                reply: why.number(),
+                told: why.told(),
+                ..Mf4PayloadReply::default()
+            },
+        }
     }
 }

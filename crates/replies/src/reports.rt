@@ -1,17 +1,15 @@
 // One line of a channel.
 ghost use Rattle.std.specs.Prelude.{◌≡◌};
-ghost use Rattle.refusals.specs.Meaning.{refused};
+ghost use Rattle.definitions.specs.Reply.{answer};
 ghost use Rattle.report.specs.Meaning.{report_reply};
-ghost use Rattle.tally.specs.Meaning.{point_meant};
-ghost use Rattle.replies.specs.Reports.{no_point_c, point_c, report_c};
+ghost use Rattle.tally.specs.Meaning.{point_meant, report_meant};
+ghost use Rattle.replies.specs.Reports.{point_c, report_c};
 
-use crate::texts::flag;
 use refusals::Refusal;
-use report::ReportRead;
-use tally::Point;
+use tally::{Point, Report};
 
 #[repr(C)]
-#[derive(Clone, Copy)]
+#[derive(Clone, Copy, Debug, Default, PartialEq)]
 pub struct Mf4Point {
     pub number: u64,
     pub value: f64,
@@ -19,7 +17,7 @@ pub struct Mf4Point {
 
 // `has_doubles` tells whether there is a first, since 0 is a record's number. The sum is sum_high * 2^64 + sum_low.
 #[repr(C)]
-#[derive(Clone, Copy)]
+#[derive(Clone, Copy, Debug, Default, PartialEq)]
 pub struct Mf4ReportReply {
     pub reply: u32,
     pub told: u64,
@@ -37,68 +35,56 @@ pub struct Mf4ReportReply {
     pub sum_low: u64,
 }
 
-fn no_point() -> Mf4Point
-    ensures { result ≡ no_point_c }
-{
-    Mf4Point {
-        number: 0,
-        value: 0.0,
+impl From<Point> for Mf4Point {
+    ghost from_gives = { λ point told. told ≡ point_c (point_meant point) };
+
+    fn from(point: Point) -> Mf4Point {
+        Mf4Point {
+            number: point.number,
+            value: point.value,
+        }
     }
 }
 
-fn point_of(point: Point) -> Mf4Point
-    ensures { result ≡ point_c (point_meant point) }
-{
-    Mf4Point {
-        number: point.number,
-        value: point.value,
+impl From<Report> for Mf4ReportReply {
+    ghost from_gives = { λ line reply. reply ≡ report_c (answer (report_meant line)) };
+
+    fn from(line: Report) -> Mf4ReportReply {
+        let counts = Mf4ReportReply {
+            records: line.records,
+            valid: line.valid,
+            invalid: line.invalid,
+            without_value: line.without_value,
+            nan: line.nan,
+            sum_high: line.sum.high,
+            sum_low: line.sum.low,
+            ..Mf4ReportReply::default()
+        };
+        let Some(doubles) = line.doubles else {
+            return counts;
+        };
+        Mf4ReportReply {
+            has_doubles: 1,
+            first: doubles.first.into(),
+            last: doubles.last.into(),
+            smallest: doubles.smallest.into(),
+            largest: doubles.largest.into(),
+            ..counts
+        }
     }
 }
 
-fn report_refused(why: Refusal) -> Mf4ReportReply
-    ensures { result ≡ report_c (refused why) }
-{
-    let none = no_point();
-    Mf4ReportReply {
-        reply: why.number(),
-        told: why.told(),
-        records: 0,
-        valid: 0,
-        invalid: 0,
-        without_value: 0,
-        nan: 0,
-        has_doubles: 0,
-        first: none,
-        last: none,
-        smallest: none,
-        largest: none,
-        sum_high: 0,
-        sum_low: 0,
-    }
-}
+impl From<Result<Report, Refusal>> for Mf4ReportReply {
+    ghost from_gives = { λ read reply. reply ≡ report_c (report_reply read) };
 
-pub fn report_reply(read: ReportRead) -> Mf4ReportReply
-    ensures { result ≡ report_c (report_reply read) }
-{
-    let ReportRead::Report(line) = read else {
-        return report_refused(read.refusal());
-    };
-    let doubles = line.doubles;
-    let sum = line.sum;
-    Mf4ReportReply {
-        reply: 0,
-        told: 0,
-        records: line.records,
-        valid: line.valid,
-        invalid: line.invalid,
-        without_value: line.without_value,
-        nan: line.nan,
-        has_doubles: flag(doubles.any),
-        first: point_of(doubles.first),
-        last: point_of(doubles.last),
-        smallest: point_of(doubles.smallest),
-        largest: point_of(doubles.largest),
-        sum_high: sum.high,
-        sum_low: sum.low,
+    fn from(read: Result<Report, Refusal>) -> Mf4ReportReply {
+        match read {
+            Ok(line) => line.into(),
+            Err(why) => Mf4ReportReply {
+                reply: why.number(),
+                told: why.told(),
+                ..Mf4ReportReply::default()
+            },
+        }
     }
 }

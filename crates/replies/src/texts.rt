@@ -3,10 +3,11 @@ ghost use Rattle.std.specs.Prelude.{◌≡◌};
 ghost use Rattle.text.specs.Meaning.{text_reply};
 ghost use Rattle.replies.specs.Replies.{flag_c, text_c};
 
-use text::TextWrite;
+use refusals::Refusal;
+use text::TextWritten;
 
 #[repr(C)]
-#[derive(Clone, Copy)]
+#[derive(Clone, Copy, Debug, Default, PartialEq, Eq)]
 pub struct Mf4TextReply {
     pub reply: u32,
     pub told: u64,
@@ -18,25 +19,25 @@ pub struct Mf4TextReply {
 pub fn flag(set: bool) -> u8
     ensures { result ≡ flag_c set }
 {
-    if set { 1 } else { 0 }
+    u8::from(set)
 }
 
-pub fn text_reply(write: TextWrite) -> Mf4TextReply
-    ensures { result ≡ text_c (text_reply write) }
-{
-    let TextWrite::Written { count, damaged } = write else {
-        let why = write.refusal();
-        return Mf4TextReply {
-            reply: why.number(),
-            told: why.told(),
-            count: 0,
-            damaged: 0,
-        };
-    };
-    Mf4TextReply {
-        reply: 0,
-        told: 0,
-        count,
-        damaged: flag(damaged),
+impl From<Result<TextWritten, Refusal>> for Mf4TextReply {
+    ghost from_gives = { λ write reply. reply ≡ text_c (text_reply write) };
+
+    fn from(write: Result<TextWritten, Refusal>) -> Mf4TextReply {
+        match write {
+            Ok(TextWritten { count, damaged }) => Mf4TextReply {
+                reply: 0,
+                told: 0,
+                count,
+                damaged: flag(damaged),
+            },
+            Err(why) => Mf4TextReply {
+                reply: why.number(),
+                told: why.told(),
+                ..Mf4TextReply::default()
+            },
+        }
     }
 }

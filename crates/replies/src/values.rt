@@ -1,13 +1,13 @@
 // Values of channels.
 ghost use Rattle.std.specs.Prelude.{◌≡◌};
 ghost use Rattle.fields.specs.Meaning.{value_meant, value_reply};
-ghost use Rattle.replies.specs.Values.{word_of, number_c, place_c, decoded_c, value_c};
+ghost use Rattle.replies.specs.Values.{number_c, place_c, decoded_c, value_c};
 
-use decoder::{DecodedValue, ValueRead};
-use doubles::magnitude_less_one;
+use fields::DecodedValue;
+use refusals::Refusal;
 
 #[repr(C)]
-#[derive(Clone, Copy)]
+#[derive(Clone, Copy, Debug, Default, PartialEq, Eq)]
 pub struct Mf4ValueReply {
     pub reply: u32,
     pub told: u64,
@@ -26,75 +26,69 @@ pub(crate) struct Shown {
     pub(crate) length: u64,
 }
 
-// The two's complement of n. The compiler makes nothing of it: n's own bits are that.
-fn word_of(n: i64) -> u64
-    ensures { result ≡ word_of n }
-{
-    if n < 0 {
-        return 18446744073709551615 - magnitude_less_one(n);
-    }
-    n as u64
-}
-
-fn number(kind: u32, number: u64) -> Shown
-    ensures { result ≡ number_c kind number }
-{
-    Shown {
-        kind,
-        number,
-        at: 0,
-        length: 0,
-    }
-}
-
-// bytes, by their place and length
-fn place(kind: u32, at: u64, length: u64) -> Shown
-    ensures { result ≡ place_c kind at length }
-{
-    Shown {
-        kind,
-        number: 0,
-        at,
-        length,
-    }
-}
-
-pub(crate) fn decoded(value: DecodedValue) -> Shown
-    ensures { result ≡ decoded_c (value_meant value) }
-{
-    match value {
-        DecodedValue::UnsignedInteger(n) => number(1, n),
-        DecodedValue::SignedInteger(n) => number(2, word_of(n)),
-        DecodedValue::Float { value: _, bits } => number(3, bits),
-        DecodedValue::String { at, length } => place(4, at, length),
-        DecodedValue::ByteArray { at, length } => place(5, at, length),
-        DecodedValue::MimeSample { at, length } => place(6, at, length),
-        DecodedValue::MimeStream { at, length } => place(7, at, length),
-        DecodedValue::Unknown => place(8, 0, 0),
-    }
-}
-
-pub fn value_reply(read: ValueRead) -> Mf4ValueReply
-    ensures { result ≡ value_c (value_reply read) }
-{
-    let ValueRead::Value(value) = read else {
-        let why = read.refusal();
-        return Mf4ValueReply {
-            reply: why.number(),
-            told: why.told(),
-            kind: 0,
-            number: 0,
+impl Shown {
+    fn number(kind: u32, number: u64) -> Shown
+        ensures { result ≡ number_c kind number }
+    {
+        Shown {
+            kind,
+            number,
             at: 0,
             length: 0,
-        };
-    };
-    let told = decoded(value);
-    Mf4ValueReply {
-        reply: 0,
-        told: 0,
-        kind: told.kind,
-        number: told.number,
-        at: told.at,
-        length: told.length,
+        }
+    }
+
+    // bytes, by their place and length
+    fn place(kind: u32, at: u64, length: u64) -> Shown
+        ensures { result ≡ place_c kind at length }
+    {
+        Shown {
+            kind,
+            number: 0,
+            at,
+            length,
+        }
+    }
+}
+
+impl From<DecodedValue> for Shown {
+    ghost from_gives = { λ value told. told ≡ decoded_c (value_meant value) };
+
+    fn from(value: DecodedValue) -> Shown {
+        match value {
+            DecodedValue::UnsignedInteger(n) => Shown::number(1, n),
+            DecodedValue::SignedInteger(n) => Shown::number(2, n.cast_unsigned()),
+            DecodedValue::Float { bits, .. } => Shown::number(3, bits),
+            DecodedValue::String { at, length } => Shown::place(4, at, length),
+            DecodedValue::ByteArray { at, length } => Shown::place(5, at, length),
+            DecodedValue::MimeSample { at, length } => Shown::place(6, at, length),
+            DecodedValue::MimeStream { at, length } => Shown::place(7, at, length),
+            DecodedValue::Unknown => Shown::place(8, 0, 0),
+        }
+    }
+}
+
+impl From<Result<DecodedValue, Refusal>> for Mf4ValueReply {
+    ghost from_gives = { λ read reply. reply ≡ value_c (value_reply read) };
+
+    fn from(read: Result<DecodedValue, Refusal>) -> Mf4ValueReply {
+        match read {
+            Ok(value) => {
+                let told = Shown::from(value);
+                Mf4ValueReply {
+                    reply: 0,
+                    told: 0,
+                    kind: told.kind,
+                    number: told.number,
+                    at: told.at,
+                    length: told.length,
+                }
+            }
+            Err(why) => Mf4ValueReply {
+                reply: why.number(),
+                told: why.told(),
+                ..Mf4ValueReply::default()
+            },
+        }
     }
 }

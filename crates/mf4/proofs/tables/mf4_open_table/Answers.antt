@@ -1,7 +1,0 @@
-use Rattle.table.specs.Meaning.{change_reply}
-use Rattle.replies.specs.Replies.{done_c}
-use Rattle.block_replies.proofs.Handed.{handed_back}
-use Rattle.mf4.proofs.tables.mf4_open_table.Goals as goal
-
-pub returns : goal.returns
-returns c = let call = c in handed_back done_c change_reply call.open_table.result c.changed_reply.ensures call.open_table.ensures
