@@ -1,29 +1,31 @@
 -- Fields that a word holds.
-use Rattle.std.specs.Prelude.{None, Ok}
+use Rattle.std.specs.Prelude.{if◌then◌else◌, None, Ok}
 use mathlib.Core.Path.{◌≡◌, refl, sym, ap, ◌∙◌}
-use mathlib.Core.Bool.{Bool, true, false, not, ◌&&◌, ◌||◌}
+use mathlib.Core.Bool.{Bool, true, false, not, ◌&&◌, ◌||◌, true≢false}
 use mathlib.Core.List.{List}
-use Prim.Native.Nat.{ℕ, ◌+◌, ◌*◌, ◌/◌, ◌%◌, ◌≤◌, ◌<◌}
+use Prim.Native.Nat.{ℕ, ◌+◌, ◌*◌, ◌/◌, ◌%◌, ◌^◌, ◌≤◌, ◌<◌}
 use native.Mathlib.Omega.{arith}
 use lib.ListN.{length}
 use lib.Dec.{ltb, eqb}
-use borrow.Author.Tests.{le-ltb, ltb-false, ne_eqb, eqb-false}
-use Rattle.definitions.specs.Reply.{answer}
+use borrow.Author.Tests.{lt-ltb, le-ltb, eq-eqb, ne_eqb}
+use Rattle.definitions.specs.Reply.{answer, refusal}
 use Rattle.definitions.specs.Bytes.{Order, le_of, le, span, bits, bytes_for, number_of, field_at}
 use Rattle.definitions.specs.Ieee754.{nan_pattern}
-use Rattle.definitions.specs.DataType.{Kind}
-use Rattle.definitions.specs.Channel.{Channel, Value, variable_length, bit_span, span_in, is_number, is_integer, is_floating, value_of, double_in, record_double}
-use Rattle.fields.specs.Form.{order_meant, form_of, number_kind, number_value}
-use Rattle.fields.specs.Known.{FieldTold, Fitting}
+use Rattle.definitions.specs.DataType.{DataType, Kind}
+use Rattle.definitions.specs.Channel.{Channel, Value, variable_length, bit_span, span_in, float_bits, is_number, is_integer, is_floating, value_by, value_of, double_in, record_double}
+use Rattle.fields.specs.Form.{order_meant, form_of, form_kind, number_kind, number_value}
+use Rattle.fields.specs.Known.{value_at, FieldTold, Fitting}
 use Rattle.fields.specs.declared.form.Number as numbers
+use Rattle.fields.specs.declared.form.Number.TheVariants.{Float}
+use Rattle.fields.specs.declared.form.Content.{Content}
 use Rattle.fields.specs.declared.form.Form.{Form}
 use Rattle.fields.specs.declared.form.Form.TheVariants.{Number, Other}
 use Rattle.decoder.specs.Meaning.{number_double}
-use Rattle.decoder.specs.Known.{Held, Formed, FormTold, InWord}
-use Rattle.fields.proofs.Forms.{number_kinds, number_span, is_number_law}
-use Rattle.fields.proofs.Fields.{in_turn, tested, value_tested, found}
+use Rattle.decoder.specs.Known.{Held, Near, Sized, NumberTold, InWord}
+use Rattle.fields.proofs.Forms.{number_kinds, number_span, is_number_law, no_number}
+use Rattle.fields.proofs.Fields.{in_turn, value_tested, no_bits, no_float_width, found, fitting}
 use Rattle.fields.proofs.Values.{looked_for, sound_at, valued}
-use Rattle.decoder.proofs.Doubles.{double_found, double_payload, double_fixed, double_other, double_number}
+use Rattle.decoder.proofs.Doubles.{double_found, double_fixed, double_other, double_number}
 use Rattle.bit_fields.proofs.Bits.{field_below}
 use Rattle.words.proofs.Numbers.{Bytes}
 use Rattle.words.proofs.Loads.{in_word}
@@ -43,7 +45,98 @@ held_by s at offset count p k from ew bs few room same low some ends =
       inside = omega arith;
     }
 
+module _ (s : List ℕ) (id_size : ℕ) (c : Channel) where
+  pub near_by : {word from : ℕ} → variable_length c ≡ false → Held s (id_size + c.byte_offset) c.bit_offset c.bit_count word from → c.bit_offset ≤ 7 → 1 ≤ c.bit_count
+      → Near s id_size c word from
+  near_by p held low some = record { fixed = p; low = omega arith; some = some; held = held }
+
+-- a type that is a number's, of a width that has a value
+module _ (type : DataType) (count : ℕ) {form : Form} (ef : form ≡ form_of type) where
+  abbrev no_width : Kind → Bool
+  no_width k = is_floating k && not (eqb count 32 || eqb count 64)
+
+  pub sized : {number : numbers.Number} {big t : Bool} → form ≡ Number number big → t ≡ no_width (number_kind number) → t ≡ false → (count ≡ 0 → ⊥)
+      → Sized (form_of type) number big count
+  sized e et f z = record { form = sym ef ∙ e; some = omega arith; width = sym et ∙ f }
+
+  -- and what is none
+  pub other_type : {content : Content} → form ≡ Other content → NumberTold (form_of type) count None
+  other_type e number big h = no_number (sym ef ∙ e) h.form
+
+  pub other_width : {n : numbers.Number} {b t : Bool} → form ≡ Number n b → t ≡ no_width (number_kind n) → t ≡ true → NumberTold (form_of type) count None
+  other_width e et f number big h = true≢false (sym f ∙ et ∙ ap (λ (f : Form). no_width (form_kind f)) (sym e ∙ ef ∙ h.form) ∙ h.width)
+
+pub without_any : {form : Form} {count : ℕ} → count ≡ 0 → NumberTold form count None
+without_any z number big h = let some = h.some in omega arith
+
 -- ---- what it gives
+
+module _ (s : List ℕ) (id_size : ℕ) (c : Channel) {word from : ℕ} (near : Near s id_size c word from) where
+  abbrev at : ℕ
+  at = id_size + c.byte_offset
+
+  module _ (number : numbers.Number) where
+    some : is_number (number_kind number) && eqb c.bit_count 0 ≡ false
+    some =
+        let z : c.bit_count ≡ 0 → ⊥ = λ e. omega (arith, near.some) in
+        let e : eqb c.bit_count 0 ≡ false = ne_eqb _ _ z in
+        number_kinds (λ k. is_number k && eqb c.bit_count 0 ≡ false) e e number
+
+    low : is_number (number_kind number) && ltb 7 c.bit_offset ≡ false
+    low =
+        let e : ltb 7 c.bit_offset ≡ false = le-ltb 7 c.bit_offset (omega (arith, near.low)) in
+        number_kinds (λ k. is_number k && ltb 7 c.bit_offset ≡ false) e e number
+
+    few : is_integer (number_kind number) && ltb 64 c.bit_count ≡ false
+    few = number_kinds (λ k. is_integer k && ltb 64 c.bit_count ≡ false) (le-ltb 64 c.bit_count (omega (arith, near.held.ends))) refl number
+
+    inside : ltb (length s) (at + bit_span c) ≡ false
+    inside = le-ltb (length s) (at + bit_span c) (omega (arith, near.some, near.held.inside))
+
+    module _ (big : Bool) (e : form_of c.data_type ≡ Number number big) where
+      by_form : value_at (number_kind number) false s at c ≡ value_of s id_size c
+      by_form = looked_for s id_size c {form = Number number big} {payload = false} (sym e) (sym near.fixed) refl refl
+
+      -- a number's field is found there
+      near_found : is_floating (number_kind number) && not (eqb c.bit_count 32 || eqb c.bit_count 64) ≡ false
+          → FieldTold (number_kind number) (value_of s id_size c) s c (Ok (record { at = at; length = bit_span c }))
+      near_found f =
+          let v = found (number_kind number) false at (bit_span c) s c (number_span number false (length s) c) some low few inside f in
+          record { told = record { value = sym by_form ∙ v.value; sound = v.sound } }
+
+      -- or it is a float of a width that none has
+      near_refused : is_floating (number_kind number) && not (eqb c.bit_count 32 || eqb c.bit_count 64) ≡ true → value_of s id_size c ≡ refusal 22 0
+      near_refused f =
+          sym by_form ∙ ap (λ (n : ℕ). value_by (number_kind number) at n s c) (sym (number_span number false (length s) c))
+          ∙ no_float_width (number_kind number) at (bit_span c) s c some low few inside f
+
+  abbrev field : Bool → ℕ
+  field big = field_at (order_meant big) s (id_size + c.byte_offset) c.bit_offset c.bit_count
+
+  -- what is read in the word is the field
+  is_field : (big : Bool) {x : ℕ} → x ≡ field_at (order_meant big) (le 8 word) (from / 8) (from % 8) c.bit_count → x ≡ field big
+  is_field big e =
+      let o : Order = order_meant big in
+      e ∙ ap (λ (offset : ℕ). field_at o (le 8 word) (from / 8) offset c.bit_count) near.held.low
+      ∙ ap (λ (bs : List ℕ). bits (number_of o bs) c.bit_offset c.bit_count) near.held.bytes
+
+-- ---- its value
+
+module _ (s : List ℕ) (id_size : ℕ) (c : Channel) {number : numbers.Number} {big : Bool} {word from : ℕ}
+    (fixed : variable_length c ≡ false) (sized : Sized (form_of c.data_type) number big c.bit_count)
+    (low : c.bit_offset ≤ 7) (held : Held s (id_size + c.byte_offset) c.bit_offset c.bit_count word from) where
+  in_sight : Near s id_size c word from
+  in_sight = near_by s id_size c fixed held low sized.some
+
+  field_told : FieldTold (number_kind number) (value_of s id_size c) s c (Ok (record { at = id_size + c.byte_offset; length = bit_span c }))
+  field_told = near_found s id_size c in_sight number big sized.form sized.width
+
+  pub word_number : InWord number from c.bit_count
+  word_number = record { some = in_sight.some; ends = in_sight.held.ends; width = (sound_at field_told refl).width }
+
+  pub near_valued : {v : Value} → v ≡ number_value number c.bit_count (field_at (order_meant big) (le 8 word) (from / 8) (from % 8) c.bit_count) → answer v ≡ value_of s id_size c
+  near_valued ev =
+      valued field_told refl (sym sized.form) (ev ∙ ap (number_value number c.bit_count) (is_field s id_size c in_sight big refl)) refl
 
 -- a field there is of the class that it was found to be
 pub fitting_word : (number : numbers.Number) (o : Order) (s : List ℕ) (p offset : ℕ) {from count x : ℕ} → InWord number from count
@@ -55,107 +148,63 @@ fitting_word number o s p offset {count = count} h e = record {
   width = h.width;
 }
 
-module _ (s : List ℕ) (id_size : ℕ) (c : Channel) {number : numbers.Number} {big : Bool} {word from : ℕ} (formed : Formed c number big)
-    (held : Held s (id_size + c.byte_offset) c.bit_offset c.bit_count word from) where
-  abbrev at : ℕ
-  at = id_size + c.byte_offset
+-- ---- its double
 
-  some : is_number (number_kind number) && eqb c.bit_count 0 ≡ false
-  some =
-      let z : c.bit_count ≡ 0 → ⊥ = λ e. omega (arith, formed.sized.some) in
-      let e : eqb c.bit_count 0 ≡ false = ne_eqb _ _ z in
-      number_kinds (λ k. is_number k && eqb c.bit_count 0 ≡ false) e e number
+module _ (s : List ℕ) (id_size : ℕ) (c : Channel) {word from : ℕ} (near : Near s id_size c word from) (big : Bool) {x : ℕ}
+    (ex : x ≡ field_at (order_meant big) (le 8 word) (from / 8) (from % 8) c.bit_count) where
+  the_field : x ≡ field_at (order_meant big) s (id_size + c.byte_offset) c.bit_offset c.bit_count
+  the_field = is_field s id_size c near big ex
 
-  low : is_number (number_kind number) && ltb 7 c.bit_offset ≡ false
-  low =
-      let e : ltb 7 c.bit_offset ≡ false = le-ltb 7 c.bit_offset formed.low in
-      number_kinds (λ k. is_number k && ltb 7 c.bit_offset ≡ false) e e number
+  pub field_small : x < 2 ^ c.bit_count
+  field_small = rw the_field (field_below (number_of (order_meant big) (span s (id_size + c.byte_offset) (bytes_for c.bit_offset c.bit_count))) c.bit_offset c.bit_count)
 
-  few : is_integer (number_kind number) && ltb 64 c.bit_count ≡ false
-  few = number_kinds (λ k. is_integer k && ltb 64 c.bit_count ≡ false) (le-ltb 64 c.bit_count (omega (arith, held.ends))) refl number
+  module _ (number : numbers.Number) (e : form_of c.data_type ≡ Number number big) where
+    number_double_law : is_floating (number_kind number) && not (eqb c.bit_count 32 || eqb c.bit_count 64) ≡ false
+        → {r : ℕ} → r ≡ number_double number c.bit_count x → r ≡ record_double s id_size c
+    number_double_law w er = double_found (near_found s id_size c near number big e w) refl e the_field er ∙ double_fixed s id_size c near.fixed
 
-  inside : ltb (length s) (at + bit_span c) ≡ false
-  inside = le-ltb (length s) (at + bit_span c) (omega (arith, formed.sized.some, held.inside))
+    -- an integer of either sign
+    module _ (integral : is_floating (number_kind number) ≡ false) where
+      any_width : is_floating (number_kind number) && not (eqb c.bit_count 32 || eqb c.bit_count 64) ≡ false
+      any_width = rw integral
 
-  -- the number's field is found there
-  field_told : FieldTold (number_kind number) (value_of s id_size c) s c (Ok (record { at = at; length = bit_span c }))
-  field_told =
-      let v = found (number_kind number) false at (bit_span c) s c (number_span number false (length s) c) some low few inside formed.sized.width in
-      let by_form = looked_for s id_size c {form = Number number big} {payload = false} (sym formed.sized.form) (sym formed.fixed) refl refl in
-      record { told = record { value = sym by_form ∙ v.value; sound = v.sound } }
+      pub integer_fitting : Fitting number c.bit_count x
+      integer_fitting = fitting number big s (id_size + c.byte_offset) (bit_span c) c (sound_at (near_found s id_size c near number big e any_width) refl) the_field
 
-  pub word_number : InWord number from c.bit_count
-  word_number = record { some = formed.sized.some; ends = held.ends; width = (sound_at field_told refl).width }
+      pub integer_double : {r : ℕ} → r ≡ number_double number c.bit_count x → r ≡ record_double s id_size c
+      integer_double er = number_double_law any_width er
 
-  module _ {x : ℕ} (ex : x ≡ field_at (order_meant big) (le 8 word) (from / 8) (from % 8) c.bit_count) where
-    pub word_fitting : Fitting number c.bit_count x
-    word_fitting = fitting_word number (order_meant big) (le 8 word) (from / 8) (from % 8) word_number ex
-
-    -- what is read in the word is the field
-    is_field : x ≡ field_at (order_meant big) s at c.bit_offset c.bit_count
-    is_field =
-        let o : Order = order_meant big in
-        ex ∙ ap (λ (offset : ℕ). field_at o (le 8 word) (from / 8) offset c.bit_count) held.low
-        ∙ ap (λ (bs : List ℕ). bits (number_of o bs) c.bit_offset c.bit_count) held.bytes
-
-    -- it has the channel's value, and its double
-    pub near_valued : {v : Value} → v ≡ number_value number c.bit_count x → answer v ≡ value_of s id_size c
-    near_valued ev = valued field_told refl (sym formed.sized.form) (ev ∙ ap (number_value number c.bit_count) is_field) refl
-
-    pub near_doubled : {r : ℕ} → r ≡ number_double number c.bit_count x → r ≡ record_double s id_size c
-    near_doubled er = double_found field_told refl formed.sized.form is_field er ∙ double_fixed s id_size c formed.fixed
+  pub float_double : form_of c.data_type ≡ Number Float big → {r : ℕ}
+      → r ≡ (if not (eqb c.bit_count 32 || eqb c.bit_count 64) then nan_pattern else float_bits c.bit_count x) → r ≡ record_double s id_size c
+  float_double e {r} er = go (not (eqb c.bit_count 32 || eqb c.bit_count 64)) refl er
+    where
+      go : (t : Bool) → not (eqb c.bit_count 32 || eqb c.bit_count 64) ≡ t → r ≡ (if t then nan_pattern else float_bits c.bit_count x) → r ≡ record_double s id_size c
+      go true w eq = eq ∙ sym (ap double_in (near_refused s id_size c near Float big e w)) ∙ double_fixed s id_size c near.fixed
+      go false w eq = number_double_law Float e w eq
 
 -- ---- in no word
 
--- what one of the tests of numbers refuses has no double
-first_refused : (a b d e f : Bool) (n : ℕ) (v : Value) → a ≡ true → nan_pattern ≡ double_in (in_turn a b d e f n v)
-first_refused a b d e f n v h = rw h
-
+-- what the second test refuses has no double, whatever the first says
 second_refused : (a b d e f : Bool) (n : ℕ) (v : Value) → b ≡ true → nan_pattern ≡ double_in (in_turn a b d e f n v)
 second_refused true b d e f n v h = refl
 second_refused false b d e f n v h = rw h
 
-last_refused : (a b d e f : Bool) (n : ℕ) (v : Value) → f ≡ true → nan_pattern ≡ double_in (in_turn a b d e f n v)
-last_refused true b d e f n v h = refl
-last_refused false true d e f n v h = refl
-last_refused false false true e f n v h = refl
-last_refused false false false true f n v h = refl
-last_refused false false false false f n v h = rw h
-
--- a channel that is no fixed number of a width that has a value has none
-module _ (s : List ℕ) (id_size : ℕ) (c : Channel) where
-  abbrev no_width : Kind → Bool
-  no_width k = is_floating k && not (eqb c.bit_count 32 || eqb c.bit_count 64)
-
-  pub without_double : FormTold c None → nan_pattern ≡ record_double s id_size c
-  without_double told = by_place (variable_length c) refl
+-- a number that no field can be has no double, and what is no number has none either
+module _ (s : List ℕ) (id_size : ℕ) (c : Channel) (fixed : variable_length c ≡ false) where
+  by_refusal : ((k : Kind) (at n : ℕ) → is_number k ≡ true → nan_pattern ≡ double_in (value_by k at n s c)) → nan_pattern ≡ record_double s id_size c
+  by_refusal h = go (form_of c.data_type) refl
     where
-      number_tested : (number : numbers.Number) (big : Bool) → variable_length c ≡ false → form_of c.data_type ≡ Number number big
-          → ((n : ℕ) (v : Value) → nan_pattern ≡ double_in (tested (number_kind number) (id_size + c.byte_offset) n (length s) c v))
-          → nan_pattern ≡ record_double s id_size c
-      number_tested number big fixed e h =
-          let n : ℕ = span_in false (number_kind number) (length s) c in
+      go : (f : Form) → form_of c.data_type ≡ f → nan_pattern ≡ record_double s id_size c
+      go (Number number big) e =
           double_number s id_size c fixed e
-          (h n _ ∙ sym (ap double_in (value_tested (number_kind number) (id_size + c.byte_offset) n s c)))
+          (h (number_kind number) (id_size + c.byte_offset) (span_in false (number_kind number) (length s) c) (is_number_law number))
+      go (Other content) e = double_other s id_size c fixed e
 
-      by_tests : (number : numbers.Number) (big : Bool) → variable_length c ≡ false → form_of c.data_type ≡ Number number big
-          → (z : Bool) → eqb c.bit_count 0 ≡ z → (o : Bool) → ltb 7 c.bit_offset ≡ o → (w : Bool) → no_width (number_kind number) ≡ w
-          → nan_pattern ≡ record_double s id_size c
-      by_tests number big fixed e true ez o eo w ew =
-          let a : is_number (number_kind number) && eqb c.bit_count 0 ≡ true = rw (is_number_law number) ez in
-          number_tested number big fixed e (λ n v. first_refused _ _ _ _ _ _ _ a)
-      by_tests number big fixed e false ez true eo w ew =
-          let b : is_number (number_kind number) && ltb 7 c.bit_offset ≡ true = rw (is_number_law number) eo in
-          number_tested number big fixed e (λ n v. second_refused _ _ _ _ _ _ _ b)
-      by_tests number big fixed e false ez false eo true ew = number_tested number big fixed e (λ n v. last_refused _ _ _ _ _ _ _ ew)
-      by_tests number big fixed e false ez false eo false ew =
-          let z : c.bit_count ≡ 0 → ⊥ = eqb-false c.bit_count 0 ez in
-          absurd (told number big (record { fixed = fixed; low = ltb-false 7 c.bit_offset eo; sized = record { form = e; some = omega arith; width = ew } }))
+  pub without_bits : c.bit_count ≡ 0 → nan_pattern ≡ record_double s id_size c
+  without_bits z = by_refusal (λ k at n e. sym (ap double_in (no_bits k at n s c (rw (e, eq-eqb _ _ z)))))
 
-      by_form : (f : Form) → variable_length c ≡ false → form_of c.data_type ≡ f → nan_pattern ≡ record_double s id_size c
-      by_form (Number number big) fixed e = by_tests number big fixed e (eqb c.bit_count 0) refl (ltb 7 c.bit_offset) refl (no_width (number_kind number)) refl
-      by_form (Other content) fixed e = double_other s id_size c fixed e
-
-      by_place : (p : Bool) → variable_length c ≡ p → nan_pattern ≡ record_double s id_size c
-      by_place true p = double_payload s id_size c p
-      by_place false p = by_form (form_of c.data_type) p refl
+  pub past_a_byte : 7 < c.bit_offset → nan_pattern ≡ record_double s id_size c
+  past_a_byte l =
+      by_refusal (λ k at n e.
+      (let b : is_number k && ltb 7 c.bit_offset ≡ true = rw (e, lt-ltb 7 c.bit_offset l) in
+      second_refused _ _ _ _ _ _ _ b ∙ sym (ap double_in (value_tested k at n s c))))

@@ -1,8 +1,8 @@
 -- What is known of a field that a word holds.
-use Rattle.std.specs.Prelude.{◌≡◌, Bool, true, false, not, ◌&&◌, ◌||◌, List, Option, Some, None, ℕ, ◌+◌, ◌/◌, ◌%◌, ◌≤◌, length, eqb}
+use Rattle.std.specs.Prelude.{◌≡◌, Bool, true, false, not, ◌&&◌, ◌||◌, List, Option, Some, None, ℕ, ◌+◌, ◌/◌, ◌%◌, ◌≤◌, ◌<◌, length, eqb}
 use Rattle.definitions.specs.Bytes.{le, span, bytes_for}
 use Rattle.definitions.specs.Channel.{Channel, variable_length, is_floating}
-use Rattle.fields.specs.Form.{number_kind, form_of}
+use Rattle.fields.specs.Form.{number_kind}
 use Rattle.fields.specs.declared.form.Number.{Number}
 use Rattle.fields.specs.declared.form.Form.{Form}
 use Rattle.fields.specs.declared.form.Form.TheVariants.{Number as numbered}
@@ -21,6 +21,13 @@ abbrev pub WordTold : List ℕ → ℕ → ℕ → ℕ → Option FieldWord → 
 WordTold s at offset count (Some f) = Held s at offset count f.word f.from
 WordTold s at offset count None = bytes_for offset count ≤ 8 → at + bytes_for offset count ≤ length s → ⊥
 
+-- it holds the field of a fixed channel, whose bits are those of a number
+pub record Near (s : List ℕ) (id_size : ℕ) (c : Channel) (word from : ℕ) : Type 0 where
+  pub fixed : variable_length c ≡ false
+  pub low : c.bit_offset < 8
+  pub some : 1 ≤ c.bit_count
+  pub held : Held s (id_size + c.byte_offset) c.bit_offset c.bit_count word from
+
 -- a number of count bits, which can have a value
 pub record Sized (f : Form) (number : Number) (big : Bool) (count : ℕ) : Type 0 where
   pub form : f ≡ numbered number big
@@ -30,17 +37,6 @@ pub record Sized (f : Form) (number : Number) (big : Bool) (count : ℕ) : Type 
 abbrev pub NumberTold : Form → ℕ → Option NumberForm → Type 0
 NumberTold f count (Some n) = Sized f n.number n.big_endian count
 NumberTold f count None = (number : Number) (big : Bool) → Sized f number big count → ⊥
-
--- a fixed channel with such a number, which begins in the first byte of its field
-pub record Formed (c : Channel) (number : Number) (big : Bool) : Type 0 where
-  pub fixed : variable_length c ≡ false
-  pub low : c.bit_offset ≤ 7
-  pub sized : Sized (form_of c.data_type) number big c.bit_count
-
--- no other channel has a double
-abbrev pub FormTold : Channel → Option NumberForm → Type 0
-FormTold c (Some n) = Formed c n.number n.big_endian
-FormTold c None = (number : Number) (big : Bool) → Formed c number big → ⊥
 
 -- count bits from bit `from` on of a word, as a number of that class has them
 pub record InWord (number : Number) (from count : ℕ) : Type 0 where

@@ -12,7 +12,8 @@ ghost use Rattle.decoder.specs.Meaning.{judged_reply, placed};
 ghost use Rattle.decoder.specs.Known.{InWord};
 
 use crate::alike::{decoding_code, placed_channel};
-use crate::near::{find_word, fixed_form};
+use crate::near::{FieldWord, NumberForm, find_word, number_form};
+use bit_fields::{Big, Little};
 use fields::{
     Channel, DecodedChannelValue, DecodedValue, FieldStart, Form, Group, Number,
     check_bounded_validity, check_value_validity, content_at, find_field, form_of, number_at,
@@ -82,17 +83,35 @@ pub fn any_value(
     )
 }
 
+// The value of a number in a word
+fn near_value(form: NumberForm, field: FieldWord, bit_count: u32) -> DecodedValue
+    requires { InWord form.number field.from bit_count }
+    ensures { value_meant result ≡ number_value form.number bit_count (field_at (order_meant form.big_endian) (le 8 field.word) (field.from / 8) (field.from % 8) bit_count) }
+{
+    let x = if form.big_endian {
+        field.number::<Big>(bit_count)
+    } else {
+        field.number::<Little>(bit_count)
+    };
+    number_value(form.number, bit_count, x)
+}
+
 // A number's value where a word holds its field, and none where the general way has to look.
 #[inline(always)]
 fn short_value(record: &[u8], record_id_size: usize, channel: Channel) -> Option<DecodedValue>
     ensures { IfSome result (λ v. answer (value_meant v) ≡ value_of «record».now record_id_size (channel_meant channel)) }
 {
-    let form = fixed_form(channel)?;
+    if channel.is_variable_length() {
+        return None;
+    }
     let offset = channel.bit_offset;
     let count = channel.bit_count;
+    let form = number_form(channel.data_type, count)?;
+    if 7 < offset {
+        return None;
+    }
     let field = find_word(record, record_id_size, channel.byte_offset, offset, count)?;
-    let x = field.number(form.big_endian, count);
-    Some(number_value(form.number, count, x))
+    Some(near_value(form, field, count))
 }
 
 // It stands inlined in the reading with bounded validity too.

@@ -1,15 +1,19 @@
 // A channel's value in a record as the pattern of a double, with no value made on the way.
-ghost use Rattle.std.specs.Prelude.{◌≡◌};
-ghost use Rattle.definitions.specs.Channel.{record_double};
+ghost use Rattle.std.specs.Prelude.{◌≡◌, not, ◌||◌, ◌^◌, ◌<◌, eqb, if◌then◌else◌};
+ghost use Rattle.definitions.specs.Ieee754.{nan_pattern};
+ghost use Rattle.definitions.specs.Channel.{float_bits, record_double};
 ghost use Rattle.definitions.specs.DataType.{type_of};
 ghost use Rattle.fields.specs.Meaning.{channel_meant};
 ghost use Rattle.fields.specs.Known.{Fitting};
 ghost use Rattle.decoder.specs.Meaning.{number_double, placed};
+ghost use Rattle.decoder.specs.Known.{Near};
 
 use crate::alike::{decoding_code, placed_channel};
 use crate::integer::{signed_double, unsigned_double};
-use crate::near::{find_word, fixed_form};
-use doubles::NAN;
+use crate::near::{FieldWord, find_word};
+use bit_fields::{Big, Little};
+use data_types::DataType;
+use doubles::{NAN, widen};
 use fields::{Channel, FieldStart, Form, Number, find_field, float_bits, form_of, number_at};
 
 fn number_double(number: Number, bit_count: u32, x: u64) -> u64
@@ -23,8 +27,9 @@ fn number_double(number: Number, bit_count: u32, x: u64) -> u64
     }
 }
 
-// The double of any field in the record itself. The record lies in memory for it too, so it is lent as a part of itself, which is
+// The double of any field in the record itself, kept apart so that its registers stay off the short way. The record lies in memory for it too, so it is lent as a part of itself, which is
 // laid down on this way alone.
+#[inline(never)]
 fn far_double(
     record: &[u8],
     record_id_size: usize,
@@ -54,14 +59,50 @@ fn far_double(
     }
 }
 
+// A float of another width has no value.
+fn near_float(bit_count: u32, x: u64) -> u64
+    requires { x < 2 ^ bit_count }
+    ensures { result ≡ (if not (eqb bit_count 32 || eqb bit_count 64) then nan_pattern else float_bits bit_count x) }
+{
+    match bit_count {
+        64 => x,
+        32 => widen(x as u32),
+        _ => NAN,
+    }
+}
+
+// The double of a field that a word holds, where it is a number's. Each type has its way: by the class of its number and the order
+// of its bytes, as a value goes, it took a third more.
+fn near_double(record: &[u8], record_id_size: usize, channel: Channel, field: FieldWord) -> u64
+    requires { Near «record».now record_id_size (channel_meant channel) field.word field.from }
+    ensures { result ≡ record_double «record».now record_id_size (channel_meant channel) }
+{
+    let count = channel.bit_count;
+    match channel.data_type {
+        DataType::UnsignedIntegerLE => unsigned_double(count, field.number::<Little>(count)),
+        DataType::UnsignedIntegerBE => unsigned_double(count, field.number::<Big>(count)),
+        DataType::SignedIntegerLE => signed_double(count, field.number::<Little>(count)),
+        DataType::SignedIntegerBE => signed_double(count, field.number::<Big>(count)),
+        DataType::FloatLE => near_float(count, field.number::<Little>(count)),
+        DataType::FloatBE => near_float(count, field.number::<Big>(count)),
+        _ => NAN,
+    }
+}
+
 pub fn decode_f64_from_record(record: &[u8], record_id_size: usize, channel: Channel) -> u64
     ensures { result ≡ record_double «record».now record_id_size (channel_meant channel) }
 {
-    let Some(form) = fixed_form(channel) else {
+    if channel.is_variable_length() {
         return NAN;
-    };
+    }
     let offset = channel.bit_offset;
     let count = channel.bit_count;
+    if 7 < offset {
+        return NAN;
+    }
+    if count == 0 {
+        return NAN;
+    }
     let Some(field) = find_word(record, record_id_size, channel.byte_offset, offset, count) else {
         return far_double(
             &record[0..],
@@ -72,5 +113,5 @@ pub fn decode_f64_from_record(record: &[u8], record_id_size: usize, channel: Cha
             count,
         );
     };
-    number_double(form.number, count, field.number(form.big_endian, count))
+    near_double(record, record_id_size, channel, field)
 }

@@ -2,13 +2,12 @@
 ghost use Rattle.std.specs.Prelude.{◌≡◌, ◌+◌, ◌/◌, ◌%◌, ◌≤◌, ◌<◌};
 ghost use Rattle.definitions.specs.Bytes.{le, field_at};
 ghost use Rattle.data_types.specs.Meaning.{type_meant};
-ghost use Rattle.fields.specs.Form.{order_meant, form_of};
-ghost use Rattle.fields.specs.Meaning.{channel_meant};
-ghost use Rattle.decoder.specs.Known.{FormTold, NumberTold, WordTold};
+ghost use Rattle.fields.specs.Form.{form_of};
+ghost use Rattle.decoder.specs.Known.{NumberTold, WordTold};
 
-use bit_fields::{Big, Little, near};
+use bit_fields::{ByteOrder, near};
 use data_types::DataType;
-use fields::{Channel, Form, Number, form_of, is_no_float_width};
+use fields::{Form, Number, form_of, is_no_float_width};
 use words::{few_le_bytes, read_le};
 
 // A word whose bytes, the lowest first, hold a field, and the bit of them at which it begins
@@ -20,15 +19,11 @@ pub(crate) struct FieldWord {
 
 impl FieldWord {
     // The field's bits, by the order of its bytes
-    pub(crate) fn number(self, big_endian: bool, bit_count: u32) -> u64
+    pub(crate) fn number<O: ByteOrder>(self, bit_count: u32) -> u64
         requires { (1 ≤ bit_count) × (self.from + bit_count ≤ 64) }
-        ensures { result ≡ field_at (order_meant big_endian) (le 8 self.word) (self.from / 8) (self.from % 8) bit_count }
+        ensures { result ≡ field_at O.order (le 8 self.word) (self.from / 8) (self.from % 8) bit_count }
     {
-        if big_endian {
-            near::<Big>(self.word, self.from, bit_count)
-        } else {
-            near::<Little>(self.word, self.from, bit_count)
-        }
+        near::<O>(self.word, self.from, bit_count)
     }
 }
 
@@ -45,7 +40,11 @@ pub(crate) fn find_word(
     ensures { WordTold «record».now (skipped + byte_offset) bit_offset bit_count result }
 {
     let length = record.len();
-    let left = length.checked_sub(skipped)?;
+    // not by `checked_sub`, whose Option takes three instructions more
+    if length < skipped {
+        return None;
+    }
+    let left = length - skipped;
     let start = byte_offset as usize;
     if start + 8 <= left {
         if 64 < bit_offset as u64 + bit_count as u64 {
@@ -83,24 +82,17 @@ pub(crate) struct NumberForm {
     pub big_endian: bool,
 }
 
-fn number_form(data_type: DataType, bit_count: u32) -> Option<NumberForm>
+pub(crate) fn number_form(data_type: DataType, bit_count: u32) -> Option<NumberForm>
     ensures { NumberTold (form_of (type_meant data_type)) bit_count result }
 {
     let Form::Number(number, big_endian) = form_of(data_type) else {
         return None;
     };
-    if bit_count == 0 || is_no_float_width(number, bit_count) {
+    if is_no_float_width(number, bit_count) {
+        return None;
+    }
+    if bit_count == 0 {
         return None;
     }
     Some(NumberForm { number, big_endian })
-}
-
-// The same of a channel whose number stands in the record itself, from a bit of its first byte on: no other has a double.
-pub(crate) fn fixed_form(channel: Channel) -> Option<NumberForm>
-    ensures { FormTold (channel_meant channel) result }
-{
-    if channel.is_variable_length() || 7 < channel.bit_offset {
-        return None;
-    }
-    number_form(channel.data_type, channel.bit_count)
 }

@@ -30,7 +30,7 @@ pub returns-then-length-lt8 : goal.returns-then-length-lt8
 returns-then-length-lt8 c =
     let a = c.args in
     let s = a.«record».now in
-    let over = a.byte_offset + 8 - c.in_ok-left.left in
+    let over = a.byte_offset + 8 - (length s - a.skipped) in
     held_by s (a.skipped + a.byte_offset) a.bit_offset a.bit_count 0 (length s) (8 * over + a.bit_offset + 8 * length s - 64)
     c.few_le_bytes.ensures (λ i. (c.type_inv.record i).fits)
     (omega (arith, c.if-length-lt8.true)) (omega arith) (omega (arith, c.if-start-left.false, c.if-over-gt7.false, c.if-length-lt8.true)) c.requires.0 c.requires.1
@@ -40,7 +40,7 @@ pub returns : goal.returns
 returns c =
     let a = c.args in
     let s = a.«record».now in
-    let over = a.byte_offset + 8 - c.in_ok-left.left in
+    let over = a.byte_offset + 8 - (length s - a.skipped) in
     held_by s (a.skipped + a.byte_offset) a.bit_offset a.bit_count (length s - 8) 8 (8 * over + a.bit_offset)
     c.read_le-2.ensures (λ i. (c.type_inv.record i).fits)
     (omega arith) (omega (arith, c.if-length-lt8.false)) (omega (arith, c.if-start-left.false, c.if-length-lt8.false)) c.requires.0 c.requires.1
