@@ -5,7 +5,7 @@ mod read;
 mod replace;
 mod signed;
 
-pub use read::{cut, field, field_be, field_le, near, near_be, near_le};
-pub use replace::{put_field, put_field_be, put_field_le};
+pub use read::{cut, field, near};
+pub use replace::put_field;
 pub use signed::signed_of;
 pub use words::{Big, ByteOrder, Little};

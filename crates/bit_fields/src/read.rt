@@ -1,8 +1,8 @@
 // Bit fields of the bytes of a record, in either byte order.
 ghost use Rattle.std.specs.Prelude.{◌≡◌, ◌+◌, ◌*◌, ◌/◌, ◌%◌, ◌^◌, ◌≤◌, ◌<◌, length};
-ghost use Rattle.definitions.specs.Bytes.{little, big, le, bits, bytes_for, field_at};
+ghost use Rattle.definitions.specs.Bytes.{le, bits, bytes_for, field_at};
 
-use words::{Big, ByteOrder, Little};
+use words::ByteOrder;
 
 // The bits of a word from offset on, count of them
 pub fn cut(word: u64, offset: u32, count: u32) -> u64
@@ -54,32 +54,4 @@ pub fn field<O: ByteOrder>(s: &[u8], at: usize, offset: u32, count: u32) -> u64
         return far::<O>(s, at, offset, count);
     }
     cut(O::few_bytes(s, at, n), offset, count)
-}
-
-pub fn near_le(word: u64, from: u32, count: u32) -> u64
-    requires { (1 ≤ count) × (from + count ≤ 64) }
-    ensures { result ≡ field_at little (le 8 word) (from / 8) (from % 8) count }
-{
-    near::<Little>(word, from, count)
-}
-
-pub fn near_be(word: u64, from: u32, count: u32) -> u64
-    requires { (1 ≤ count) × (from + count ≤ 64) }
-    ensures { result ≡ field_at big (le 8 word) (from / 8) (from % 8) count }
-{
-    near::<Big>(word, from, count)
-}
-
-pub fn field_le(s: &[u8], at: usize, offset: u32, count: u32) -> u64
-    requires { (offset < 8) × (1 ≤ count) × (count ≤ 64) × (at + bytes_for offset count ≤ length s.now) }
-    ensures { result ≡ field_at little s.now at offset count }
-{
-    field::<Little>(s, at, offset, count)
-}
-
-pub fn field_be(s: &[u8], at: usize, offset: u32, count: u32) -> u64
-    requires { (offset < 8) × (1 ≤ count) × (count ≤ 64) × (at + bytes_for offset count ≤ length s.now) }
-    ensures { result ≡ field_at big s.now at offset count }
-{
-    field::<Big>(s, at, offset, count)
 }

@@ -1,9 +1,9 @@
 // Bit fields of the bytes of a record, replaced in either byte order.
 ghost use Rattle.std.specs.Prelude.{◌≡◌, ◌+◌, ◌-◌, ◌/◌, ◌%◌, ◌^◌, ◌≤◌, ◌<◌, length};
-ghost use Rattle.definitions.specs.Bytes.{little, big, bytes_for, with_bits, field_set};
+ghost use Rattle.definitions.specs.Bytes.{bytes_for, with_bits, field_set};
 
 use crate::read::cut;
-use words::{Big, ByteOrder, Little};
+use words::ByteOrder;
 
 // The word with x in the place of its bits from offset on, count of them: no mask, so no shift by 64
 fn with_bits(word: u64, offset: u32, count: u32, x: u64) -> u64
@@ -54,18 +54,4 @@ pub fn put_field<O: ByteOrder>(s: &mut [u8], at: usize, offset: u32, count: u32,
     }
     let word = with_bits(O::few_bytes(s, at, n), offset, count, x);
     O::put_few(s, at, n, word);
-}
-
-pub fn put_field_le(s: &mut [u8], at: usize, offset: u32, count: u32, x: u64)
-    requires { (offset < 8) × (1 ≤ count) × (count ≤ 64) × (at + bytes_for offset count ≤ length s.old) × (x < 2 ^ count) }
-    ensures { s.new ≡ field_set little s.old at offset count x }
-{
-    put_field::<Little>(s, at, offset, count, x);
-}
-
-pub fn put_field_be(s: &mut [u8], at: usize, offset: u32, count: u32, x: u64)
-    requires { (offset < 8) × (1 ≤ count) × (count ≤ 64) × (at + bytes_for offset count ≤ length s.old) × (x < 2 ^ count) }
-    ensures { s.new ≡ field_set big s.old at offset count x }
-{
-    put_field::<Big>(s, at, offset, count, x);
 }

@@ -29,9 +29,9 @@ unfolding le_of
 eight_bytes a b c d e f g h = omega arith
 
 -- the library's word with its bytes in the other order
-pub swapped : (x : ℕ) → swap_bytes w64 x ≡ number_of big (le 8 x)
+pub library_swapped : (x : ℕ) → swap_bytes w64 x ≡ number_of big (le 8 x)
 unfolding le
-swapped x = ap (from_be_bytes w64) (low_first 8 0 x ∙ ap (le 8) (div-one x)) ∙ eight_bytes _ _ _ _ _ _ _ _
+library_swapped x = ap (from_be_bytes w64) (low_first 8 0 x ∙ ap (le 8) (div-one x)) ∙ eight_bytes _ _ _ _ _ _ _ _
 
 -- the bytes of a number are its lower n and those above
 pub le_split : (n m x : ℕ) → le (n + m) x ≡ le n x ++ le m (x / 2 ^ (8 * n))

@@ -9,9 +9,6 @@ mod write;
 
 pub use id::id_at;
 pub use order::{Big, ByteOrder, Little};
-pub use read::{
-    be_bytes, few_le_bytes, le_bytes, read_all_le, read_u16_le, read_u32_le, read_u64_be,
-    read_u64_le,
-};
+pub use read::{be_bytes, few_le_bytes, le_bytes, read_all_le, swapped};
 pub use word::{Word, read_le, write_le};
-pub use write::{put_all_le, put_few_be, put_few_le, put_le, put_u32_le, put_u64_le};
+pub use write::{put_all_le, put_few_be, put_few_le, put_le};

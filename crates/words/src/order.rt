@@ -4,7 +4,7 @@ ghost use Rattle.std.proofs.lemmas.List.Edits.{sets};
 ghost use Rattle.definitions.specs.Bytes.{Order, little, big, number_of, le, bytes_of, span};
 ghost use Rattle.words.specs.Sides.{lower, upper};
 
-use crate::read::{be_bytes, few_le_bytes};
+use crate::read::{be_bytes, few_le_bytes, swapped};
 use crate::write::{put_few_be, put_few_le};
 
 // An order in which the bytes of a number stand, known when the program is compiled
@@ -76,7 +76,7 @@ impl ByteOrder for Big {
     }
 
     fn of_word(word: u64) -> u64 {
-        word.swap_bytes()
+        swapped(word)
     }
 
     fn few_bytes(s: &[u8], at: usize, n: usize) -> u64 {

@@ -1,6 +1,6 @@
 // Numbers from bytes, in either byte order.
 ghost use Rattle.std.specs.Prelude.{◌≡◌, ◌+◌, ◌*◌, ◌^◌, ◌≤◌, ◌<◌, length};
-ghost use Rattle.definitions.specs.Bytes.{little, big, number_of, le, span, u16_at, u32_at, u64_at, u64s_at};
+ghost use Rattle.definitions.specs.Bytes.{little, big, number_of, le, span, u64s_at};
 
 use crate::word::read_le;
 
@@ -47,40 +47,19 @@ pub fn few_le_bytes(s: &[u8], at: usize, n: usize) -> u64
     le_bytes(s, at, 1)
 }
 
+// The bytes of a word in the other order. The compiler makes one instruction of it.
+pub fn swapped(word: u64) -> u64
+    ensures { result ≡ number_of big (le 8 word) }
+{
+    word.swap_bytes()
+}
+
 // The n bytes of s from `at` on, the first the highest: in a swapped word they are the upper ones
 pub fn be_bytes(s: &[u8], at: usize, n: usize) -> u64
     requires { (1 ≤ n) × (n ≤ 8) × (at + n ≤ length s.now) }
     ensures { result ≡ number_of big (span s.now at n) }
 {
-    few_le_bytes(s, at, n).swap_bytes() >> (64 - 8 * n)
-}
-
-pub fn read_u16_le(s: &[u8], at: usize) -> u16
-    requires { at + 2 ≤ length s.now }
-    ensures { result ≡ u16_at s.now at }
-{
-    le_bytes(s, at, 2) as u16
-}
-
-pub fn read_u32_le(s: &[u8], at: usize) -> u32
-    requires { at + 4 ≤ length s.now }
-    ensures { result ≡ u32_at s.now at }
-{
-    le_bytes(s, at, 4) as u32
-}
-
-pub fn read_u64_le(s: &[u8], at: usize) -> u64
-    requires { at + 8 ≤ length s.now }
-    ensures { result ≡ u64_at s.now at }
-{
-    le_bytes(s, at, 8)
-}
-
-pub fn read_u64_be(s: &[u8], at: usize) -> u64
-    requires { at + 8 ≤ length s.now }
-    ensures { result ≡ number_of big (span s.now at 8) }
-{
-    be_bytes(s, at, 8)
+    swapped(few_le_bytes(s, at, n)) >> (64 - 8 * n)
 }
 
 // As many numbers of eight bytes, from `at` on, as `numbers` has places

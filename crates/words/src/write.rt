@@ -3,6 +3,7 @@ ghost use Rattle.std.specs.Prelude.{◌≡◌, ◌+◌, ◌*◌, ◌^◌, ◌≤
 ghost use Rattle.std.proofs.lemmas.List.Edits.{sets};
 ghost use Rattle.definitions.specs.Bytes.{big, le, les, bytes_of};
 
+use crate::read::swapped;
 use crate::word::write_le;
 
 // The n lowest bytes of x, from `at` on. With a constant n this is one store.
@@ -47,21 +48,7 @@ pub fn put_few_be(out: &mut [u8], at: usize, n: usize, x: u64)
     requires { (1 ≤ n) × (n ≤ 8) × (at + n ≤ length out.old) × (x < 2 ^ (8 * n)) }
     ensures { out.new ≡ sets out.old at (bytes_of big n x) }
 {
-    put_few_le(out, at, n, (x << (64 - 8 * n)).swap_bytes());
-}
-
-pub fn put_u32_le(out: &mut [u8], at: usize, x: u32)
-    requires { at + 4 ≤ length out.old }
-    ensures { out.new ≡ sets out.old at (le 4 x) }
-{
-    put_le(out, at, 4, x as u64);
-}
-
-pub fn put_u64_le(out: &mut [u8], at: usize, x: u64)
-    requires { at + 8 ≤ length out.old }
-    ensures { out.new ≡ sets out.old at (le 8 x) }
-{
-    put_le(out, at, 8, x);
+    put_few_le(out, at, n, swapped(x << (64 - 8 * n)));
 }
 
 // Eight bytes for each of the numbers, from `at` on
