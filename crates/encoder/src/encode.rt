@@ -8,11 +8,11 @@ ghost use Rattle.fields.specs.Known.{FieldBounds};
 ghost use Rattle.encoder.specs.Meaning.{given_meant, outcome};
 ghost use Rattle.encoder.specs.Known.{TakesNone, AlwaysRefused, is_readable, Chosen};
 
-use crate::bits::number_bits;
+use crate::bits::Width;
 use crate::number::NumberGiven;
 use bit_fields::{Big, Little, put_field};
 use decoder::any_value;
-use fields::{Channel, Form, Number, ends_outside, form_of, is_well_described};
+use fields::{Channel, FieldStart, Form, Number, form_of, is_well_described};
 use refusals::Refusal;
 
 // The field to write to, and its new bits
@@ -39,9 +39,12 @@ fn other_refusal(record: &[u8], record_id_size: usize, channel: Channel) -> Refu
 fn is_readable(length: usize, record_id_size: usize, number: Number, channel: Channel) -> bool
     ensures { result ≡ is_readable length record_id_size number (channel_meant channel) }
 {
+    let start = FieldStart {
+        skipped: record_id_size,
+        byte_offset: channel.byte_offset as usize,
+    };
     let span = (channel.bit_offset as usize + channel.bit_count as usize + 7) / 8;
-    let byte_offset = channel.byte_offset as usize;
-    is_well_described(number, channel) && !ends_outside(length, record_id_size, byte_offset, span)
+    is_well_described(number, channel) && !start.ends_outside(length, span)
 }
 
 // Nothing is written before all is tested: first what decoding would refuse, then the number given.
@@ -64,7 +67,10 @@ fn choose_field(
     if !is_readable(record.len(), record_id_size, number, channel) {
         return Err(other_refusal(record, record_id_size, channel));
     }
-    let bits = number_bits(number, channel.bit_count, given)?;
+    let width = Width {
+        count: channel.bit_count,
+    };
+    let bits = width.number_bits(number, given)?;
     Ok(FieldChosen {
         at: record_id_size + channel.byte_offset as usize,
         big_endian,

@@ -30,16 +30,6 @@ other_refusal-requires-then-not-is_readable c =
 
 -- the number can be read
 
-pub number_bits-requires : goal.number_bits-requires
-number_bits-requires c =
-    let a = c.args in
-    let n = c.in-Number in
-    let b =
-    in_bounds a.«record».now a.record_id_size (channel_meant a.channel) n.number n.big_endian (sym c.is_variable_length.ensures ∙ c.if-is_variable_length.false)
-    (sym c.form_of-form.ensures ∙ n.is)
-    (sym c.is_readable.ensures ∙ c.if-not-is_readable.false) in
-    (b.some, b.few)
-
 pub returns-in_err-bits : goal.returns-in_err-bits
 returns-in_err-bits c =
     let a = c.args in
