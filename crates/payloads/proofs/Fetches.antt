@@ -1,32 +1,18 @@
 -- From a record and its payload, each fetched or refused, to the value.
 use Rattle.std.specs.Prelude.{Ok, Err}
 use mathlib.Core.Path.{◌≡◌, ap, ◌∙◌}
-use mathlib.Core.Bool.{Bool, true, false}
+use mathlib.Core.Bool.{true, false}
 use mathlib.Core.List.{List}
 use Prim.Native.Nat.{ℕ}
-use lib.ListN.{length, take}
-use Rattle.definitions.specs.Reply.{Reply, Outcome, answer, refusal}
-use Rattle.definitions.specs.Channel.{Channel, Group, Value, value_of, valid_of}
+use lib.ListN.{take}
+use Rattle.definitions.specs.Reply.{Reply, Outcome, refusal}
+use Rattle.definitions.specs.Channel.{Channel, Group}
 use Rattle.definitions.specs.Chain.{fetched}
 use Rattle.definitions.specs.Payload.{id_sd, holds_position, joined_of, payload_of, stored, PayloadValue, payload_value_of, value_behind, payload_behind, payload_fetched}
 use Rattle.refusals.specs.Meaning.{refused}
 use Rattle.refusals.specs.declared.Refusal.{Refusal}
 use Rattle.records.specs.Meaning.{fetched_by}
 use Rattle.payloads.specs.Meaning.{stored_by}
-
--- ---- the value
-
-module _ (s : List ℕ) (g : Group) (c : Channel) (payload : List ℕ) where
-  pub value_refused : {n t : ℕ} → value_of payload g.id_size c ≡ refusal n t → refusal n t ≡ payload_value_of s g c payload
-  unfolding payload_value_of
-  value_refused e = rw e
-
-  pub value_judged : {v : Value} {valid : Bool} → value_of payload g.id_size c ≡ answer v → valid ≡ valid_of s g c
-      → answer (record { value = v; valid = valid; size = length payload }) ≡ payload_value_of s g c payload
-  unfolding payload_value_of
-  value_judged e ev = rw (e, ev)
-
--- ---- the call
 
 module _ (f : List ℕ) (start k size : ℕ) (g : Group) (c : Channel) (out room : List ℕ) where
   pub no_position : holds_position c ≡ false

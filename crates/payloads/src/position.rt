@@ -1,13 +1,12 @@
 // The position that a record holds in place of the value.
-ghost use Rattle.std.specs.Prelude.{◌≡◌, ◌+◌, ◌≤◌, length};
-ghost use Rattle.definitions.specs.Bytes.{u64_at};
+ghost use Rattle.std.specs.Prelude.{◌≡◌};
 ghost use Rattle.definitions.specs.Payload.{holds_position, position_of};
 ghost use Rattle.fields.specs.Meaning.{channel_meant};
 ghost use Rattle.payloads.specs.Meaning.{position_reply};
 
 use chain::DataPosition;
 use decoder::Channel;
-use fields::{bytes_needed, ends_outside};
+use fields::FieldStart;
 use refusals::Refusal;
 use words::read_le;
 
@@ -18,15 +17,8 @@ pub(crate) fn holds_position(channel: Channel) -> bool
     channel.is_variable_length() && channel.bit_offset == 0 && channel.bit_count == 64
 }
 
-// Little-endian, whatever the data type: that is the payload's
-fn position_at(record: &[u8], at: usize) -> DataPosition
-    requires { at + 8 ≤ length «record».now }
-    ensures { result.0 ≡ u64_at «record».now at }
-{
-    DataPosition(read_le(record, at))
-}
-
-// The position in a record, behind the record id and the byte offset
+// The position in a record, behind the record id and the byte offset: little-endian, whatever the data type, which is the payload's
+#[tactic(auto, unfolding(definitions::specs::Payload::position_of))]
 pub(crate) fn position_in(
     record: &[u8],
     record_id_size: usize,
@@ -34,10 +26,13 @@ pub(crate) fn position_in(
 ) -> Result<DataPosition, Refusal>
     ensures { position_reply result ≡ position_of «record».now record_id_size (channel_meant channel) }
 {
-    let byte_offset = channel.byte_offset as usize;
-    if ends_outside(record.len(), record_id_size, byte_offset, 8) {
-        let needed = bytes_needed(record_id_size, byte_offset, 8);
-        return Err(Refusal::FieldOutside(needed));
+    let start = FieldStart {
+        skipped: record_id_size,
+        byte_offset: channel.byte_offset as usize,
+    };
+    if start.ends_outside(record.len(), 8) {
+        return Err(Refusal::FieldOutside(start.bytes_needed(8)));
     }
-    Ok(position_at(record, record_id_size + byte_offset))
+    let at = start.skipped + start.byte_offset;
+    Ok(DataPosition(read_le(record, at)))
 }

@@ -21,6 +21,7 @@ pub struct DecodedPayload {
 }
 
 // The value from the payload's bytes alone, and the validity from those of the record
+#[tactic(auto, unfolding(definitions::specs::Payload::payload_value_of))]
 fn payload_value(
     record: &[u8],
     payload: &[u8],
