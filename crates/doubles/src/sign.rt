@@ -32,19 +32,9 @@ pub fn magnitude_less_one(n: i64) -> u64
     (-1 - n) as u64
 }
 
-// How far n is from 0
-fn magnitude(n: i64) -> u64
-    ensures { result ≡ nat_abs n }
-{
-    if n < 0 {
-        return magnitude_less_one(n) + 1;
-    }
-    n as u64
-}
-
 // The pattern of the double nearest to n. Sign and magnitude are taken first, so that one rounding serves both signs.
 pub fn double_of_signed(n: i64) -> u64
     ensures { result ≡ double_of n }
 {
-    double_of_sign(n < 0, magnitude(n))
+    double_of_sign(n < 0, n.unsigned_abs())
 }

@@ -22,4 +22,4 @@ pub returns : goal.returns
 returns c =
     let same = to_z-of_z w64 c.args.n c.ranges.n in
     c.double_of_sign.ensures
-    ∙ ap₂ double_of_sign (ap (λ (z : ℤ). lt_z z (pos 0)) same) (c.magnitude.ensures ∙ ap nat_abs same) ∙ parts c.args.n
+    ∙ ap₂ double_of_sign (ap (λ (z : ℤ). lt_z z (pos 0)) same) (c.unsigned_abs.ensures.value ∙ ap nat_abs same) ∙ parts c.args.n
