@@ -6,5 +6,4 @@ pub mod Loads
 pub mod Stores
 pub mod Shifts
 pub mod Ids
-pub mod Ends
 pub mod BytesOf

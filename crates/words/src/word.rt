@@ -1,5 +1,5 @@
 // The unsigned numbers that stand in a file as bytes, the lowest first.
-ghost use Rattle.std.specs.Prelude.{◌≡◌, ℕ, ◌+◌, ◌*◌, ◌^◌, ◌≤◌, ◌<◌, length, refl};
+ghost use Rattle.std.specs.Prelude.{◌≡◌, ℕ, ◌+◌, ◌*◌, ◌^◌, ◌≤◌, ◌<◌, length};
 ghost use Rattle.std.proofs.lemmas.List.Edits.{sets};
 ghost use Rattle.definitions.specs.Bytes.{little, number_of, le, span};
 ghost use Rattle.std.proofs.Common.{rules};
@@ -23,8 +23,7 @@ pub trait Word {
     fn to_word(self) -> u64
         ensures { result ≡ number self };
 
-    ghost some: { 1 ≤ SIZE };
-
+    // as many as a word of 64 bits has at most
     ghost few: { SIZE ≤ 8 };
 }
 
@@ -42,8 +41,6 @@ impl Word for u16 {
     fn to_word(self) -> u64 {
         self as u64
     }
-
-    ghost some = { Prim.search rules };
 
     ghost few = { Prim.search rules };
 }
@@ -63,8 +60,6 @@ impl Word for u32 {
         self as u64
     }
 
-    ghost some = { Prim.search rules };
-
     ghost few = { Prim.search rules };
 }
 
@@ -82,8 +77,6 @@ impl Word for u64 {
     fn to_word(self) -> u64 {
         self
     }
-
-    ghost some = { Prim.search rules };
 
     ghost few = { Prim.search rules };
 }
