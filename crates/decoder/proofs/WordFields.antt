@@ -1,31 +1,28 @@
 -- Fields that a word holds.
-use Rattle.std.specs.Prelude.{if◌then◌else◌, None, Ok}
+use Rattle.std.specs.Prelude.{if◌then◌else◌, Ok}
 use mathlib.Core.Path.{◌≡◌, refl, sym, ap, ◌∙◌}
-use mathlib.Core.Bool.{Bool, true, false, not, ◌&&◌, ◌||◌, true≢false}
+use mathlib.Core.Bool.{Bool, true, false, not, ◌&&◌, ◌||◌}
 use mathlib.Core.List.{List}
 use Prim.Native.Nat.{ℕ, ◌+◌, ◌*◌, ◌/◌, ◌%◌, ◌^◌, ◌≤◌, ◌<◌}
 use native.Mathlib.Omega.{arith}
 use lib.ListN.{length}
 use lib.Dec.{ltb, eqb}
-use borrow.Author.Tests.{lt-ltb, le-ltb, eq-eqb, ne_eqb}
+use borrow.Author.Tests.{le-ltb, ne_eqb}
 use Rattle.definitions.specs.Reply.{answer, refusal}
 use Rattle.definitions.specs.Bytes.{Order, le_of, le, span, bits, bytes_for, number_of, field_at}
 use Rattle.definitions.specs.Ieee754.{nan_pattern}
-use Rattle.definitions.specs.DataType.{DataType, Kind}
-use Rattle.definitions.specs.Channel.{Channel, Value, variable_length, bit_span, span_in, float_bits, is_number, is_integer, is_floating, value_by, value_of, double_in, record_double}
-use Rattle.fields.specs.Form.{order_meant, form_of, form_kind, number_kind, number_value}
+use Rattle.definitions.specs.Channel.{Channel, Value, variable_length, bit_span, float_bits, is_number, is_integer, is_floating, value_by, value_of, double_in, record_double}
+use Rattle.fields.specs.Form.{order_meant, form_of, number_kind, number_value}
 use Rattle.fields.specs.Known.{value_at, FieldTold, Fitting}
 use Rattle.fields.specs.declared.form.Number as numbers
 use Rattle.fields.specs.declared.form.Number.TheVariants.{Float}
-use Rattle.fields.specs.declared.form.Content.{Content}
-use Rattle.fields.specs.declared.form.Form.{Form}
-use Rattle.fields.specs.declared.form.Form.TheVariants.{Number, Other}
+use Rattle.fields.specs.declared.form.Form.TheVariants.{Number}
 use Rattle.decoder.specs.Meaning.{number_double}
-use Rattle.decoder.specs.Known.{Held, Near, Sized, NumberTold, InWord}
-use Rattle.fields.proofs.Forms.{number_kinds, number_span, is_number_law, no_number}
-use Rattle.fields.proofs.Fields.{in_turn, value_tested, no_bits, no_float_width, found, fitting}
+use Rattle.decoder.specs.Known.{Held, HeldOf, Near, Sized, InWord}
+use Rattle.fields.proofs.Forms.{number_kinds, number_span}
+use Rattle.fields.proofs.Fields.{no_float_width, found, fitting}
 use Rattle.fields.proofs.Values.{looked_for, sound_at, valued}
-use Rattle.decoder.proofs.Doubles.{double_found, double_fixed, double_other, double_number}
+use Rattle.decoder.proofs.Doubles.{double_found, double_fixed}
 use Rattle.bit_fields.proofs.Bits.{field_below}
 use Rattle.words.proofs.Numbers.{Bytes}
 use Rattle.words.proofs.Loads.{in_word}
@@ -45,30 +42,6 @@ held_by s at offset count p k from ew bs few room same low some ends =
       inside = omega arith;
     }
 
-module _ (s : List ℕ) (id_size : ℕ) (c : Channel) where
-  pub near_by : {word from : ℕ} → variable_length c ≡ false → Held s (id_size + c.byte_offset) c.bit_offset c.bit_count word from → c.bit_offset ≤ 7 → 1 ≤ c.bit_count
-      → Near s id_size c word from
-  near_by p held low some = record { fixed = p; low = omega arith; some = some; held = held }
-
--- a type that is a number's, of a width that has a value
-module _ (type : DataType) (count : ℕ) {form : Form} (ef : form ≡ form_of type) where
-  abbrev no_width : Kind → Bool
-  no_width k = is_floating k && not (eqb count 32 || eqb count 64)
-
-  pub sized : {number : numbers.Number} {big t : Bool} → form ≡ Number number big → t ≡ no_width (number_kind number) → t ≡ false → (count ≡ 0 → ⊥)
-      → Sized (form_of type) number big count
-  sized e et f z = record { form = sym ef ∙ e; some = omega arith; width = sym et ∙ f }
-
-  -- and what is none
-  pub other_type : {content : Content} → form ≡ Other content → NumberTold (form_of type) count None
-  other_type e number big h = no_number (sym ef ∙ e) h.form
-
-  pub other_width : {n : numbers.Number} {b t : Bool} → form ≡ Number n b → t ≡ no_width (number_kind n) → t ≡ true → NumberTold (form_of type) count None
-  other_width e et f number big h = true≢false (sym f ∙ et ∙ ap (λ (f : Form). no_width (form_kind f)) (sym e ∙ ef ∙ h.form) ∙ h.width)
-
-pub without_any : {form : Form} {count : ℕ} → count ≡ 0 → NumberTold form count None
-without_any z number big h = let some = h.some in omega arith
-
 -- ---- what it gives
 
 module _ (s : List ℕ) (id_size : ℕ) (c : Channel) {word from : ℕ} (near : Near s id_size c word from) where
@@ -78,20 +51,20 @@ module _ (s : List ℕ) (id_size : ℕ) (c : Channel) {word from : ℕ} (near : 
   module _ (number : numbers.Number) where
     some : is_number (number_kind number) && eqb c.bit_count 0 ≡ false
     some =
-        let z : c.bit_count ≡ 0 → ⊥ = λ e. omega (arith, near.some) in
+        let z : c.bit_count ≡ 0 → ⊥ = λ e. omega (arith, near.held_of.some) in
         let e : eqb c.bit_count 0 ≡ false = ne_eqb _ _ z in
         number_kinds (λ k. is_number k && eqb c.bit_count 0 ≡ false) e e number
 
     low : is_number (number_kind number) && ltb 7 c.bit_offset ≡ false
     low =
-        let e : ltb 7 c.bit_offset ≡ false = le-ltb 7 c.bit_offset (omega (arith, near.low)) in
+        let e : ltb 7 c.bit_offset ≡ false = le-ltb 7 c.bit_offset (omega (arith, near.held_of.low)) in
         number_kinds (λ k. is_number k && ltb 7 c.bit_offset ≡ false) e e number
 
     few : is_integer (number_kind number) && ltb 64 c.bit_count ≡ false
-    few = number_kinds (λ k. is_integer k && ltb 64 c.bit_count ≡ false) (le-ltb 64 c.bit_count (omega (arith, near.held.ends))) refl number
+    few = number_kinds (λ k. is_integer k && ltb 64 c.bit_count ≡ false) (le-ltb 64 c.bit_count (omega (arith, near.held_of.held.ends))) refl number
 
     inside : ltb (length s) (at + bit_span c) ≡ false
-    inside = le-ltb (length s) (at + bit_span c) (omega (arith, near.some, near.held.inside))
+    inside = le-ltb (length s) (at + bit_span c) (omega (arith, near.held_of.some, near.held_of.held.inside))
 
     module _ (big : Bool) (e : form_of c.data_type ≡ Number number big) where
       by_form : value_at (number_kind number) false s at c ≡ value_of s id_size c
@@ -117,22 +90,21 @@ module _ (s : List ℕ) (id_size : ℕ) (c : Channel) {word from : ℕ} (near : 
   is_field : (big : Bool) {x : ℕ} → x ≡ field_at (order_meant big) (le 8 word) (from / 8) (from % 8) c.bit_count → x ≡ field big
   is_field big e =
       let o : Order = order_meant big in
-      e ∙ ap (λ (offset : ℕ). field_at o (le 8 word) (from / 8) offset c.bit_count) near.held.low
-      ∙ ap (λ (bs : List ℕ). bits (number_of o bs) c.bit_offset c.bit_count) near.held.bytes
+      e ∙ ap (λ (offset : ℕ). field_at o (le 8 word) (from / 8) offset c.bit_count) near.held_of.held.low
+      ∙ ap (λ (bs : List ℕ). bits (number_of o bs) c.bit_offset c.bit_count) near.held_of.held.bytes
 
 -- ---- its value
 
 module _ (s : List ℕ) (id_size : ℕ) (c : Channel) {number : numbers.Number} {big : Bool} {word from : ℕ}
-    (fixed : variable_length c ≡ false) (sized : Sized (form_of c.data_type) number big c.bit_count)
-    (low : c.bit_offset ≤ 7) (held : Held s (id_size + c.byte_offset) c.bit_offset c.bit_count word from) where
+    (fixed : variable_length c ≡ false) (sized : Sized (form_of c.data_type) number big c.bit_count) (held : HeldOf s id_size c word from) where
   in_sight : Near s id_size c word from
-  in_sight = near_by s id_size c fixed held low sized.some
+  in_sight = record { fixed = fixed; held_of = held }
 
   field_told : FieldTold (number_kind number) (value_of s id_size c) s c (Ok (record { at = id_size + c.byte_offset; length = bit_span c }))
   field_told = near_found s id_size c in_sight number big sized.form sized.width
 
   pub word_number : InWord number from c.bit_count
-  word_number = record { some = in_sight.some; ends = in_sight.held.ends; width = (sound_at field_told refl).width }
+  word_number = record { some = held.some; ends = held.held.ends; width = (sound_at field_told refl).width }
 
   pub near_valued : {v : Value} → v ≡ number_value number c.bit_count (field_at (order_meant big) (le 8 word) (from / 8) (from % 8) c.bit_count) → answer v ≡ value_of s id_size c
   near_valued ev =
@@ -181,30 +153,3 @@ module _ (s : List ℕ) (id_size : ℕ) (c : Channel) {word from : ℕ} (near : 
       go : (t : Bool) → not (eqb c.bit_count 32 || eqb c.bit_count 64) ≡ t → r ≡ (if t then nan_pattern else float_bits c.bit_count x) → r ≡ record_double s id_size c
       go true w eq = eq ∙ sym (ap double_in (near_refused s id_size c near Float big e w)) ∙ double_fixed s id_size c near.fixed
       go false w eq = number_double_law Float e w eq
-
--- ---- in no word
-
--- what the second test refuses has no double, whatever the first says
-second_refused : (a b d e f : Bool) (n : ℕ) (v : Value) → b ≡ true → nan_pattern ≡ double_in (in_turn a b d e f n v)
-second_refused true b d e f n v h = refl
-second_refused false b d e f n v h = rw h
-
--- a number that no field can be has no double, and what is no number has none either
-module _ (s : List ℕ) (id_size : ℕ) (c : Channel) (fixed : variable_length c ≡ false) where
-  by_refusal : ((k : Kind) (at n : ℕ) → is_number k ≡ true → nan_pattern ≡ double_in (value_by k at n s c)) → nan_pattern ≡ record_double s id_size c
-  by_refusal h = go (form_of c.data_type) refl
-    where
-      go : (f : Form) → form_of c.data_type ≡ f → nan_pattern ≡ record_double s id_size c
-      go (Number number big) e =
-          double_number s id_size c fixed e
-          (h (number_kind number) (id_size + c.byte_offset) (span_in false (number_kind number) (length s) c) (is_number_law number))
-      go (Other content) e = double_other s id_size c fixed e
-
-  pub without_bits : c.bit_count ≡ 0 → nan_pattern ≡ record_double s id_size c
-  without_bits z = by_refusal (λ k at n e. sym (ap double_in (no_bits k at n s c (rw (e, eq-eqb _ _ z)))))
-
-  pub past_a_byte : 7 < c.bit_offset → nan_pattern ≡ record_double s id_size c
-  past_a_byte l =
-      by_refusal (λ k at n e.
-      (let b : is_number k && ltb 7 c.bit_offset ≡ true = rw (e, lt-ltb 7 c.bit_offset l) in
-      second_refused _ _ _ _ _ _ _ b ∙ sym (ap double_in (value_tested k at n s c))))

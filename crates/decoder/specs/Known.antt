@@ -21,12 +21,16 @@ abbrev pub WordTold : List ℕ → ℕ → ℕ → ℕ → Option FieldWord → 
 WordTold s at offset count (Some f) = Held s at offset count f.word f.from
 WordTold s at offset count None = bytes_for offset count ≤ 8 → at + bytes_for offset count ≤ length s → ⊥
 
--- it holds the field of a fixed channel, whose bits are those of a number
-pub record Near (s : List ℕ) (id_size : ℕ) (c : Channel) (word from : ℕ) : Type 0 where
-  pub fixed : variable_length c ≡ false
+-- it holds a channel's field, which begins in its first byte
+pub record HeldOf (s : List ℕ) (id_size : ℕ) (c : Channel) (word from : ℕ) : Type 0 where
   pub low : c.bit_offset < 8
   pub some : 1 ≤ c.bit_count
   pub held : Held s (id_size + c.byte_offset) c.bit_offset c.bit_count word from
+
+-- and that of a fixed channel, whose bits are those of a number
+pub record Near (s : List ℕ) (id_size : ℕ) (c : Channel) (word from : ℕ) : Type 0 where
+  pub fixed : variable_length c ≡ false
+  pub held_of : HeldOf s id_size c word from
 
 -- a number of count bits, which can have a value
 pub record Sized (f : Form) (number : Number) (big : Bool) (count : ℕ) : Type 0 where

@@ -12,7 +12,7 @@ ghost use Rattle.decoder.specs.Meaning.{judged_reply, placed};
 ghost use Rattle.decoder.specs.Known.{InWord};
 
 use crate::alike::{decoding_code, placed_channel};
-use crate::near::{FieldWord, NumberForm, find_word, number_form};
+use crate::near::{FieldWord, NumberForm, channel_word, number_form};
 use bit_fields::{Big, Little};
 use fields::{
     Channel, DecodedChannelValue, DecodedValue, FieldStart, Form, Group, Number,
@@ -104,13 +104,9 @@ fn short_value(record: &[u8], record_id_size: usize, channel: Channel) -> Option
     if channel.is_variable_length() {
         return None;
     }
-    let offset = channel.bit_offset;
     let count = channel.bit_count;
     let form = number_form(channel.data_type, count)?;
-    if 7 < offset {
-        return None;
-    }
-    let field = find_word(record, record_id_size, channel.byte_offset, offset, count)?;
+    let field = channel_word(record, record_id_size, channel)?;
     Some(near_value(form, field, count))
 }
 

@@ -10,7 +10,7 @@ ghost use Rattle.decoder.specs.Known.{Near};
 
 use crate::alike::{decoding_code, placed_channel};
 use crate::integer::{signed_double, unsigned_double};
-use crate::near::{FieldWord, find_word};
+use crate::near::{FieldWord, channel_word};
 use bit_fields::{Big, Little};
 use data_types::DataType;
 use doubles::{NAN, widen};
@@ -95,22 +95,14 @@ pub fn decode_f64_from_record(record: &[u8], record_id_size: usize, channel: Cha
     if channel.is_variable_length() {
         return NAN;
     }
-    let offset = channel.bit_offset;
-    let count = channel.bit_count;
-    if 7 < offset {
-        return NAN;
-    }
-    if count == 0 {
-        return NAN;
-    }
-    let Some(field) = find_word(record, record_id_size, channel.byte_offset, offset, count) else {
+    let Some(field) = channel_word(record, record_id_size, channel) else {
         return far_double(
             &record[0..],
             record_id_size,
             decoding_code(channel.data_type),
-            offset,
+            channel.bit_offset,
             channel.byte_offset,
-            count,
+            channel.bit_count,
         );
     };
     near_double(record, record_id_size, channel, field)

@@ -3,11 +3,13 @@ ghost use Rattle.std.specs.Prelude.{◌≡◌, ◌+◌, ◌/◌, ◌%◌, ◌≤
 ghost use Rattle.definitions.specs.Bytes.{le, field_at};
 ghost use Rattle.data_types.specs.Meaning.{type_meant};
 ghost use Rattle.fields.specs.Form.{form_of};
-ghost use Rattle.decoder.specs.Known.{NumberTold, WordTold};
+ghost use Rattle.fields.specs.Meaning.{channel_meant};
+ghost use Rattle.decoder.specs.Known.{HeldOf, NumberTold, WordTold};
+ghost use Rattle.std.specs.Option.{IfSome};
 
 use bit_fields::{ByteOrder, near};
 use data_types::DataType;
-use fields::{Form, Number, form_of, is_no_float_width};
+use fields::{Channel, Form, Number, form_of, is_no_float_width};
 use words::{few_le_bytes, read_le};
 
 // A word whose bytes, the lowest first, hold a field, and the bit of them at which it begins
@@ -29,7 +31,7 @@ impl FieldWord {
 
 // The eight bytes from the field's first on, else the last eight of the record, else all that it has; a field of nine is in
 // none. By subtraction, since the sum may be past every number that fits.
-pub(crate) fn find_word(
+fn find_word(
     record: &[u8],
     skipped: usize,
     byte_offset: u32,
@@ -73,6 +75,26 @@ pub(crate) fn find_word(
         word: read_le(record, length - 8),
         from,
     })
+}
+
+// The same of a channel's field, where it begins in its first byte and has bits. It stands inlined on each short way.
+#[inline(always)]
+pub(crate) fn channel_word(
+    record: &[u8],
+    record_id_size: usize,
+    channel: Channel,
+) -> Option<FieldWord>
+    ensures { IfSome result (λ found. HeldOf «record».now record_id_size (channel_meant channel) found.word found.from) }
+{
+    let offset = channel.bit_offset;
+    let count = channel.bit_count;
+    if 7 < offset {
+        return None;
+    }
+    if count == 0 {
+        return None;
+    }
+    find_word(record, record_id_size, channel.byte_offset, offset, count)
 }
 
 // The class of a number of a width that has a value, and whether it is big-endian
