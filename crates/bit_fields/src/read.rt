@@ -4,7 +4,7 @@ ghost use Rattle.definitions.specs.Bytes.{le, bits, bytes_for, field_at};
 
 use words::ByteOrder;
 
-// The bits of a word from offset on, count of them
+// The bits of a word from offset on, count of them. These stay two numbers, of which each function here allows others.
 pub fn cut(word: u64, offset: u32, count: u32) -> u64
     requires { (offset < 64) × (1 ≤ count) × (count ≤ 64) }
     ensures { result ≡ bits word offset count }

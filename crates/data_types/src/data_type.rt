@@ -27,6 +27,7 @@ pub enum DataType {
 }
 
 impl DataType {
+    // A method and no From, since theorems (type_read_settled) and docs/CALLS.md name it; to_u8 likewise
     pub fn from_u8(value: u8) -> DataType
         ensures { type_meant result ≡ type_of value }
     {
