@@ -18,7 +18,7 @@ pub struct Located {
 }
 
 // Walks all of a chain, since a position stands in a chain that is whole, and keeps the place before the fragment that
-// holds the wanted position.
+// holds the wanted position. Its one caller has tested the length; a type that knows it would be made for this call alone.
 fn locate(
     file: &[u8],
     start: FileAddress,

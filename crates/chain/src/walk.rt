@@ -18,6 +18,9 @@ pub struct Fragment {
 
 // The fragment behind the place, which then is behind that fragment; none behind the last one. The compiler puts it into every
 // reader's loop, as the instruction to inline says: a fragment that is read in a function apart goes through memory.
+// It is no method of an Iterator, which would have to come to an end behind a refusal, and so to keep that there was one, while
+// readers ask for the place behind the walk. The file and the id stand beside the place: in one struct with it, each reader
+// would have to show after each step that they are still the same.
 #[inline(always)]
 pub fn next_fragment(
     file: &[u8],

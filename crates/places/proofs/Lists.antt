@@ -1,13 +1,13 @@
--- The ways through a list of the chain, and what an answer tells of it.
+-- What an answer tells of a list of the chain.
 use mathlib.Core.Path.{◌≡◌, refl, sym}
-use mathlib.Core.Bool.{true, false, not}
+use mathlib.Core.Bool.{true, not}
 use mathlib.Core.List.{List}
 use Prim.Native.Nat.{ℕ, ◌+◌, ◌*◌, ◌≤◌}
 use native.Mathlib.Omega.{arith}
 use lib.ListN.{length, drop}
 use lib.Dec.{ltb, eqb}
 use borrow.Author.Tests.{ltb-false, eqb-true, eqb-false, not-false}
-use Rattle.definitions.specs.Reply.{answer, refusal}
+use Rattle.definitions.specs.Reply.{answer}
 use Rattle.definitions.specs.Bytes.{id_at}
 use Rattle.definitions.specs.Header.{Header, header_of}
 use Rattle.definitions.specs.DataList.{DataList, id_dl, list_of, links_of, rest_of, list_in, rest_in, rest_count, flags_at}
@@ -15,34 +15,6 @@ use Rattle.definitions.specs.Chain.{fragment_limit, has_header, agrees, admitted
 use Rattle.blocks.proofs.Headers.{needed}
 use Rattle.definitions.proofs.Replies.{both}
 use Rattle.places.proofs.Answers.{passed, followed, answered}
-
--- ---- the ways out
-
-module _ (f : List ℕ) (n a : ℕ) where
-  pub list_nowhere : has_header f a ≡ false → refusal 11 0 ≡ list_at f n a
-  unfolding list_at
-  list_nowhere h = rw h
-
-  module _ (there : has_header f a ≡ true) where
-    pub list_refused_law : (k t : ℕ) → list_of (drop a f) ≡ refusal k t → refusal k t ≡ list_at f n a
-    unfolding list_at
-    list_refused_law k t h = rw (there, h)
-
-    module _ (d : DataList) (h : list_of (drop a f) ≡ answer d) where
-      pub list_disagrees : agrees d ≡ false → refusal 10 0 ≡ list_at f n a
-      unfolding list_at
-      list_disagrees g = rw (there, h, g)
-
-      module _ (g : agrees d ≡ true) where
-        pub list_many : ltb fragment_limit (n + d.links) ≡ true → refusal 9 0 ≡ list_at f n a
-        unfolding list_at
-        list_many l = rw (there, h, g, l)
-
-        pub list_admitted : ltb fragment_limit (n + d.links) ≡ false → answer d ≡ list_at f n a
-        unfolding list_at
-        list_admitted l = rw (there, h, g, l)
-
--- ---- what an answer tells
 
 -- a list that is read lies in its bytes
 pub record Lies (s : List ℕ) (d : DataList) : Type 0 where

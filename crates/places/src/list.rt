@@ -18,6 +18,7 @@ fn agrees_with_itself(list: DataListBlock) -> bool
 }
 
 // The list at an address, with so many fragments in the lists before it
+#[tactic(auto, unfolding(definitions::specs::Chain::list_at))]
 pub fn list_at(file: &[u8], address: FileAddress, fragments: u64) -> Result<DataListBlock, Refusal>
     ensures { list_reply result ≡ list_at file.now fragments address.0 }
 {

@@ -24,10 +24,12 @@ pub struct OpenList {
     pub flags: u8,
     // where the one length or the offsets stand in those bytes
     pub rest_at: u64,
+    // 0 where no list follows, as the block and the definition `opened` have it
     pub next: FileAddress,
 }
 
-// Before fragment `index` of the list read last. At the start no list is read, and the next one is the first.
+// Before fragment `index` of the list read last. At the start no list is read, and the next one is the first; the count of lists
+// tells it, as in the definition `ended`, and no Option, which every fragment would have to ask.
 #[derive(Clone, Copy, Debug, Default, PartialEq, Eq)]
 pub struct Place {
     pub list: OpenList,

@@ -36,6 +36,7 @@ pub fn lay(data: &[u8], position: DataPosition, from: DataPosition, out: &mut [u
 // The bytes of the joined data from `from` on, as far as `out` goes, by a walk from a place that is not behind them. Of each
 // fragment only what falls into the window is read, and none behind it. What is given back is the place before the last one
 // read: whoever reads on begins there. An accepted chain refuses nothing on the way, so each step may be unwrapped.
+// `Walked` tells which chain, and is no bare fact, so no ghost field of the place can keep it.
 pub fn window(file: &[u8], begin: Place, id: &[u8; 4], from: DataPosition, out: &mut [u8]) -> Place
     requires { (Walked id.now file.now begin) × (begin.position.0 ≤ from.0) }
     ensures { (w : Walked id.now file.now begin) → (out.new ≡ laid out.old from.0 0 (joined file.now w.blocks)) × ReadsOn id.now file.now w.blocks (from.0 + length out.old) result }

@@ -1,47 +1,15 @@
--- The ways through a fragment, and what an answer tells of it.
-use mathlib.Core.Path.{◌≡◌, sym, ap, ◌∙◌}
-use mathlib.Core.Bool.{true, false, not}
+-- What an answer tells of a fragment.
+use mathlib.Core.Path.{◌≡◌}
+use mathlib.Core.Bool.{not}
 use mathlib.Core.List.{List}
 use Prim.Native.Nat.{ℕ, ◌+◌, ◌*◌, ◌≤◌}
-use lib.ListN.{length, drop}
-use Rattle.definitions.specs.Reply.{answer, refusal}
+use lib.ListN.{length}
+use Rattle.definitions.specs.Reply.{answer}
 use Rattle.definitions.specs.Bytes.{u64_at}
 use Rattle.definitions.specs.DataList.{DataList}
-use Rattle.definitions.specs.Chain.{Block, block_at, declared, judged, fragment_of, list_at}
-use Rattle.places.specs.Places.{Opens}
-use Rattle.steps.specs.Steps.{fragment_at}
-use Rattle.places.specs.declared.place.OpenList.{OpenList}
-use Rattle.places.specs.declared.place.Place.{Place}
+use Rattle.definitions.specs.Chain.{Block, block_at, declared, judged, fragment_of}
 use Rattle.places.proofs.Answers.{passed, followed, answered}
 use Rattle.places.proofs.Blocks.{block_stands}
-
--- ---- the ways out
-
--- where link i of a list that is kept stands
-pub link_is : (s : List ℕ) (l : OpenList) (i a : ℕ) (d : DataList) → Opens l d → a ≡ u64_at s (l.links_at + i * 8) → a ≡ u64_at s (d.links_at + i * 8)
-link_is s l i a d k e = e ∙ ap (λ (x : OpenList). u64_at s (x.links_at + i * 8)) k
-
-module _ (id f s : List ℕ) (d : DataList) (i p a : ℕ) (link : a ≡ u64_at s (d.links_at + i * 8)) where
-  pub fragment_refused_law : (n t : ℕ) → block_at id f a ≡ refusal n t → refusal n t ≡ fragment_of id f s d i p
-  unfolding fragment_of
-  fragment_refused_law n t h = rw (sym link, h)
-
-  module _ (b : Block) (h : block_at id f a ≡ answer b) where
-    pub fragment_untrue : declared s d i p b.size ≡ false → refusal 13 0 ≡ fragment_of id f s d i p
-    unfolding fragment_of
-    fragment_untrue t = rw (sym link, h, t)
-
-    pub fragment_taken : declared s d i p b.size ≡ true → answer b ≡ fragment_of id f s d i p
-    unfolding fragment_of
-    fragment_taken t = rw (sym link, h, t)
-
--- the list of a place is the one that stands there
-pub fragment_there_law : (id f s : List ℕ) (p : Place) (d : DataList) → list_at f p.fragments p.list.address.0 ≡ answer d
-    → s ≡ drop p.list.address.0 f → fragment_of id f s d p.index p.position.0 ≡ fragment_at id f p
-unfolding fragment_at
-fragment_there_law id f s p d e from = rw (e, from)
-
--- ---- what an answer tells
 
 -- the block lies in the file
 pub fragment_inside : (id f s : List ℕ) (d : DataList) (i p : ℕ) (b : Block) → fragment_of id f s d i p ≡ answer b → b.address + 24 + b.size ≤ length f

@@ -53,6 +53,7 @@ fn truly_declared(bytes: &[u8], place: Place, size: u64) -> bool
 }
 
 // The fragment at a place, where `bytes` is the file from its list on. The link alone says where it is.
+#[tactic(auto, unfolding(definitions::specs::Chain::fragment_of))]
 fn fragment_in(file: &[u8], bytes: &[u8], place: Place, id: &[u8; 4]) -> Result<DataBlock, Refusal>
     requires { LinkWithin bytes.now place.list place.index }
     ensures { (d : DataList) → Opens place.list d → block_reply result ≡ fragment_of id.now file.now bytes.now d place.index place.position.0 }
@@ -65,6 +66,7 @@ fn fragment_in(file: &[u8], bytes: &[u8], place: Place, id: &[u8; 4]) -> Result<
 }
 
 // The fragment at a place inside a list
+#[tactic(auto, unfolding(crate::specs::Steps::fragment_at))]
 pub fn fragment_at(file: &[u8], place: Place, id: &[u8; 4]) -> Result<DataBlock, Refusal>
     requires { (ListKnown file.now place) × (place.index < place.list.links) }
     ensures { block_reply result ≡ fragment_at id.now file.now place }

@@ -47,6 +47,7 @@ fn keeps_to(file: &[u8], earlier: OpenList, list: OpenList) -> bool
 
 // The next list is read here, once, and its fragments then by index. Each list but the last declares what the first does, so
 // the list before stands for the first one, of which the place keeps nothing.
+#[tactic(auto, unfolding(crate::specs::Steps::next_of))]
 pub fn next_list(file: &[u8], place: Place) -> Result<Next, Refusal>
     requires { ListKnown file.now place }
     ensures { next_reply result ≡ next_of file.now place }

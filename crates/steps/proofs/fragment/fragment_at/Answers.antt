@@ -1,7 +1,6 @@
-use mathlib.Core.Path.{refl, ◌∙◌}
+use mathlib.Core.Path.{refl}
 use Rattle.places.proofs.Addresses.{header_inside}
-use Rattle.steps.proofs.Fragments.{fragment_there_law}
-use Rattle.steps.proofs.Steps.{the_list, the_link}
+use Rattle.steps.proofs.Steps.{the_link}
 use Rattle.steps.proofs.fragment.fragment_at.Goals as goal
 
 pub bytes_from-bytes-requires : goal.bytes_from-bytes-requires
@@ -12,8 +11,3 @@ bytes_from-bytes-requires c =
 pub fragment_in-requires : goal.fragment_in-requires
 fragment_in-requires c =
     (the_link _ _ _ c.requires.0 c.requires.1 c.bytes_from-bytes.ensures).1
-
-pub returns : goal.returns
-returns c =
-    let list = the_list _ _ c.requires.0 c.requires.1 in
-    c.fragment_in.ensures list.0 list.2 ∙ fragment_there_law _ _ _ _ _ list.1 c.bytes_from-bytes.ensures

@@ -11,15 +11,9 @@ use Rattle.blocks.specs.Meaning.{list_meant}
 use Rattle.places.specs.Places.{opened, entered}
 use Rattle.steps.specs.Steps.{declaration_in, a_list}
 use Rattle.places.specs.declared.place.Place.{Place}
-use Rattle.steps.proofs.Steps.{lengths_within, next_end, next_many, next_refused, next_first, next_untrue, next_kept}
+use Rattle.steps.proofs.Steps.{lengths_within, next_refused, next_first, next_untrue, next_kept}
 use Rattle.steps.proofs.next.next_list.Goals as goal
 use Rattle.steps.proofs.next.next_list.Goals.{else-place-ne0-via-then-place-ne0+else-not-keeps_to, else-place-ne0-via-else-place-ne0}
-
-pub returns-then-has_ended : goal.returns-then-has_ended
-returns-then-has_ended c = next_end _ _ (sym c.has_ended.ensures ∙ c.if-has_ended.true)
-
-pub returns-then-place-ge-LIST_LIMIT : goal.returns-then-place-ge-LIST_LIMIT
-returns-then-place-ge-LIST_LIMIT c = next_many _ _ (sym c.has_ended.ensures ∙ c.if-has_ended.false) c.if-place-ge-LIST_LIMIT.true
 
 -- a refused list is handed on
 pub returns-in_err-list : goal.returns-in_err-list
