@@ -1,12 +1,11 @@
 // The data of a fragment behind the bytes of a record that is not whole yet.
 ghost use Rattle.std.specs.Prelude.{◌≡◌, ◌++◌, ◌+◌, ◌<◌, length, take};
 ghost use Rattle.tally.specs.Tallies.{Sane};
-ghost use Rattle.slots.specs.Slots.{Within};
 ghost use Rattle.report.specs.Visits.{Held, visited, few_records};
 
+use crate::layout::Layout;
 use crate::run::run;
 use records::copy_over;
-use slots::Slot;
 use tally::Tally;
 
 // A tally, and how many bytes of a record that is not whole yet stand in the buffer
@@ -17,13 +16,13 @@ pub(crate) struct Fed {
 }
 
 // A part that begins with a record: its whole records in their place, and what is left into the buffer
-fn feed_whole(part: &[u8], size: usize, slot: Slot, before: Tally, buffer: &mut [u8]) -> Fed
-    requires { Within size slot × Sane before × (before.records + length part.now < few_records) × (length buffer.old ≡ size) }
-    ensures { Held (visited slot) size before part.now buffer.new result.tally result.fill × Sane result.tally }
+fn feed_whole(part: &[u8], layout: Layout, before: Tally, buffer: &mut [u8]) -> Fed
+    requires { Sane before × (before.records + length part.now < few_records) × (length buffer.old ≡ layout.size) }
+    ensures { Held (visited layout.slot) layout.size before part.now buffer.new result.tally result.fill × Sane result.tally }
 {
-    let n = part.len() / size;
-    let end = n * size;
-    let tally = run(part, size, n, slot, before);
+    let n = part.len() / layout.size;
+    let end = n * layout.size;
+    let tally = run(part, n, layout, before);
     copy_over(&part[end..], buffer, 0);
     Fed {
         tally,
@@ -34,26 +33,25 @@ fn feed_whole(part: &[u8], size: usize, slot: Slot, before: Tally, buffer: &mut 
 // A part behind `fill` bytes that wait in the buffer
 pub(crate) fn feed(
     part: &[u8],
-    size: usize,
-    slot: Slot,
+    layout: Layout,
     before: Tally,
     buffer: &mut [u8],
     fill: usize,
 ) -> Fed
-    requires { Within size slot × Sane before × (before.records + 1 + length part.now < few_records) × (length buffer.old ≡ size) × (fill < size) }
-    ensures { Held (visited slot) size before (take fill buffer.old ++ part.now) buffer.new result.tally result.fill × Sane result.tally }
+    requires { Sane before × (before.records + 1 + length part.now < few_records) × (length buffer.old ≡ layout.size) × (fill < layout.size) }
+    ensures { Held (visited layout.slot) layout.size before (take fill buffer.old ++ part.now) buffer.new result.tally result.fill × Sane result.tally }
 {
     if fill == 0 {
-        return feed_whole(part, size, slot, before, buffer);
+        return feed_whole(part, layout, before, buffer);
     }
     copy_over(part, buffer, fill);
-    let missing = size - fill;
+    let missing = layout.size - fill;
     if part.len() < missing {
         return Fed {
             tally: before,
             fill: fill + part.len(),
         };
     }
-    let tally = run(buffer, size, 1, slot, before);
-    feed_whole(&part[missing..], size, slot, tally, buffer)
+    let tally = run(buffer, 1, layout, before);
+    feed_whole(&part[missing..], layout, tally, buffer)
 }

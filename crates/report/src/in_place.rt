@@ -3,15 +3,16 @@ ghost use Rattle.std.specs.Prelude.{◌≡◌, ◌+◌, ◌-◌, ◌*◌, ◌≤
 ghost use Rattle.std.specs.Option.{ForSome};
 ghost use Rattle.definitions.specs.Bytes.{span};
 ghost use Rattle.tally.specs.Tallies.{Sane};
-ghost use Rattle.slots.specs.Slots.{Within, PlaceTold};
+ghost use Rattle.slots.specs.Slots.{PlaceTold};
 ghost use Rattle.report.specs.Visits.{visited, few_records};
 ghost use Rattle.report.specs.Rows.{RowAsked, FlagTold, RowTo};
 
+use crate::layout::Layout;
 use crate::row::Row;
 use fields::Number;
 use slots::{
-    Float, Integer, Kind, Slot, WordPlace, far_word, find_place, has_flag, is_valid_by,
-    is_valid_in, record_begin, shift_of, word_at,
+    Float, Integer, Kind, WordPlace, far_word, find_place, has_flag, is_valid_by, is_valid_in,
+    record_begin, shift_of, word_at,
 };
 use tally::{Tally, counted, has_marks, skipped};
 
@@ -19,35 +20,32 @@ use tally::{Tally, counted, has_marks, skipped};
 #[derive(Clone, Copy)]
 pub(crate) struct Rows<'a> {
     records: &'a [u8],
-    size: usize,
     n: usize,
-    slot: Slot,
+    layout: Layout,
     place: Option<WordPlace>,
-    ghost within: { Within size slot },
-    ghost fits: { n * size ≤ length records.now },
-    ghost placed: { ForSome place (λ p. PlaceTold size slot (Some p)) },
+    ghost fits: { n * layout.size ≤ length records.now },
+    ghost placed: { ForSome place (λ p. PlaceTold layout.size layout.slot (Some p)) },
 }
 
 impl<'a> Rows<'a> {
-    pub(crate) fn new(records: &'a [u8], size: usize, n: usize, slot: Slot) -> Self
-        requires { Within size slot × (n * size ≤ length records.now) }
-        ensures { (result.records.now ≡ records.now) × (result.size ≡ size) × (result.n ≡ n) × (result.slot ≡ slot) }
+    pub(crate) fn new(records: &'a [u8], n: usize, layout: Layout) -> Self
+        requires { n * layout.size ≤ length records.now }
+        ensures { (result.records.now ≡ records.now) × (result.n ≡ n) × (result.layout ≡ layout) }
     {
         Rows {
             records,
-            size,
             n,
-            slot,
-            place: find_place(size, slot),
+            layout,
+            place: find_place(layout.size, layout.slot),
         }
     }
 
     fn record(&self, i: usize) -> &'a [u8]
         requires { i < self.now.n }
-        ensures { (result.now ≡ span self.now.records.now (i * self.now.size) self.now.size) × (length result.now ≡ self.now.size) }
+        ensures { (result.now ≡ span self.now.records.now (i * self.now.layout.size) self.now.layout.size) × (length result.now ≡ self.now.layout.size) }
     {
-        let begin = record_begin(i, self.size, self.n, self.records.len());
-        let end = begin + self.size;
+        let begin = record_begin(i, self.layout.size, self.n, self.records.len());
+        let end = begin + self.layout.size;
         &self.records[begin..end]
     }
 
@@ -59,14 +57,14 @@ impl<'a> Rows<'a> {
         first: usize,
         before: Tally,
     ) -> Row
-        requires { RowAsked self.now.size self.now.slot at shift before first self.now.n × FlagTold self.now.slot FLAGGED × (K.number ≡ self.now.slot.number) × K.has self.now.slot.count }
-        ensures { RowTo self.now.size self.now.slot before self.now.records.now first self.now.n result }
+        requires { RowAsked self.now.layout.size self.now.layout.slot at shift before first self.now.n × FlagTold self.now.layout.slot FLAGGED × (K.number ≡ self.now.layout.slot.number) × K.has self.now.layout.slot.count }
+        ensures { RowTo self.now.layout.size self.now.layout.slot before self.now.records.now first self.now.n result }
     {
         let mut tally = before;
         for i in first..self.n {
             let record = self.record(i);
-            if is_valid_by(FLAGGED, record, self.slot) {
-                let word = word_at::<K>(record, at, shift, self.slot);
+            if is_valid_by(FLAGGED, record, self.layout.slot) {
+                let word = word_at::<K>(record, at, shift, self.layout.slot);
                 let Some(next) = K::counted_behind(tally, word) else {
                     return Row { next: i, tally };
                 };
@@ -83,10 +81,10 @@ impl<'a> Rows<'a> {
 
     // With a loop for records of which none can be invalid
     fn kind_row<K: Kind>(&self, at: usize, shift: u32, first: usize, before: Tally) -> Row
-        requires { RowAsked self.now.size self.now.slot at shift before first self.now.n × (K.number ≡ self.now.slot.number) × K.has self.now.slot.count }
-        ensures { RowTo self.now.size self.now.slot before self.now.records.now first self.now.n result }
+        requires { RowAsked self.now.layout.size self.now.layout.slot at shift before first self.now.n × (K.number ≡ self.now.layout.slot.number) × K.has self.now.layout.slot.count }
+        ensures { RowTo self.now.layout.size self.now.layout.slot before self.now.records.now first self.now.n result }
     {
-        if has_flag(self.slot) {
+        if has_flag(self.layout.slot) {
             self.row::<K, true>(at, shift, first, before)
         } else {
             self.row::<K, false>(at, shift, first, before)
@@ -95,14 +93,14 @@ impl<'a> Rows<'a> {
 
     // By a loop for each kind of number, in which the compiler leaves out what the others are
     fn any_row(&self, at: usize, shift: u32, first: usize, before: Tally) -> Row
-        requires { RowAsked self.now.size self.now.slot at shift before first self.now.n }
-        ensures { RowTo self.now.size self.now.slot before self.now.records.now first self.now.n result }
+        requires { RowAsked self.now.layout.size self.now.layout.slot at shift before first self.now.n }
+        ensures { RowTo self.now.layout.size self.now.layout.slot before self.now.records.now first self.now.n result }
     {
-        match self.slot.number {
+        match self.layout.slot.number {
             Number::Unsigned => self.kind_row::<Integer<false>>(at, shift, first, before),
             Number::Signed => self.kind_row::<Integer<true>>(at, shift, first, before),
             Number::Float => {
-                if self.slot.count == 64 {
+                if self.layout.slot.count == 64 {
                     return self.kind_row::<Float<64>>(at, shift, first, before);
                 }
                 self.kind_row::<Float<32>>(at, shift, first, before)
@@ -113,7 +111,7 @@ impl<'a> Rows<'a> {
     // A row as far as it goes: none before there are marks, nor where no eight bytes hold the number
     pub(crate) fn read(&self, first: usize, before: Tally) -> Row
         requires { Sane before × (first < self.now.n) × (before.records + (self.now.n - first) < few_records) }
-        ensures { RowTo self.now.size self.now.slot before self.now.records.now first self.now.n result }
+        ensures { RowTo self.now.layout.size self.now.layout.slot before self.now.records.now first self.now.n result }
     {
         let none = Row {
             next: first,
@@ -125,19 +123,19 @@ impl<'a> Rows<'a> {
         let Some(place) = self.place else {
             return none;
         };
-        let shift = shift_of(place.from, self.slot);
+        let shift = shift_of(place.from, self.layout.slot);
         self.any_row(place.at, shift, first, before)
     }
 
     // A record the whole way: where a row ends at one
     pub(crate) fn one(&self, i: usize, before: Tally) -> Tally
         requires { (i < self.now.n) × Sane before × (before.records < few_records) }
-        ensures { (result ≡ visited self.now.slot before (span self.now.records.now (i * self.now.size) self.now.size)) × Sane result }
+        ensures { (result ≡ visited self.now.layout.slot before (span self.now.records.now (i * self.now.layout.size) self.now.layout.size)) × Sane result }
     {
         let record = self.record(i);
-        if is_valid_in(record, self.slot) {
-            let word = far_word(record, self.slot);
-            return counted(self.slot.number, before, word);
+        if is_valid_in(record, self.layout.slot) {
+            let word = far_word(record, self.layout.slot);
+            return counted(self.layout.slot.number, before, word);
         }
         skipped(before)
     }

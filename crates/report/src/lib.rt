@@ -3,6 +3,7 @@
 
 mod feed;
 mod in_place;
+mod layout;
 mod report;
 mod row;
 mod run;

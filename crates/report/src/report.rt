@@ -2,13 +2,14 @@
 ghost use Rattle.std.specs.Prelude.{◌≡◌, true, ◌/◌, length, Ok};
 ghost use Rattle.definitions.specs.Reply.{answer};
 ghost use Rattle.definitions.specs.Channel.{is_fixed_number, area_of};
-ghost use Rattle.definitions.specs.Chain.{joined};
+ghost use Rattle.definitions.specs.Chain.{id_dt, joined};
 ghost use Rattle.definitions.specs.Report.{first_records, readings, report_of, last_record_in, reported};
 ghost use Rattle.chain.specs.Walk.{Walked};
 ghost use Rattle.fields.specs.Meaning.{channel_meant, group_meant};
 ghost use Rattle.tally.specs.Meaning.{report_meant};
 ghost use Rattle.report.specs.Meaning.{reported_by, InWords};
 
+use crate::layout::Layout;
 use crate::walk::tally_records;
 use chain::{DataBlock, DataPosition, FileAddress, Place, locate_data};
 use fields::{Channel, Group, check_area};
@@ -17,53 +18,49 @@ use refusals::Refusal;
 use slots::{SlotFound, find_slot, is_fixed_number};
 use tally::{Report, invalid_report, report_of, valueless_report};
 
-// Of n records. All of them have a value or none has, so the bytes of the buffer, which is one record long, stand for any record:
-// they are asked before the first one is read.
-fn line_of(
-    file: &[u8],
+// A channel of n records: where the walk along their chain begins, and what is known of group and channel
+#[derive(Clone, Copy)]
+struct Asked {
     begin: Place,
-    id: &[u8; 4],
     n: u64,
     group: Group,
     channel: Channel,
-    buffer: &mut [u8],
-) -> Report
-    requires { Walked id.now file.now begin × (begin.position.0 ≡ 0) × (is_fixed_number (channel_meant channel) ≡ true) × (area_of (length buffer.old) (group_meant group) (channel_meant channel) ≡ answer tt) }
-    ensures { (w : Walked id.now file.now begin) → n ≡ length (joined file.now w.blocks) / length buffer.old → report_meant result ≡ report_of (readings (group_meant group) (channel_meant channel) (first_records n (length buffer.old) (joined file.now w.blocks))) }
-{
-    let size = buffer.len();
-    let found = find_slot(buffer, group, channel);
-    match found {
-        SlotFound::NoValue => valueless_report(n),
-        SlotFound::AllInvalid => invalid_report(n),
-        SlotFound::Found(slot) => {
-            let tally = tally_records(file, begin, id, size, slot, buffer);
-            let number = slot.number;
-            report_of(number, tally)
-        }
-    }
 }
 
-// And the last record into the buffer, where there is one
-fn report_records(
-    file: &[u8],
-    begin: Place,
-    id: &[u8; 4],
-    n: u64,
-    group: Group,
-    channel: Channel,
-    buffer: &mut [u8],
-) -> Report
-    requires { ((w : Walked id.now file.now begin) × (n ≡ length (joined file.now w.blocks) / length buffer.old)) × (begin.position.0 ≡ 0) × (is_fixed_number (channel_meant channel) ≡ true) × (area_of (length buffer.old) (group_meant group) (channel_meant channel) ≡ answer tt) }
-    ensures { (w : Walked id.now file.now begin) → n ≡ length (joined file.now w.blocks) / length buffer.old → (report_meant result ≡ report_of (readings (group_meant group) (channel_meant channel) (first_records n (length buffer.old) (joined file.now w.blocks)))) × (buffer.new ≡ last_record_in n (length buffer.old) (joined file.now w.blocks) buffer.old) }
-{
-    if n == 0 {
-        return valueless_report(0);
+impl Asked {
+    // All records have a value or none has, so the bytes of the buffer, which is one record long, stand for any record: they are
+    // asked before the first one is read.
+    fn line(self, file: &[u8], buffer: &mut [u8]) -> Report
+        requires { Walked id_dt file.now self.begin × (self.begin.position.0 ≡ 0) × (is_fixed_number (channel_meant self.channel) ≡ true) × (area_of (length buffer.old) (group_meant self.group) (channel_meant self.channel) ≡ answer tt) }
+        ensures { (w : Walked id_dt file.now self.begin) → self.n ≡ length (joined file.now w.blocks) / length buffer.old → report_meant result ≡ report_of (readings (group_meant self.group) (channel_meant self.channel) (first_records self.n (length buffer.old) (joined file.now w.blocks))) }
+    {
+        match find_slot(buffer, self.group, self.channel) {
+            SlotFound::NoValue => valueless_report(self.n),
+            SlotFound::AllInvalid => invalid_report(self.n),
+            SlotFound::Found(slot) => {
+                let layout = Layout {
+                    size: buffer.len(),
+                    slot,
+                };
+                let tally = tally_records(file, self.begin, layout, buffer);
+                report_of(slot.number, tally)
+            }
+        }
     }
-    let last = (n - 1) * buffer.len() as u64;
-    let report = line_of(file, begin, id, n, group, channel, buffer);
-    window(file, begin, id, DataPosition(last), buffer);
-    report
+
+    // And the last record into the buffer, where there is one
+    fn line_and_last(self, file: &[u8], buffer: &mut [u8]) -> Report
+        requires { ((w : Walked id_dt file.now self.begin) × (self.n ≡ length (joined file.now w.blocks) / length buffer.old)) × (self.begin.position.0 ≡ 0) × (is_fixed_number (channel_meant self.channel) ≡ true) × (area_of (length buffer.old) (group_meant self.group) (channel_meant self.channel) ≡ answer tt) }
+        ensures { (w : Walked id_dt file.now self.begin) → self.n ≡ length (joined file.now w.blocks) / length buffer.old → (report_meant result ≡ report_of (readings (group_meant self.group) (channel_meant self.channel) (first_records self.n (length buffer.old) (joined file.now w.blocks)))) × (buffer.new ≡ last_record_in self.n (length buffer.old) (joined file.now w.blocks) buffer.old) }
+    {
+        if self.n == 0 {
+            return valueless_report(0);
+        }
+        let last = (self.n - 1) * buffer.len() as u64;
+        let report = self.line(file, buffer);
+        window(file, self.begin, &DataBlock::ID, DataPosition(last), buffer);
+        report
+    }
 }
 
 // The line as it is; the low word of its sum is one word
@@ -93,15 +90,12 @@ pub fn report_channel(
     }
     let size = record_size as usize;
     check_area(size, group, channel)?;
-    let n = located.total.0 / record_size;
-    let report = report_records(
-        file,
-        located.place,
-        &DataBlock::ID,
-        n,
+    let asked = Asked {
+        begin: located.place,
+        n: located.total.0 / record_size,
         group,
         channel,
-        &mut buffer[..size],
-    );
+    };
+    let report = asked.line_and_last(file, &mut buffer[..size]);
     lined(report)
 }

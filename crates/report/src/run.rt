@@ -1,19 +1,18 @@
 // A run of whole records.
 ghost use Rattle.std.specs.Prelude.{◌≡◌, ◌+◌, ◌*◌, ◌≤◌, ◌<◌, length};
 ghost use Rattle.tally.specs.Tallies.{Sane};
-ghost use Rattle.slots.specs.Slots.{Within};
 ghost use Rattle.report.specs.Visits.{seen, visited, few_records};
 
 use crate::in_place::Rows;
-use slots::Slot;
+use crate::layout::Layout;
 use tally::Tally;
 
 // The first n
-pub(crate) fn run(records: &[u8], size: usize, n: usize, slot: Slot, before: Tally) -> Tally
-    requires { Within size slot × Sane before × (before.records + n < few_records) × (n * size ≤ length records.now) }
-    ensures { (result ≡ seen (visited slot) size before records.now n) × Sane result }
+pub(crate) fn run(records: &[u8], n: usize, layout: Layout, before: Tally) -> Tally
+    requires { Sane before × (before.records + n < few_records) × (n * layout.size ≤ length records.now) }
+    ensures { (result ≡ seen (visited layout.slot) layout.size before records.now n) × Sane result }
 {
-    let rows = Rows::new(records, size, n, slot);
+    let rows = Rows::new(records, n, layout);
     let mut tally = before;
     let mut i = 0;
     // not a `for`: a row goes over as many as it can

@@ -1,35 +1,27 @@
 // All records of the joined data of a chain that is accepted.
 ghost use Rattle.std.specs.Prelude.{◌≡◌, ◌/◌, ◌<◌, length};
-ghost use Rattle.definitions.specs.Chain.{joined};
+ghost use Rattle.definitions.specs.Chain.{id_dt, joined};
 ghost use Rattle.chain.specs.Walk.{Walked};
 ghost use Rattle.tally.specs.Tallies.{Sane, empty_tally};
-ghost use Rattle.slots.specs.Slots.{Within};
 ghost use Rattle.report.specs.Visits.{seen, visited, few_records};
 
 use crate::feed::feed;
-use chain::{Place, data_of, next_fragment};
-use slots::Slot;
+use crate::layout::Layout;
+use chain::{DataBlock, Place, data_of, next_fragment};
 use tally::{Tally, empty_tally};
 
 // The buffer, of one record, takes those that are cut. An accepted chain refuses nothing on the way, so each step may be
 // unwrapped.
-pub(crate) fn tally_records(
-    file: &[u8],
-    begin: Place,
-    id: &[u8; 4],
-    size: usize,
-    slot: Slot,
-    buffer: &mut [u8],
-) -> Tally
-    requires { Walked id.now file.now begin × (begin.position.0 ≡ 0) × Within size slot × (length buffer.old ≡ size) }
-    ensures { ((w : Walked id.now file.now begin) → result ≡ seen (visited slot) size empty_tally (joined file.now w.blocks) (length (joined file.now w.blocks) / size)) × Sane result × (result.records < few_records) }
+pub(crate) fn tally_records(file: &[u8], begin: Place, layout: Layout, buffer: &mut [u8]) -> Tally
+    requires { Walked id_dt file.now begin × (begin.position.0 ≡ 0) × (length buffer.old ≡ layout.size) }
+    ensures { ((w : Walked id_dt file.now begin) → result ≡ seen (visited layout.slot) layout.size empty_tally (joined file.now w.blocks) (length (joined file.now w.blocks) / layout.size)) × Sane result × (result.records < few_records) }
 {
     let mut place = begin;
     let mut tally = empty_tally();
     let mut fill = 0;
-    while let Some(fragment) = next_fragment(file, &mut place, id).unwrap() {
+    while let Some(fragment) = next_fragment(file, &mut place, &DataBlock::ID).unwrap() {
         let data = data_of(file, fragment.block);
-        let fed = feed(data, size, slot, tally, buffer, fill);
+        let fed = feed(data, layout, tally, buffer, fill);
         tally = fed.tally;
         fill = fed.fill;
     }

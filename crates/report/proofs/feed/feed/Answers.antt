@@ -8,27 +8,27 @@ use Rattle.report.proofs.feed.feed.Goals as goal
 pub returns-then-fill-eq0 : goal.returns-then-fill-eq0
 returns-then-fill-eq0 c =
     let a = c.args in
-    (none_waits (visited a.slot) a.size a.before _ a.buffer.now _ a.part.now a.fill _ c.if-fill-eq0.true c.feed_whole.ensures.0, c.feed_whole.ensures.1)
+    (none_waits (visited a.layout.slot) a.layout.size a.before _ a.buffer.now _ a.part.now a.fill _ c.if-fill-eq0.true c.feed_whole.ensures.0, c.feed_whole.ensures.1)
 
 pub returns-then-part-missing : goal.returns-then-part-missing
 returns-then-part-missing c =
     let a = c.args in
-    (more_fed (visited a.slot) a.size a.before a.buffer.now _ a.part.now a.fill c.requires.3 c.requires.4 c.if-part-missing.true c.copy_over.ensures, c.requires.1)
+    (more_fed (visited a.layout.slot) a.layout.size a.before a.buffer.now _ a.part.now a.fill c.requires.2 c.requires.3 c.if-part-missing.true c.copy_over.ensures, c.requires.0)
 
 pub run-tally-requires : goal.run-tally-requires
 run-tally-requires c =
     let a = c.args in
-    (c.requires.0, c.requires.1, omega (arith, c.requires.2), omega (arith, c.copy_over.auto, c.requires.3))
+    (c.requires.0, omega (arith, c.requires.1), omega (arith, c.copy_over.auto, c.requires.2))
 
 pub feed_whole-requires-2 : goal.feed_whole-requires-2
 feed_whole-requires-2 c =
     let a = c.args in
-    (c.requires.0, c.run-tally.ensures.1, fewer_left a.slot a.before _ c.copy_over.new.out a.part.now _ (seen_one (visited a.slot) a.size a.before _ c.copy_over.new.out (omega (arith, c.copy_over.auto, c.requires.3)) c.run-tally.ensures.0) c.requires.2, omega (arith, c.copy_over.auto, c.requires.3))
+    (c.run-tally.ensures.1, fewer_left a.layout.slot a.before _ c.copy_over.new.out a.part.now _ (seen_one (visited a.layout.slot) a.layout.size a.before _ c.copy_over.new.out (omega (arith, c.copy_over.auto, c.requires.2)) c.run-tally.ensures.0) c.requires.1, omega (arith, c.copy_over.auto, c.requires.2))
 
 pub returns : goal.returns
 returns c =
     let a = c.args in (
-      cut_fed (visited a.slot) a.size a.before _ _ a.buffer.now _ _ a.part.now _ a.fill _ (omega (arith, c.requires.0.flag)) c.requires.3 c.requires.4
-          c.if-part-missing.false c.copy_over.ensures (omega (arith, c.copy_over.auto, c.requires.3)) (seen_one (visited a.slot) a.size a.before _ c.copy_over.new.out (omega (arith, c.copy_over.auto, c.requires.3)) c.run-tally.ensures.0) (rest_is a.part.now _) c.feed_whole-2.ensures.0,
+      cut_fed (visited a.layout.slot) a.layout.size a.before _ _ a.buffer.now _ _ a.part.now _ a.fill _ (omega (arith, c.args.layout.within.flag)) c.requires.2 c.requires.3
+          c.if-part-missing.false c.copy_over.ensures (omega (arith, c.copy_over.auto, c.requires.2)) (seen_one (visited a.layout.slot) a.layout.size a.before _ c.copy_over.new.out (omega (arith, c.copy_over.auto, c.requires.2)) c.run-tally.ensures.0) (rest_is a.part.now _) c.feed_whole-2.ensures.0,
       c.feed_whole-2.ensures.1,
     )

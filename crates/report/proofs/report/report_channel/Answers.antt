@@ -53,20 +53,20 @@ returns-in_err-check_area c =
       tt,
     )
 
-pub nonzero_div-n : goal.nonzero_div-n
-nonzero_div-n c = (size_good c.args.record_size (length c.args.buffer.now) (sym c.bad_size.ensures ∙ c.if-bad_size.false)).0
+pub nonzero_div-asked : goal.nonzero_div-asked
+nonzero_div-asked c = (size_good c.args.record_size (length c.args.buffer.now) (sym c.bad_size.ensures ∙ c.if-bad_size.false)).0
 
-pub slice_bounds-report_records-end : goal.slice_bounds-report_records-end
-slice_bounds-report_records-end c = (size_good c.args.record_size (length c.args.buffer.now) (sym c.bad_size.ensures ∙ c.if-bad_size.false)).1
+pub slice_bounds-line_and_last-end : goal.slice_bounds-line_and_last-end
+slice_bounds-line_and_last-end c = (size_good c.args.record_size (length c.args.buffer.now) (sym c.bad_size.ensures ∙ c.if-bad_size.false)).1
 
 -- the front of the buffer is as long as a record
-pub slice_bounds-report_records-end-2 : goal.slice_bounds-report_records-end-2
-slice_bounds-report_records-end-2 c = sym (length-take-le _ _ (size_good c.args.record_size (length c.args.buffer.now) (sym c.bad_size.ensures ∙ c.if-bad_size.false)).1)
+pub slice_bounds-line_and_last-end-2 : goal.slice_bounds-line_and_last-end-2
+slice_bounds-line_and_last-end-2 c = sym (length-take-le _ _ (size_good c.args.record_size (length c.args.buffer.now) (sym c.bad_size.ensures ∙ c.if-bad_size.false)).1)
 
 -- the walk begins where the data does, with so many whole records; 28 and 29 are passed
-pub report_records-report-requires : goal.report_records-report-requires
+pub line_and_last-report-requires : goal.line_and_last-report-requires
 unfolding data_length
-report_records-report-requires c =
+line_and_last-report-requires c =
     let a = c.args in
     let front = length-take-le _ _ (size_good a.record_size (length a.buffer.now) (sym c.bad_size.ensures ∙ c.if-bad_size.false)).1 in
     let total : data_length c.args.file.now c.args.start.0 ≡ answer c.in_ok-located.located.total.0 = sym c.in_ok-located.ensures.replied in
@@ -96,8 +96,8 @@ returns c =
     ap₂ (λ (n size : ℕ). n / size) (sym whole.3) (sym front) in
     let j = joined a.file.now whole.1 in
     let k = c.in_ok-located.located.total.0 / a.record_size in
-    let line = c.report_records-report.ensures walked records in
-    lined_back c.lined.result c.report_records-report.result c.lined.ensures
+    let line = c.line_and_last-report.ensures walked records in
+    lined_back c.lined.result c.line_and_last-report.result c.lined.ensures
     (report_line a.file.now a.start.0 a.record_size g ch a.buffer.now (sym c.bad_size.ensures ∙ c.if-bad_size.false) _ total (sym c.is_fixed_number.ensures ∙ c.if-not-is_fixed_number.false)
     (sym c.in_ok-check_area.ensures) k (ap (λ (n : ℕ). n / a.record_size) (sym whole.3)) _ _
     (line.0 ∙ ap (λ (size : ℕ). report_of (readings g ch (first_records k size j))) front)

@@ -6,7 +6,7 @@ use Rattle.report.specs.Visits.{seen, visited}
 use Rattle.report.proofs.run.run.Given as goal
 
 abbrev pub invariant-loop-i : goal.invariant-loop-i
-invariant-loop-i l = (l.i ≤ l.n) × (l.tally ≡ seen (visited l.rows.slot) l.rows.size l.initial.tally l.rows.records.now l.i) × Sane l.tally
+invariant-loop-i l = (l.i ≤ l.n) × (l.tally ≡ seen (visited l.rows.layout.slot) l.rows.layout.size l.initial.tally l.rows.records.now l.i) × Sane l.tally
 
 abbrev pub decreases-loop-i : goal.decreases-loop-i
 decreases-loop-i l = l.n - l.i

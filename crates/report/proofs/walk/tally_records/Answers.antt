@@ -6,7 +6,7 @@ use mathlib.Core.List.{List}
 use Prim.Native.Nat.{◌/◌, ◌<◌}
 use native.Mathlib.Omega.{arith}
 use lib.ListN.{length}
-use Rattle.definitions.specs.Chain.{Block, joined}
+use Rattle.definitions.specs.Chain.{Block, id_dt, joined}
 use Rattle.places.specs.Meaning.{block_meant}
 use Rattle.chain.proofs.Readers.{still, step_answers, all_met}
 use Rattle.tally.specs.declared.tally.Tally.{Tally}
@@ -19,11 +19,11 @@ use Rattle.report.proofs.walk.tally_records.Goals as goal
 pub loop-fragment-init : goal.loop-fragment-init
 loop-fragment-init c =
     let a = c.args in
-    let some : 0 < a.size = omega (arith, c.requires.2.flag) in (
+    let some : 0 < a.layout.size = omega (arith, a.layout.within.flag) in (
       refl,
       sane_empty _ c.empty_tally-tally.ensures,
       some,
-      λ w. (w, refl, held_begin a.id.now a.file.now a.begin w (visited a.slot) a.size _ a.buffer.now some c.requires.1),
+      λ w. (w, refl, held_begin id_dt a.file.now a.begin w (visited a.layout.slot) a.layout.size _ a.buffer.now some c.requires.1),
     )
 
 pub next_fragment-requires : goal.next_fragment-requires
@@ -43,11 +43,10 @@ feed-fed-requires c =
     let a = c.args in
     let so = c.loop-fragment.invariant.3 c.requires.0 in
     let met = rw (c.unwrap.ensures ∙ ap Ok c.in-Some.is) at c.next_fragment.ensures _ _ so.0.at in (
-      c.requires.2,
       c.loop-fragment.invariant.1,
-      few_with a.id.now a.file.now _ so.0 a.slot a.size _ _ _ _ (ap (λ (t : Tally). t.records) c.empty_tally-tally.ensures) so.2 (block_meant c.in-Some.fragment.block)
+      few_with id_dt a.file.now _ so.0 a.layout.slot a.layout.size _ _ _ _ (ap (λ (t : Tally). t.records) c.empty_tally-tally.ensures) so.2 (block_meant c.in-Some.fragment.block)
           met.inside _ c.data_of-data.ensures,
-      c.loop-fragment.invariant.0 ∙ c.requires.3,
+      c.loop-fragment.invariant.0 ∙ c.requires.2,
       c.loop-fragment.invariant.2,
     )
 
@@ -66,7 +65,7 @@ loop-fragment-preserved c =
           let met = rw (c.unwrap.ensures ∙ ap Ok c.in-Some.is) at c.next_fragment.ensures _ _ v.at in (
             still _ _ _ v _ _ met.there,
             so.1,
-            held_behind a.id.now a.file.now _ v a.slot a.size _ _ _ _ (ap (λ (t : Tally). t.records) c.empty_tally-tally.ensures) so.2 (block_meant c.in-Some.fragment.block)
+            held_behind id_dt a.file.now _ v a.layout.slot a.layout.size _ _ _ _ (ap (λ (t : Tally). t.records) c.empty_tally-tally.ensures) so.2 (block_meant c.in-Some.fragment.block)
                 _ _ _ _ c.data_of-data.ensures c.feed-fed.ensures.0,
           ),
     )
@@ -79,9 +78,9 @@ returns c =
       (λ w.
           let now = c.loop-fragment.invariant.3 w in
           let end = rw (c.unwrap.ensures ∙ ap Ok c.in_default.is) at c.next_fragment.ensures _ _ now.0.at in
-          held_end (visited a.slot) a.size (omega (arith, c.requires.2.flag)) _ _ _ _ _ now.2
-          ∙ ap₂ (λ (t : Tally) (bs : List Block). seen (visited a.slot) a.size t (joined a.file.now bs) (length (joined a.file.now bs) / a.size)) c.empty_tally-tally.ensures
+          held_end (visited a.layout.slot) a.layout.size (omega (arith, a.layout.within.flag)) _ _ _ _ _ now.2
+          ∙ ap₂ (λ (t : Tally) (bs : List Block). seen (visited a.layout.slot) a.layout.size t (joined a.file.now bs) (length (joined a.file.now bs) / a.layout.size)) c.empty_tally-tally.ensures
           (all_met _ _ _ now.0 end.0 ∙ now.1)),
       c.loop-fragment.invariant.1,
-      few_met a.id.now a.file.now _ so.0 a.slot a.size _ _ _ _ (ap (λ (t : Tally). t.records) c.empty_tally-tally.ensures) so.2,
+      few_met id_dt a.file.now _ so.0 a.layout.slot a.layout.size _ _ _ _ (ap (λ (t : Tally). t.records) c.empty_tally-tally.ensures) so.2,
     )

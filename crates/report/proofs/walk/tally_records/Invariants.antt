@@ -3,7 +3,7 @@
 use mathlib.Core.Path.{◌≡◌}
 use Prim.Native.Nat.{◌<◌}
 use lib.ListN.{length}
-use Rattle.definitions.specs.Chain.{joined}
+use Rattle.definitions.specs.Chain.{id_dt, joined}
 use Rattle.chain.specs.Walk.{Walked, turns_left}
 use Rattle.tally.specs.Tallies.{Sane}
 use Rattle.report.specs.Visits.{Held, visited}
@@ -13,8 +13,8 @@ abbrev pub invariant-loop-fragment : goal.invariant-loop-fragment
 invariant-loop-fragment l =
     (length l.buffer ≡ length l.initial.buffer)
     × Sane l.tally
-    × (l.fill < l.size)
-    × ((w : Walked l.id l.file l.initial.place) → (v : Walked l.id l.file l.place) × (v.blocks ≡ w.blocks) × Held (visited l.slot) l.size l.initial.tally (joined l.file v.before) l.buffer l.tally l.fill)
+    × (l.fill < l.layout.size)
+    × ((w : Walked id_dt l.file l.initial.place) → (v : Walked id_dt l.file l.place) × (v.blocks ≡ w.blocks) × Held (visited l.layout.slot) l.layout.size l.initial.tally (joined l.file v.before) l.buffer l.tally l.fill)
 
 abbrev pub decreases-loop-fragment : goal.decreases-loop-fragment
 decreases-loop-fragment l = turns_left l.place

@@ -12,8 +12,8 @@ word_at-word-requires g c =
     let a = c.args in
     let rows = a.self.now in
     let long = sym c.record-record.ensures.1 in (
-      subst (λ (m : ℕ). Within m rows.slot) long rows.within,
-      subst (λ (m : ℕ). ShiftTold m rows.slot a.at a.shift) long c.requires.0.place,
+      subst (λ (m : ℕ). Within m rows.layout.slot) long rows.layout.within,
+      subst (λ (m : ℕ). ShiftTold m rows.layout.slot a.at a.shift) long c.requires.0.place,
       c.requires.2,
       c.requires.3,
     )
@@ -25,8 +25,8 @@ loop-i-preserved g c =
     let rows = a.self.now in
     let l = c.loop-i in
     elim c.if-is_valid_by.branch [
-      | then-is_valid_by+in-Some w ↦ row_valid rows.size rows.slot a.before rows.records.now a.first l.i l.tally l.invariant.0 l.invariant.1 c.if-is_valid_by.tally _ c.record-record.ensures.0 _ c.requires.2
+      | then-is_valid_by+in-Some w ↦ row_valid rows.layout.size rows.layout.slot a.before rows.records.now a.first l.i l.tally l.invariant.0 l.invariant.1 c.if-is_valid_by.tally _ c.record-record.ensures.0 _ c.requires.2
           (sym c.is_valid_by.ensures ∙ w.if-is_valid_by.true) w.word_at-word.ensures (omega arith) (w.tally-is ∙ w.in-Some.ensures)
-      | else-is_valid_by w ↦ row_invalid rows.size rows.slot a.before rows.records.now a.first l.i l.tally l.invariant.0 l.invariant.1 c.if-is_valid_by.tally _ c.record-record.ensures.0
+      | else-is_valid_by w ↦ row_invalid rows.layout.size rows.layout.slot a.before rows.records.now a.first l.i l.tally l.invariant.0 l.invariant.1 c.if-is_valid_by.tally _ c.record-record.ensures.0
           (sym c.is_valid_by.ensures ∙ w.if-is_valid_by.false) (w.tally-is ∙ w.skipped-tally.ensures)
     ]
