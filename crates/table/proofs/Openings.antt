@@ -1,33 +1,19 @@
 -- A table that is opened: cleared, and filled along a chain.
 use Rattle.std.specs.Prelude.{Ok, Err}
 use mathlib.Core.Path.{◌≡◌, refl, sym, ap, ◌∙◌}
-use mathlib.Core.List.{List, [], ◌∷◌, ◌++◌, append-nil}
-use Prim.Native.Nat.{ℕ, zero, suc, ◌+◌, ◌≤◌, ◌<◌}
+use mathlib.Core.List.{List, [], ◌∷◌, ◌++◌}
+use Prim.Native.Nat.{ℕ, ◌+◌, ◌≤◌, ◌<◌}
 use native.Mathlib.Omega.{arith}
-use lib.ListN.{length, get_or, set, drop, replicate, length-append}
-use lib.Seq.{drop-length}
+use lib.ListN.{length, replicate, length-append}
 use borrow.Author.Tests.{lt-ltb, le-ltb}
 use Rattle.definitions.specs.Chain.{Block, file_limit, id_dt, total}
 use Rattle.definitions.specs.Table.{table_limit, count_of, total_in, places_of, table_of, with_block, opened}
 use Rattle.definitions.proofs.Replies.{not_answered}
 use Rattle.refusals.specs.declared.Refusal.{Refusal}
-use Rattle.refusals.specs.declared.Refusal.TheVariants.{FileTooLong, TableFull}
 use Rattle.places.proofs.Answers.{answered}
 use Rattle.table.specs.Meaning.{changed_by}
 use Rattle.table.specs.Listed.{AddsWithin, added_within, Filled, Lists}
 use Rattle.table.proofs.Words.{one_more}
-
--- ---- words cleared
-
-pub clear_already : (w : List ℕ) (i : ℕ) → i < length w → get_or w i 0 ≡ 0 → w ≡ set w i 0
-clear_already [] i h e = let no : ⊥ = omega arith in absurd no
-clear_already (x ∷ xs) zero h e = ap (λ (y : ℕ). y ∷ xs) e
-clear_already (x ∷ xs) (suc i) h e = ap (λ (l : List ℕ). x ∷ l) (clear_already xs i (omega arith) e)
-
-pub all_cleared : (w v : List ℕ) (i : ℕ) → i ≤ length w → length w ≤ i → v ≡ replicate i 0 ++ drop i w → v ≡ replicate (length w) 0
-all_cleared w v i k h e =
-    let q : i ≡ length w = omega arith in
-    e ∙ ap (λ (j : ℕ). replicate j 0 ++ drop j w) q ∙ ap (λ (l : List ℕ). replicate (length w) 0 ++ l) (drop-length w) ∙ append-nil (replicate (length w) 0)
 
 empty_table : replicate 1026 0 ≡ table_of []
 unfolding places_of total
@@ -37,13 +23,6 @@ pub table_cleared : (w v : List ℕ) → length w ≡ 1026 → v ≡ replicate (
 table_cleared w v n e = e ∙ ap (λ (j : ℕ). replicate j 0) n ∙ empty_table
 
 -- ---- fragments added along the way
-
-module _ (i most : ℕ) (w : List ℕ) (b : Block) where
-  pub add_early : i < most → (v : List ℕ) → v ≡ with_block w b → v ≡ added_within i most w b
-  add_early h v e = e ∙ sym (rw (lt-ltb _ _ h) refl)
-
-  pub add_late : most ≤ i → w ≡ added_within i most w b
-  add_late h = sym (rw (le-ltb _ _ h) refl)
 
 pub filled_none : (most : ℕ) (w : List ℕ) → (0 < most → w ≡ table_of []) → Filled most [] w w
 filled_none most w e = record { none = λ z. refl; all = λ some few. e some }
@@ -63,34 +42,17 @@ module _ (most : ℕ) (bs : List Block) (w v : List ℕ) (fill : Filled most bs 
         e ∙ rw (lt-ltb _ _ l) (ap (λ (y : List ℕ). with_block y b) (fill.all some (omega arith)) ∙ one_more bs b (omega arith));
   }
 
--- ---- the ways through an opening
+-- ---- the second walk meets what the first did
 
-module _ (f : List ℕ) (start : ℕ) (w : List ℕ) where
-  pub open_long : file_limit < length f → changed_by (Err FileTooLong) w ≡ opened f start w
+module _ (f : List ℕ) (start : ℕ) (w v : List ℕ) (n : ℕ) (h : Lists (Ok n) id_dt f start 0 w v) where
+  pub open_done : length f ≤ file_limit → (k : ℕ) (e x : List ℕ) → n ≤ table_limit → Lists (Ok k) id_dt f start table_limit e x → changed_by (Ok tt) x ≡ opened f start w
   unfolding opened
-  open_long l = rw (lt-ltb _ _ l) refl
+  open_done l k e x m g =
+      let few : length h.0 ≤ table_limit = omega (arith, h.2) in
+      let same : g.0 ≡ h.0 = answered (sym g.1 ∙ h.1) in
+      let again : x ≡ table_of h.0 = g.3.all (omega arith) (omega (arith, h.2, ap length same)) ∙ ap table_of same in
+      ap (changed_by (Ok tt)) again ∙ sym (rw (le-ltb _ _ l, h.1, le-ltb _ _ few) refl)
 
-  module _ (l : length f ≤ file_limit) (v : List ℕ) where
-    pub open_refused_law : (r : Refusal) → Lists (Err r) id_dt f start 0 w v → changed_by (Err r) v ≡ opened f start w
-    unfolding opened
-    open_refused_law r h = ap (changed_by (Err r)) (h.1 refl) ∙ sym (rw (le-ltb _ _ l, h.0) refl)
-
-    module _ (n : ℕ) (h : Lists (Ok n) id_dt f start 0 w v) where
-      pub open_full : table_limit < n → changed_by (Err TableFull) v ≡ opened f start w
-      unfolding opened
-      open_full m =
-          let k : table_limit < length h.0 = omega (arith, h.2) in
-          ap (changed_by (Err TableFull)) (h.3.none refl) ∙ sym (rw (le-ltb _ _ l, h.1, lt-ltb _ _ k) refl)
-
-      -- the second walk meets the same blocks
-      pub open_done : (k : ℕ) (e x : List ℕ) → n ≤ table_limit → Lists (Ok k) id_dt f start table_limit e x → changed_by (Ok tt) x ≡ opened f start w
-      unfolding opened
-      open_done k e x m g =
-          let few : length h.0 ≤ table_limit = omega (arith, h.2) in
-          let same : g.0 ≡ h.0 = answered (sym g.1 ∙ h.1) in
-          let again : x ≡ table_of h.0 = g.3.all (omega arith) (omega (arith, h.2, ap length same)) ∙ ap table_of same in
-          ap (changed_by (Ok tt)) again ∙ sym (rw (le-ltb _ _ l, h.1, le-ltb _ _ few) refl)
-
-      -- so it is not refused
-      pub open_again : {A : Type 0} (r : Refusal) (e x : List ℕ) → Lists (Err r) id_dt f start table_limit e x → A
-      open_again r e x g = not_answered h.0 _ _ (sym g.0 ∙ h.1)
+  -- so it is not refused
+  pub open_again : {A : Type 0} (r : Refusal) (e x : List ℕ) → Lists (Err r) id_dt f start table_limit e x → A
+  open_again r e x g = not_answered h.0 _ _ (sym g.0 ∙ h.1)

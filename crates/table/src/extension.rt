@@ -9,6 +9,7 @@ use chain::{DataBlock, FileAddress, data_block_at};
 use places::FILE_LIMIT;
 use refusals::Refusal;
 
+#[tactic(auto, using(crate::proofs::Ordered::with_file), unfolding(definitions::specs::Table::extended))]
 pub fn extend_table(file: &[u8], address: FileAddress, table: &mut Table) -> Result<(), Refusal>
     ensures { changed_by result table.new ≡ extended file.now address.0 table.old }
 {

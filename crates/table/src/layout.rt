@@ -46,6 +46,7 @@ pub(crate) fn position_at(table: &Table, place: u64) -> DataPosition
 }
 
 // where a fragment's data begins, or behind the last one the end of all data
+#[tactic(auto, unfolding(definitions::specs::Table::begin_of))]
 pub(crate) fn begin_of(table: &Table, place: u64) -> DataPosition
     requires { count_of table.now ≤ table_limit }
     ensures { result.0 ≡ begin_of table.now place }
@@ -58,6 +59,7 @@ pub(crate) fn begin_of(table: &Table, place: u64) -> DataPosition
 }
 
 // a block into the first free place
+#[tactic(auto, unfolding(definitions::specs::Table::with_block))]
 pub(crate) fn add(table: &mut Table, block: DataBlock)
     requires { (count_of table.old < table_limit) × (total_in table.old + block.size < 18446744073709551616) }
     ensures { table.new ≡ with_block table.old (block_meant block) }

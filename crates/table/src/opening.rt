@@ -53,6 +53,7 @@ fn clear(words: &mut [u64])
 }
 
 // The chain is walked first without a table, so that a refusal leaves the table alone.
+#[tactic(auto, unfolding(definitions::specs::Table::opened))]
 pub fn open_table(file: &[u8], start: FileAddress, table: &mut Table) -> Result<(), Refusal>
     ensures { changed_by result table.new ≡ opened file.now start.0 table.old }
 {

@@ -8,6 +8,7 @@ use crate::soundness::can_be_right;
 use refusals::Refusal;
 
 // its place is cleared
+#[tactic(auto, unfolding(definitions::specs::Table::without_last))]
 fn drop_last(table: &mut Table)
     requires { (0 < count_of table.old) × (count_of table.old ≤ table_limit) }
     ensures { table.new ≡ without_last table.old }
@@ -20,6 +21,7 @@ fn drop_last(table: &mut Table)
     table[3 + last as usize * 2] = 0;
 }
 
+#[tactic(auto, using(crate::proofs::Ordered::without_file), unfolding(definitions::specs::Table::shortened))]
 pub fn shorten_table(table: &mut Table) -> Result<(), Refusal>
     ensures { changed_by result table.new ≡ shortened table.old }
 {

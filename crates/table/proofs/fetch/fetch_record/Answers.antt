@@ -6,18 +6,8 @@ use lib.Seq.{length-take-le}
 use borrow.Author.Tests.{ltb-false}
 use Rattle.records.proofs.Records.{size_good}
 use Rattle.table.proofs.Ordered.{with_file}
-use Rattle.table.proofs.Fetches.{table_bad, table_long, table_unsound, table_behind, table_within, table_record}
+use Rattle.table.proofs.Fetches.{table_behind, table_within, table_record}
 use Rattle.table.proofs.fetch.fetch_record.Goals as goal
-
-pub returns-then-bad_size : goal.returns-then-bad_size
-returns-then-bad_size c = table_bad _ _ _ _ _ (sym c.bad_size.ensures ∙ c.if-bad_size.true)
-
-pub returns-then-file-gt-FILE_LIMIT : goal.returns-then-file-gt-FILE_LIMIT
-returns-then-file-gt-FILE_LIMIT c = table_long _ _ _ _ _ (sym c.bad_size.ensures ∙ c.if-bad_size.false) c.if-file-gt-FILE_LIMIT.true
-
-pub returns-then-not-can_be_right : goal.returns-then-not-can_be_right
-returns-then-not-can_be_right c =
-    table_unsound _ _ _ _ _ (sym c.bad_size.ensures ∙ c.if-bad_size.false) c.if-file-gt-FILE_LIMIT.false _ c.can_be_right.ensures c.if-not-can_be_right.true
 
 pub ends_behind-requires : goal.ends_behind-requires
 ends_behind-requires c = (size_good c.args.record_size (length c.args.buffer.now) (sym c.bad_size.ensures ∙ c.if-bad_size.false)).0
