@@ -1,12 +1,12 @@
 -- What an answer tells of a list of the chain.
 use mathlib.Core.Path.{◌≡◌, refl, sym}
-use mathlib.Core.Bool.{true, not}
+use mathlib.Core.Bool.{true, false, not}
 use mathlib.Core.List.{List}
 use Prim.Native.Nat.{ℕ, ◌+◌, ◌*◌, ◌≤◌}
 use native.Mathlib.Omega.{arith}
 use lib.ListN.{length, drop}
 use lib.Dec.{ltb, eqb}
-use borrow.Author.Tests.{ltb-false, eqb-true, eqb-false, not-false}
+use borrow.Author.Tests.{ne_eqb, ltb-false, eqb-true, eqb-false, not-false}
 use Rattle.definitions.specs.Reply.{answer}
 use Rattle.definitions.specs.Bytes.{id_at}
 use Rattle.definitions.specs.Header.{Header, header_of}
@@ -15,6 +15,10 @@ use Rattle.definitions.specs.Chain.{fragment_limit, has_header, agrees, admitted
 use Rattle.blocks.proofs.Headers.{needed}
 use Rattle.definitions.proofs.Replies.{both}
 use Rattle.places.proofs.Answers.{passed, followed, answered}
+
+-- a list whose count is not that of its links does not agree with itself
+pub disagrees : (d : DataList) → (d.count ≡ d.links → ⊥) → false ≡ agrees d
+disagrees d h = rw (ne_eqb _ _ h)
 
 -- a list that is read lies in its bytes
 pub record Lies (s : List ℕ) (d : DataList) : Type 0 where

@@ -3,12 +3,13 @@ use Rattle.std.specs.Prelude.{if◌then◌else◌}
 use mathlib.Core.Path.{◌≡◌, refl, ap, ◌∙◌}
 use mathlib.Core.Bool.{Bool, true, false, ◌||◌}
 use mathlib.Core.List.{List, ◌++◌}
-use Prim.Native.Nat.{ℕ, ◌+◌, ◌*◌, ◌≤◌, ◌<◌}
+use Prim.Native.Nat.{ℕ, suc, ◌+◌, ◌*◌, ◌/◌, ◌≤◌, ◌<◌}
+use native.Mathlib.Nat.{le-div_iff_mul-le, div-lt_iff_lt-mul, suc-mul}
 use native.Mathlib.Omega.{arith}
 use lib.ListN.{length, take, drop}
 use lib.Seq.{length-take-le}
-use lib.Dec.{eqb, ltb}
-use borrow.Author.Tests.{ltb-false, eqb-false}
+use lib.Dec.{eqb, leb, ltb}
+use borrow.Author.Tests.{eq-eqb, ne_eqb, lt-ltb, le-leb, lt-leb, ltb-true, ltb-false, eqb-false}
 use Rattle.definitions.specs.Reply.{answer, refusal}
 use Rattle.definitions.specs.Bytes.{span}
 use Rattle.definitions.specs.Chain.{Block, file_limit, record_limit, id_dt, joined, chain_of, total_of, data_length, bad_size, record_of, fetched}
@@ -24,11 +25,45 @@ neither true b h = (h, cc)
 neither false b h = (refl, h)
 
 module _ (size room : ℕ) where
+  pub size_none : size ≡ 0 → true ≡ bad_size size room
+  size_none z = rw (eq-eqb _ _ z)
+
+  pub size_large : (size ≡ 0 → ⊥) → record_limit < size → true ≡ bad_size size room
+  size_large z l = rw (ne_eqb _ _ z, lt-ltb _ _ l)
+
   pub size_good : bad_size size room ≡ false → (0 < size) × (size ≤ room)
   size_good h =
       let fits = neither (eqb size 0 || ltb record_limit size) (ltb room size) h in
       let some = neither (eqb size 0) (ltb record_limit size) fits.0 in
       omega (arith, eqb-false size 0 some.0, ltb-false room size fits.1)
+
+-- ---- a record's end
+
+module _ (t k size : ℕ) (z : 0 < size) where
+  ends_by_law : (b : Bool) → ltb t (k * size + size) ≡ b → leb (t / size) k ≡ b
+  ends_by_law true e =
+      let h : t < suc k * size = omega (arith, suc-mul k size, ltb-true t (k * size + size) e) in
+      let q : t / size < suc k = (div-lt_iff_lt-mul {k = size} {x = t} {y = suc k} z).1 h in
+      le-leb (t / size) k (omega arith)
+  ends_by_law false e =
+      let h : suc k * size ≤ t = omega (arith, suc-mul k size, ltb-false t (k * size + size) e) in
+      let q : suc k ≤ t / size = (le-div_iff_mul-le {k = size} {x = suc k} {y = t} z).1 h in
+      lt-leb (t / size) k (omega arith)
+
+  pub ends_is : leb (t / size) k ≡ ltb t (k * size + size)
+  ends_is = ends_by_law (ltb t (k * size + size)) refl
+
+-- ---- a record's first byte
+
+module _ (last k size : ℕ) (z : 0 < size) where
+  pub first_past : (n : ℕ) → last / size < k → k * size ≤ last → n ≡ k * size
+  first_past n h l =
+      let m : last < k * size = (div-lt_iff_lt-mul {k = size} {x = last} {y = k} z).0 h in
+      let no : ⊥ = omega arith in
+      absurd no
+
+  pub first_fits : k ≤ last / size → k * size ≤ last
+  first_fits h = (le-div_iff_mul-le {k = size} {x = k} {y = last} z).0 h
 
 -- ---- the ways out
 

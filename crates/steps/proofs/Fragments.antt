@@ -1,15 +1,25 @@
--- What an answer tells of a fragment.
-use mathlib.Core.Path.{◌≡◌}
-use mathlib.Core.Bool.{not}
+-- The ways on which a fragment is refused, and what an answer tells of it.
+use mathlib.Core.Path.{◌≡◌, sym}
+use mathlib.Core.Bool.{false, not}
 use mathlib.Core.List.{List}
 use Prim.Native.Nat.{ℕ, ◌+◌, ◌*◌, ◌≤◌}
 use lib.ListN.{length}
-use Rattle.definitions.specs.Reply.{answer}
+use Rattle.definitions.specs.Reply.{answer, refusal}
 use Rattle.definitions.specs.Bytes.{u64_at}
 use Rattle.definitions.specs.DataList.{DataList}
 use Rattle.definitions.specs.Chain.{Block, block_at, declared, judged, fragment_of}
 use Rattle.places.proofs.Answers.{passed, followed, answered}
 use Rattle.places.proofs.Blocks.{block_stands}
+
+module _ (id f s : List ℕ) (d : DataList) (i p a : ℕ) (link : a ≡ u64_at s (d.links_at + i * 8)) where
+  pub fragment_refused_law : (n t : ℕ) → block_at id f a ≡ refusal n t → refusal n t ≡ fragment_of id f s d i p
+  unfolding fragment_of
+  fragment_refused_law n t h = rw (sym link, h)
+
+  module _ (b : Block) (h : block_at id f a ≡ answer b) where
+    pub fragment_untrue : declared s d i p b.size ≡ false → refusal 13 0 ≡ fragment_of id f s d i p
+    unfolding fragment_of
+    fragment_untrue t = rw (sym link, h, t)
 
 -- the block lies in the file
 pub fragment_inside : (id f s : List ℕ) (d : DataList) (i p : ℕ) (b : Block) → fragment_of id f s d i p ≡ answer b → b.address + 24 + b.size ≤ length f

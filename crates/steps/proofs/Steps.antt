@@ -7,7 +7,7 @@ use Prim.Native.Nat.{ℕ, ◌+◌, ◌≤◌, ◌<◌}
 use native.Mathlib.Omega.{arith}
 use lib.ListN.{drop}
 use lib.Dec.{leb, eqb}
-use borrow.Author.Tests.{eq-eqb, ne_eqb, lt-leb, leb-false}
+use borrow.Author.Tests.{eq-eqb, ne_eqb, lt-leb, le-leb, leb-false}
 use Rattle.definitions.specs.Reply.{Reply, answer, refusal, and_then}
 use Rattle.definitions.specs.DataList.{DataList}
 use Rattle.definitions.specs.Chain.{fragment_limit, list_limit, has_header, list_at, declaration_of, keeps_to, chained_at}
@@ -54,7 +54,15 @@ module _ (f : List ℕ) (p : Place) (k : ListKnown f p) where
 -- ---- the ways to the next list
 
 module _ (f : List ℕ) (p : Place) where
+  pub next_end : ended p ≡ true → answer (the_end p.position.0) ≡ next_of f p
+  unfolding next_of
+  next_end t = rw t
+
   module _ (t : ended p ≡ false) where
+    pub next_many : list_limit ≤ p.lists → refusal 8 0 ≡ next_of f p
+    unfolding next_of
+    next_many l = rw (t, le-leb _ _ l)
+
     module _ (l : p.lists < list_limit) where
       by_list : (r : Reply DataList) → r ≡ chained_at (declared_before f p) f (p.fragments + p.index) p.list.next.0
           → and_then r (λ d. answer (a_list (entered p d))) ≡ next_of f p
