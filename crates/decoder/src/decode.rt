@@ -138,6 +138,7 @@ fn judged(
 }
 
 // The crate's reading, by the general way: the short one is for the reading below, which is the one to use.
+#[tactic(auto, unfolding(definitions::specs::Channel::valid_value_of))]
 pub fn decode_channel_value_with_validity(
     record: &[u8],
     group: Group,
@@ -153,6 +154,7 @@ pub fn decode_channel_value_with_validity(
 }
 
 // The validity is an answer before the value is looked for: asked behind it, it cost every way to a value more.
+#[tactic(auto, unfolding(definitions::specs::Channel::bounded_value_of))]
 pub fn decode_channel_value_with_bounded_validity(
     record: &[u8],
     group: Group,
@@ -168,6 +170,7 @@ pub fn decode_channel_value_with_bounded_validity(
 }
 
 // The same by the general way, for callers that have done much already.
+#[tactic(auto, unfolding(definitions::specs::Channel::bounded_value_of))]
 pub fn any_bounded_value(
     record: &[u8],
     group: Group,

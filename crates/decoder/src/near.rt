@@ -98,7 +98,7 @@ pub(crate) fn channel_word(
 }
 
 // The class of a number of a width that has a value, and whether it is big-endian
-#[derive(Clone, Copy)]
+#[derive(Clone, Copy, Debug, PartialEq, Eq)]
 pub(crate) struct NumberForm {
     pub number: Number,
     pub big_endian: bool,

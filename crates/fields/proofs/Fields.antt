@@ -1,5 +1,5 @@
 -- The ways to a field, and to each refusal of one.
-use Rattle.std.specs.Prelude.{if◌then◌else◌, Result}
+use Rattle.std.specs.Prelude.{if◌then◌else◌}
 use mathlib.Core.Path.{◌≡◌, refl, sym, ap, ◌∙◌, subst}
 use mathlib.Core.Logic.{inl, inr}
 use mathlib.Core.Bool.{Bool, true, false, not, ◌&&◌, ◌||◌, true≢false}
@@ -14,13 +14,11 @@ use Rattle.definitions.specs.DataType.{Kind, integer, floating, whole, undecoded
 use Rattle.definitions.specs.Channel.{Channel, Value, decoded, is_number, is_integer, is_floating, bit_span, span_in, value_by}
 use Rattle.bit_fields.proofs.Bits.{field_below}
 use Rattle.definitions.specs.Bytes.{number_of, span, bytes_for, field_at}
-use Rattle.refusals.specs.declared.Refusal.{Refusal}
 use Rattle.fields.specs.Form.{order_meant, number_kind, content_kind, form_kind}
-use Rattle.fields.specs.Known.{value_at, FieldBounds, Sound, Valued, FieldTold, FieldPlaced, Fitting}
+use Rattle.fields.specs.Known.{value_at, FieldBounds, Sound, Valued, Fitting}
 use Rattle.fields.specs.declared.form.Number.{Number}
 use Rattle.fields.specs.declared.form.Number.TheVariants.{Float}
 use Rattle.fields.specs.declared.form.Content.{Content}
-use Rattle.fields.specs.declared.field.FieldSpan.{FieldSpan}
 use Rattle.fields.specs.declared.form.Form.{Form}
 use Rattle.fields.specs.declared.form.Form.TheVariants.{Number as numbered}
 use Rattle.fields.proofs.Forms.{is_number_law, number_span, other_number, other_integer, other_floating}
@@ -186,13 +184,6 @@ module _ {number : Number} {at n : ℕ} {s : List ℕ} {c : Channel} {a b d e f 
         value = by_tests ∙ rw (ea, eb, ed, ee, ef);
         sound = sound k false at n s c (t.span ∙ number_span number false (length s) c) some low (sym t.word ∙ ed) (sym t.end ∙ ee) (sym t.width ∙ ef);
       }
-
--- a number has the same span in a payload
-pub number_placed : (number : Number) (payload : Bool) (at : ℕ) (s : List ℕ) (c : Channel) {r : Result FieldSpan Refusal}
-    → FieldTold (number_kind number) (value_by (number_kind number) at (bit_span c) s c) s c r × FieldPlaced at (bit_span c) r
-    → FieldTold (number_kind number) (value_at (number_kind number) payload s at c) s c r × FieldPlaced at (span_in payload (number_kind number) (length s) c) r
-number_placed number payload at s c {r} h =
-    subst (λ (n : ℕ). FieldTold (number_kind number) (value_by (number_kind number) at n s c) s c r × FieldPlaced at n r) (number_span number payload (length s) c) h
 
 -- ---- what is no number
 

@@ -1,12 +1,8 @@
 -- The pattern of a float, by its width.
 use mathlib.Core.Path.{◌≡◌}
 use Prim.Native.Nat.{ℕ}
-use borrow.Author.Tests.{eq-eqb, ne_eqb}
-use Rattle.definitions.specs.Ieee754.{widened}
+use borrow.Author.Tests.{eq-eqb}
 use Rattle.definitions.specs.Channel.{float_bits}
 
 pub wide_float : (count x : ℕ) → count ≡ 64 → x ≡ float_bits count x
 wide_float count x e = rw (eq-eqb count 64 e)
-
-pub narrow_float : (count x : ℕ) {r : ℕ} → (count ≡ 64 → ⊥) → r ≡ widened x → r ≡ float_bits count x
-narrow_float count x other e = rw (ne_eqb count 64 other) e

@@ -2,7 +2,7 @@
 use mathlib.Core.Path.{◌≡◌, refl, sym, ◌∙◌}
 use mathlib.Core.Bool.{true, false}
 use mathlib.Core.List.{List, [], ◌∷◌}
-use Prim.Native.Nat.{ℕ, zero, suc, ◌+◌, ◌-◌, ◌/◌, ◌%◌, ◌≤◌, ◌<◌}
+use Prim.Native.Nat.{ℕ, zero, suc, ◌+◌, ◌-◌, ◌/◌, ◌%◌, ◌≤◌}
 use native.Mathlib.Nat.{not-suc-le-zero, le_of_suc-le-suc}
 use native.Mathlib.Omega.{arith}
 use lib.ListN.{length, get_or}
@@ -19,12 +19,6 @@ get_d_past (x ∷ s) (suc i) h = get_d_past s i (le_of_suc-le-suc h)
 
 -- by which of the tests it is past the end
 module _ (s : List ℕ) (skipped bytes place : ℕ) where
-  pub past_start : length s < skipped → 0 ≡ get_or s (skipped + bytes + place) 0
-  past_start h = sym (get_d_past s (skipped + bytes + place) (omega arith))
-
-  pub past_data : length s - skipped < bytes → 0 ≡ get_or s (skipped + bytes + place) 0
-  past_data h = sym (get_d_past s (skipped + bytes + place) (omega arith))
-
   pub past_place : length s - skipped - bytes ≤ place → 0 ≡ get_or s (skipped + bytes + place) 0
   past_place h = sym (get_d_past s (skipped + bytes + place) (omega arith))
 

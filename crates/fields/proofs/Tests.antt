@@ -20,12 +20,6 @@ outside length skipped offset span h l =
     (λ e. (let x : length < skipped + offset + span = ltb-true length (skipped + offset + span) e in omega arith))
     (λ e. (let x : skipped + offset + span ≤ length = ltb-false length (skipped + offset + span) e in omega arith))
 
-pub starts_outside : (length skipped offset span : ℕ) → length < skipped → true ≡ ltb length (skipped + offset + span)
-starts_outside length skipped offset span h = sym (lt-ltb length (skipped + offset + span) (omega arith))
-
-pub lies_outside : (length skipped offset span : ℕ) → length - skipped < offset → true ≡ ltb length (skipped + offset + span)
-lies_outside length skipped offset span h = sym (lt-ltb length (skipped + offset + span) (omega arith))
-
 -- one of two tests holds
 either : (a b : Bool) → not (a || b) ≡ false → (a ≡ true) ⊎ (b ≡ true)
 either true b e = inl refl

@@ -3,14 +3,10 @@ use Rattle.std.specs.Prelude.{if◌then◌else◌, Result, Ok, Err}
 use mathlib.Core.Path.{◌≡◌, refl, sym, ap, ap₂, ◌∙◌, subst}
 use mathlib.Core.Bool.{Bool, true, false}
 use mathlib.Core.List.{List}
-use Prim.Native.Nat.{ℕ, ◌+◌, ◌-◌}
-use native.Mathlib.Omega.{arith}
-use lib.ListN.{length, take, drop}
+use Prim.Native.Nat.{ℕ, ◌+◌}
 use Rattle.definitions.specs.Reply.{Reply, answer}
-use Rattle.definitions.specs.Bytes.{span}
-use Rattle.definitions.specs.Unicode.{Encoding, stopped}
 use Rattle.definitions.specs.DataType.{Kind, kind_of}
-use Rattle.definitions.specs.Channel.{Channel, Value, text, variable_length, start_of, value_of}
+use Rattle.definitions.specs.Channel.{Channel, Value, variable_length, start_of, value_of}
 use Rattle.refusals.specs.Meaning.{refused}
 use Rattle.refusals.specs.declared.Refusal.{Refusal}
 use Rattle.fields.specs.Form.{form_of, form_kind, form_value}
@@ -43,18 +39,9 @@ module _ {k : Kind} {reply : Reply Value} {s : List ℕ} {c : Channel} {found : 
   pub sound_at : {f : FieldSpan} → found ≡ Ok f → Sound k s f.at f.length c
   sound_at e = (subst (FieldCase k reply s c) e h.told).sound
 
-  -- a refusal is handed on
-  pub handed_on : {r : Refusal} {v : Reply Value} → found ≡ Err r → reply ≡ v → refused r ≡ v
-  handed_on e ev = sym (refused_as e) ∙ ev
-
   -- and a field gives the value that its form has
   pub valued : {f : FieldSpan} {form : Form} {x : Value} {v : Reply Value} → found ≡ Ok f → form ≡ form_of c.data_type
       → x ≡ form_value form s f.at f.length c → reply ≡ v → answer x ≡ v
   valued {f} e ef ex ev =
       ap answer (ex ∙ ap (λ (m : Form). form_value m s f.at f.length c) ef ∙ value_form c.data_type s f.at f.length c)
       ∙ sym (subst (FieldCase k reply s c) e h.told).value ∙ ev
-
--- a text stops in the part of the slice that is its span
-pub text_in : (e : Encoding) (s : List ℕ) (at n : ℕ) {stop : ℕ} → stop ≡ length (stopped e (take (at + n - at) (drop at s)))
-    → text at stop ≡ text at (length (stopped e (span s at n)))
-text_in e s at n h = ap (text at) (h ∙ ap (λ (m : ℕ). length (stopped e (take m (drop at s)))) {x = at + n - at} {y = n} (omega arith))

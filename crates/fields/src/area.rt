@@ -40,6 +40,7 @@ pub fn check_area(length: usize, group: Group, channel: Channel) -> Result<(), R
     Ok(())
 }
 
+#[tactic(auto, unfolding(definitions::specs::Channel::bounded_valid_of))]
 pub fn check_bounded_validity(
     record: &[u8],
     group: Group,

@@ -6,7 +6,7 @@ ghost use Rattle.fields.specs.Meaning.{channel_meant};
 use data_types::DataType;
 
 // What tells of the field, and then of its validity: a copy of the first part then loads no piece that was stored as two.
-#[derive(Clone, Copy)]
+#[derive(Clone, Copy, Debug, PartialEq, Eq)]
 pub struct Channel {
     pub data_type: DataType,
     pub channel_type: u8,

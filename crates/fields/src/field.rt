@@ -46,6 +46,7 @@ pub fn is_well_described(number: Number, channel: Channel) -> bool
 }
 
 // A number's field, or the first cause to have none
+#[tactic(auto, unfolding(definitions::specs::Channel::value_by))]
 fn find_number(
     record: &[u8],
     start: FieldStart,

@@ -6,14 +6,14 @@ ghost use Rattle.fields.specs.Form.{form_of};
 use data_types::DataType;
 use encodings::Encoding;
 
-#[derive(Clone, Copy)]
+#[derive(Clone, Copy, Debug, PartialEq, Eq)]
 pub enum Number {
     Unsigned,
     Signed,
     Float,
 }
 
-#[derive(Clone, Copy)]
+#[derive(Clone, Copy, Debug, PartialEq, Eq)]
 pub enum Content {
     Text(Encoding),
     ByteArray,
@@ -22,7 +22,7 @@ pub enum Content {
     Undecoded,
 }
 
-#[derive(Clone, Copy)]
+#[derive(Clone, Copy, Debug, PartialEq, Eq)]
 pub enum Form {
     // whether its bytes are big-endian
     Number(Number, bool),

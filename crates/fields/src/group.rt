@@ -1,6 +1,6 @@
 // What is known of the group that a channel belongs to.
 
-#[derive(Clone, Copy)]
+#[derive(Clone, Copy, Debug, PartialEq, Eq)]
 pub struct Group {
     // the bytes of the id in front of each record
     pub record_id_size: usize,

@@ -31,6 +31,7 @@ fn byte_after(record: &[u8], group: Group, place: u32) -> u64
 }
 
 // The crate's reading: a bit that is not in the slice is clear, wherever the group's records end.
+#[tactic(auto, unfolding(definitions::specs::Channel::valid_of))]
 pub fn check_value_validity(record: &[u8], group: Group, channel: Channel) -> bool
     ensures { result ≡ valid_of «record».now (group_meant group) (channel_meant channel) }
 {

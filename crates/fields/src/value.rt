@@ -1,7 +1,7 @@
 // The answers: a value, or a value with its validity.
 
 // `at` and `length` are a place in the slice; `bits` is the pattern of the double beside it, which tells NaNs apart.
-#[derive(Clone, Copy)]
+#[derive(Clone, Copy, Debug, PartialEq)]
 pub enum DecodedValue {
     UnsignedInteger(u64),
     SignedInteger(i64),
@@ -13,7 +13,7 @@ pub enum DecodedValue {
     Unknown,
 }
 
-#[derive(Clone, Copy)]
+#[derive(Clone, Copy, Debug, PartialEq)]
 pub struct DecodedChannelValue {
     pub value: DecodedValue,
     pub is_valid: bool,

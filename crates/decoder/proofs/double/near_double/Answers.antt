@@ -11,30 +11,12 @@ use Rattle.fields.specs.declared.form.Content.TheVariants.{Text, ByteArray, Mime
 use Rattle.fields.specs.declared.form.Form.TheVariants.{Other}
 use Rattle.decoder.proofs.Doubles.{double_other}
 use Rattle.fields.specs.Form.{form_of}
-use Rattle.decoder.proofs.WordFields.{field_small, integer_fitting, integer_double, float_double}
+use Rattle.decoder.proofs.WordFields.{integer_double, float_double}
 use Rattle.decoder.proofs.double.near_double.Goals as goal
 
 -- the form of the type that the channel has
 form : {type t : DataType} → type ≡ t → form_of (type_meant type) ≡ form_of (type_meant t)
 form e = ap (λ (t : DataType). form_of (type_meant t)) e
-
-pub unsigned_double-requires : goal.unsigned_double-requires
-unsigned_double-requires c = integer_fitting _ _ _ c.requires false c.number.ensures Unsigned (form c.in-UnsignedIntegerLE.is) refl
-
-pub unsigned_double-requires-in-UnsignedIntegerBE : goal.unsigned_double-requires-in-UnsignedIntegerBE
-unsigned_double-requires-in-UnsignedIntegerBE c = integer_fitting _ _ _ c.requires true c.number-in-UnsignedIntegerBE.ensures Unsigned (form c.in-UnsignedIntegerBE.is) refl
-
-pub signed_double-requires : goal.signed_double-requires
-signed_double-requires c = integer_fitting _ _ _ c.requires false c.number-in-SignedIntegerLE.ensures Signed (form c.in-SignedIntegerLE.is) refl
-
-pub signed_double-requires-in-SignedIntegerBE : goal.signed_double-requires-in-SignedIntegerBE
-signed_double-requires-in-SignedIntegerBE c = integer_fitting _ _ _ c.requires true c.number-in-SignedIntegerBE.ensures Signed (form c.in-SignedIntegerBE.is) refl
-
-pub near_float-requires : goal.near_float-requires
-near_float-requires c = field_small _ _ _ c.requires false c.number-in-FloatLE.ensures
-
-pub near_float-requires-in-FloatBE : goal.near_float-requires-in-FloatBE
-near_float-requires-in-FloatBE c = field_small _ _ _ c.requires true c.number-in-FloatBE.ensures
 
 pub returns-in-UnsignedIntegerLE : goal.returns-in-UnsignedIntegerLE
 returns-in-UnsignedIntegerLE c =
