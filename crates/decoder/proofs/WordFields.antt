@@ -20,8 +20,8 @@ use Rattle.fields.specs.declared.form.Form.TheVariants.{Number}
 use Rattle.decoder.specs.Meaning.{number_double}
 use Rattle.decoder.specs.Known.{Held, HeldOf, Near, Sized, InWord}
 use Rattle.fields.proofs.Forms.{number_kinds, number_span}
-use Rattle.fields.proofs.Fields.{no_float_width, found, fitting}
-use Rattle.fields.proofs.Values.{looked_for, sound_at, valued}
+use Rattle.fields.proofs.Fields.{no_float_width, found}
+use Rattle.fields.proofs.Values.{looked_for, valued}
 use Rattle.decoder.proofs.Doubles.{double_found, double_fixed}
 use Rattle.bit_fields.proofs.Bits.{field_below}
 use Rattle.words.proofs.Numbers.{Bytes}
@@ -103,9 +103,6 @@ module _ (s : List ℕ) (id_size : ℕ) (c : Channel) {number : numbers.Number} 
   field_told : FieldTold (number_kind number) (value_of s id_size c) s c (Ok (record { at = id_size + c.byte_offset; length = bit_span c }))
   field_told = near_found s id_size c in_sight number big sized.form sized.width
 
-  pub word_number : InWord number from c.bit_count
-  word_number = record { some = held.some; ends = held.held.ends; width = (sound_at field_told refl).width }
-
   pub near_valued : {v : Value} → v ≡ number_value number c.bit_count (field_at (order_meant big) (le 8 word) (from / 8) (from % 8) c.bit_count) → answer v ≡ value_of s id_size c
   near_valued ev =
       valued field_told refl (sym sized.form) (ev ∙ ap (number_value number c.bit_count) (is_field s id_size c in_sight big refl)) refl
@@ -139,9 +136,6 @@ module _ (s : List ℕ) (id_size : ℕ) (c : Channel) {word from : ℕ} (near : 
     module _ (integral : is_floating (number_kind number) ≡ false) where
       any_width : is_floating (number_kind number) && not (eqb c.bit_count 32 || eqb c.bit_count 64) ≡ false
       any_width = rw integral
-
-      pub integer_fitting : Fitting number c.bit_count x
-      integer_fitting = fitting number big s (id_size + c.byte_offset) (bit_span c) c (sound_at (near_found s id_size c near number big e any_width) refl) the_field
 
       pub integer_double : {r : ℕ} → r ≡ number_double number c.bit_count x → r ≡ record_double s id_size c
       integer_double er = number_double_law any_width er
