@@ -2,20 +2,19 @@
 use mathlib.Core.List.{List}
 use Prim.Native.Nat.{ℕ}
 use contract.Lifetimes.{Lfts}
+use Rattle.std.specs.Prelude.{Result}
 use Rattle.definitions.specs.Unicode as unicode
 use Rattle.definitions.specs.DataList.{equal, variable}
+use Rattle.refusals.specs.declared.Refusal.{Refusal}
 use Rattle.blocks.specs.Meaning.{header_reply, header_meant, written_reply, list_reply}
 use Rattle.blocks.specs.declared.header.BlockHeader.{BlockHeader}
-use Rattle.blocks.specs.declared.header.HeaderRead.{HeaderRead}
-use Rattle.blocks.specs.declared.data_list.ListRead.{ListRead}
-use Rattle.blocks.specs.declared.written.Written.{Written}
+use Rattle.blocks.specs.declared.data_list.DataListBlock.{DataListBlock}
 use Rattle.channels.specs.Meaning.{channel_block_reply, channel_block_meant}
 use Rattle.channels.specs.declared.channel_block.ChannelBlock.{ChannelBlock}
-use Rattle.channels.specs.declared.channel_block.ChannelRead.{ChannelRead}
 use Rattle.encodings.specs.Meaning.{encoding_of}
 use Rattle.text.specs.Meaning.{text_reply}
 use Rattle.encodings.specs.declared.encoding.Encoding.{Encoding}
-use Rattle.text.specs.declared.answer.TextWrite.{TextWrite}
+use Rattle.text.specs.declared.answer.TextWritten.{TextWritten}
 use Rattle.block_replies.specs.Replies.{header_given}
 use Rattle.block_replies.specs.Channels.{block_given}
 use Rattle.block_replies.specs.declared.header.Mf4Header.{Mf4Header}
@@ -37,35 +36,35 @@ use Rattle.theorems.proofs.Blocks.BlockCauses.{header_refused_law, list_refused_
 
 -- ---- read
 
-pub header_read_refused : (κs : Lfts 1) (bytes : Slice) (y : HeaderRead) → ReadsHeader κs bytes y → RefusedExactly (header_refused bytes.now) (header_reply y)
+pub header_read_refused : (κs : Lfts 1) (bytes : Slice) (y : Result BlockHeader Refusal) → ReadsHeader κs bytes y → RefusedExactly (header_refused bytes.now) (header_reply y)
 header_read_refused κs bytes y p = as_is p (header_refused_law bytes.now)
 
-pub list_read_refused : (κs : Lfts 1) (bytes : Slice) (y : ListRead) → ReadsList κs bytes y → RefusedExactly (list_refused bytes.now) (list_reply y)
+pub list_read_refused : (κs : Lfts 1) (bytes : Slice) (y : Result DataListBlock Refusal) → ReadsList κs bytes y → RefusedExactly (list_refused bytes.now) (list_reply y)
 list_read_refused κs bytes y p = as_is p (list_refused_law bytes.now)
 
-pub channel_read_refused : (κs : Lfts 1) (bytes : Slice) (y : ChannelRead) → ReadsChannel κs bytes y → RefusedExactly (channel_refused bytes.now) (channel_block_reply y)
+pub channel_read_refused : (κs : Lfts 1) (bytes : Slice) (y : Result ChannelBlock Refusal) → ReadsChannel κs bytes y → RefusedExactly (channel_refused bytes.now) (channel_block_reply y)
 channel_read_refused κs bytes y p = as_is p (channel_refused_law bytes.now)
 
 -- ---- written
 
-pub header_write_refused : (κs : Lfts 1) (header : BlockHeader) (out : Room) (y : Written) (after : List ℕ)
+pub header_write_refused : (κs : Lfts 1) (header : BlockHeader) (out : Room) (y : Result ℕ Refusal) (after : List ℕ)
     → WritesHeader κs header out y after → RefusedExactly (header_unwritten out.now) (written_reply y)
 header_write_refused κs header out y after p = as_is (of_outcome p) (header_written_refused out.now (header_meant header))
 
-pub list_equal_refused : (κs : Lfts 2) (next : ℕ) (links : Slice) (length : ℕ) (out : Room) (y : Written) (after : List ℕ)
+pub list_equal_refused : (κs : Lfts 2) (next : ℕ) (links : Slice) (length : ℕ) (out : Room) (y : Result ℕ Refusal) (after : List ℕ)
     → WritesEqual κs next links length out y after → RefusedExactly (list_unwritten out.now links.now (equal length)) (written_reply y)
 list_equal_refused κs next links length out y after p = as_is (of_outcome p) (list_written_refused out.now next links.now (equal length))
 
-pub list_variable_refused : (κs : Lfts 3) (next : ℕ) (links offsets : Slice) (out : Room) (y : Written) (after : List ℕ)
+pub list_variable_refused : (κs : Lfts 3) (next : ℕ) (links offsets : Slice) (out : Room) (y : Result ℕ Refusal) (after : List ℕ)
     → WritesVariable κs next links offsets out y after → RefusedExactly (list_unwritten out.now links.now (variable offsets.now)) (written_reply y)
 list_variable_refused κs next links offsets out y after p =
     as_is (of_outcome p) (list_written_refused out.now next links.now (variable offsets.now))
 
-pub channel_write_refused : (κs : Lfts 1) (block : ChannelBlock) (out : Room) (y : Written) (after : List ℕ)
+pub channel_write_refused : (κs : Lfts 1) (block : ChannelBlock) (out : Room) (y : Result ℕ Refusal) (after : List ℕ)
     → WritesChannel κs block out y after → RefusedExactly (channel_unwritten out.now) (written_reply y)
 channel_write_refused κs block out y after p = as_is (of_outcome p) (channel_written_refused out.now (channel_block_meant block))
 
-pub text_write_refused : (κs : Lfts 2) (encoding : Encoding) (bytes : Slice) (out : Room) (y : TextWrite) (after : List ℕ)
+pub text_write_refused : (κs : Lfts 2) (encoding : Encoding) (bytes : Slice) (out : Room) (y : Result TextWritten Refusal) (after : List ℕ)
     → WritesText κs encoding bytes out y after → RefusedExactly (text_unwritten out.now (encoding_of encoding) bytes.now) (text_reply y)
 text_write_refused κs encoding bytes out y after p = as_is (of_outcome p) (text_written_refused out.now (encoding_of encoding) bytes.now)
 

@@ -5,23 +5,22 @@ use mathlib.Core.Bool.{true}
 use Prim.Native.Nat.{ℕ, ◌^◌, ◌<◌}
 use contract.Lifetimes.{Lfts}
 use lib.ListN.{take}
+use Rattle.std.specs.Prelude.{Result}
 use Rattle.definitions.specs.Reply.{Outcome, answer}
 use Rattle.definitions.specs.DataType.{type_of, code_of, owns_code}
 use Rattle.definitions.specs.ChannelBlock as channels
 use Rattle.definitions.specs.DataList.{DataList, Lengths, equal, variable, flags_for, rest_for, list_written}
 use Rattle.definitions.proofs.Types.{type_back_law}
+use Rattle.refusals.specs.declared.Refusal.{Refusal}
 use Rattle.words.proofs.Numbers.{Bytes}
 use Rattle.data_types.specs.Meaning.{type_meant}
 use Rattle.blocks.specs.Meaning.{header_reply, header_meant, written_reply, list_reply}
 use Rattle.channels.specs.Meaning.{channel_block_meant, channel_block_reply}
 use Rattle.blocks.specs.declared.header.BlockHeader.{BlockHeader}
-use Rattle.blocks.specs.declared.header.HeaderRead.{HeaderRead}
 use Rattle.data_types.specs.declared.data_type.DataType.{DataType}
 use Rattle.data_types.specs.declared.data_type.DataType.TheVariants.{Unknown}
-use Rattle.blocks.specs.declared.data_list.ListRead.{ListRead}
+use Rattle.blocks.specs.declared.data_list.DataListBlock.{DataListBlock}
 use Rattle.channels.specs.declared.channel_block.ChannelBlock.{ChannelBlock}
-use Rattle.channels.specs.declared.channel_block.ChannelRead.{ChannelRead}
-use Rattle.blocks.specs.declared.written.Written.{Written}
 use Rattle.data_types.proofs.Back.{type_one}
 use Rattle.mf4.specs.Clauses.{Slice, Room}
 use Rattle.theorems.specs.Clauses.{ReadsHeader, WritesHeader, ReadsType, GivesCode, ReadsChannel, WritesChannel, ReadsList, WritesEqual, WritesVariable}
@@ -33,7 +32,7 @@ use Rattle.theorems.proofs.Blocks.ChannelReadWritten.{PlainBlock}
 use Rattle.theorems.proofs.Blocks.ListWrittenRead.{list_from}
 use Rattle.theorems.proofs.Blocks.RoundTripsInBuffers.{WrittenInto, header_back_law, header_again_law, channel_back_law, channel_again_law, channel_again_plain, ListBack, WrittenFrom, one_word, list_back, list_again_law}
 
-into : (y : Written) (after : List ℕ) (o : Outcome ℕ) → record { reply = written_reply y; buffer = after } ≡ o → (n : ℕ) → written_reply y ≡ answer n → WrittenInto after o
+into : (y : Result ℕ Refusal) (after : List ℕ) (o : Outcome ℕ) → record { reply = written_reply y; buffer = after } ≡ o → (n : ℕ) → written_reply y ≡ answer n → WrittenInto after o
 into y after o p n e = record { count = n; answers = sym (ap (λ (x : Outcome ℕ). x.reply) p) ∙ e; left = ap (λ (x : Outcome ℕ). x.buffer) p }
 
 -- ---- a type
@@ -58,8 +57,8 @@ module _ (ws rs : Lfts 0) (t : DataType) (code : ℕ) (z : DataType) (gave : Giv
 
 -- ---- a header
 
-module _ (ws rs : Lfts 1) (header : BlockHeader) (out : Room) (y : Written) (after : List ℕ) (n : ℕ)
-    (wrote : WritesHeader ws header out y after) (answers : written_reply y ≡ answer n) (bytes : Slice) (z : HeaderRead) (read : ReadsHeader rs bytes z) where
+module _ (ws rs : Lfts 1) (header : BlockHeader) (out : Room) (y : Result ℕ Refusal) (after : List ℕ) (n : ℕ)
+    (wrote : WritesHeader ws header out y after) (answers : written_reply y ≡ answer n) (bytes : Slice) (z : Result BlockHeader Refusal) (read : ReadsHeader rs bytes z) where
   pub header_read_back_law : Fits (header_meant header) → bytes.now ≡ after → header_reply z ≡ answer (header_meant header)
   header_read_back_law fits same = read ∙ header_back_law out.now (header_meant header) after (into y after _ wrote n answers) fits bytes.now same
 
@@ -68,8 +67,8 @@ module _ (ws rs : Lfts 1) (header : BlockHeader) (out : Room) (y : Written) (aft
 
 -- ---- a channel block
 
-module _ (ws rs : Lfts 1) (block : ChannelBlock) (out : Room) (y : Written) (after : List ℕ) (n : ℕ)
-    (wrote : WritesChannel ws block out y after) (answers : written_reply y ≡ answer n) (bytes : Slice) (z : ChannelRead) (read : ReadsChannel rs bytes z) where
+module _ (ws rs : Lfts 1) (block : ChannelBlock) (out : Room) (y : Result ℕ Refusal) (after : List ℕ) (n : ℕ)
+    (wrote : WritesChannel ws block out y after) (answers : written_reply y ≡ answer n) (bytes : Slice) (z : Result ChannelBlock Refusal) (read : ReadsChannel rs bytes z) where
   abbrev b : channels.ChannelBlock
   b = channel_block_meant block
 
@@ -88,13 +87,13 @@ module _ (ws rs : Lfts 1) (block : ChannelBlock) (out : Room) (y : Written) (aft
 -- what reading gives of the bytes that were left
 abbrev pub ReadBack : Lfts 1 → ℕ → List ℕ → Lengths → List ℕ → Type 0
 ReadBack rs next links l after =
-    (bytes : Slice) (z : ListRead) → ReadsList rs bytes z → bytes.now ≡ after
+    (bytes : Slice) (z : Result DataListBlock Refusal) → ReadsList rs bytes z → bytes.now ≡ after
     → (list_reply z ≡ answer (list_from next links (flags_for l) (rest_for l))) × ListBack next links l bytes.now
 
 -- where a list that was read is written
 abbrev pub WrittenAgain : Lfts 1 → ℕ → List ℕ → Lengths → List ℕ → Type 0
 WrittenAgain rs next links l after =
-    (bytes : Slice) (z : ListRead) (d : DataList) → ReadsList rs bytes z → list_reply z ≡ answer d → Bytes bytes.now → WrittenFrom bytes.now d next links l
+    (bytes : Slice) (z : Result DataListBlock Refusal) (d : DataList) → ReadsList rs bytes z → list_reply z ≡ answer d → Bytes bytes.now → WrittenFrom bytes.now d next links l
     → take d.header.block_length after ≡ take d.header.block_length bytes.now
 
 module _ (rs : Lfts 1) (out : List ℕ) (next : ℕ) (links : List ℕ) (l : Lengths) (after : List ℕ) (w : WrittenInto after (list_written out next links l)) where
@@ -104,7 +103,7 @@ module _ (rs : Lfts 1) (out : List ℕ) (next : ℕ) (links : List ℕ) (l : Len
   written_again_law : WrittenAgain rs next links l after
   written_again_law bytes z d read e b f = list_again_law out next links l after w bytes.now d b (sym read ∙ e) f
 
-module _ (ws : Lfts 2) (rs : Lfts 1) (next : ℕ) (links : Slice) (size : ℕ) (out : Room) (y : Written) (after : List ℕ) (n : ℕ)
+module _ (ws : Lfts 2) (rs : Lfts 1) (next : ℕ) (links : Slice) (size : ℕ) (out : Room) (y : Result ℕ Refusal) (after : List ℕ) (n : ℕ)
     (wrote : WritesEqual ws next links size out y after) (answers : written_reply y ≡ answer n) where
   pub equal_read_back : next < 2 ^ 64 → Words links.now → size < 2 ^ 64 → ReadBack rs next links.now (equal size) after
   equal_read_back a b c = read_back rs out.now next links.now (equal size) after (into y after _ wrote n answers) a b (one_word size c)
@@ -112,7 +111,7 @@ module _ (ws : Lfts 2) (rs : Lfts 1) (next : ℕ) (links : Slice) (size : ℕ) (
   pub equal_written_again : WrittenAgain rs next links.now (equal size) after
   equal_written_again = written_again_law rs out.now next links.now (equal size) after (into y after _ wrote n answers)
 
-module _ (ws : Lfts 3) (rs : Lfts 1) (next : ℕ) (links offsets : Slice) (out : Room) (y : Written) (after : List ℕ) (n : ℕ)
+module _ (ws : Lfts 3) (rs : Lfts 1) (next : ℕ) (links offsets : Slice) (out : Room) (y : Result ℕ Refusal) (after : List ℕ) (n : ℕ)
     (wrote : WritesVariable ws next links offsets out y after) (answers : written_reply y ≡ answer n) where
   pub variable_read_back : next < 2 ^ 64 → Words links.now → Words offsets.now → ReadBack rs next links.now (variable offsets.now) after
   variable_read_back = read_back rs out.now next links.now (variable offsets.now) after (into y after _ wrote n answers)

@@ -7,19 +7,20 @@ use native.Mathlib.Omega.{arith}
 use contract.Lifetimes.{Lfts}
 use borrow.Fn.Kinds.{In, Out}
 use lib.ListN.{length}
+use Rattle.std.specs.Prelude.{Result}
+use Rattle.refusals.specs.declared.Refusal.{Refusal}
 use Rattle.blocks.specs.declared.header.BlockHeader.{BlockHeader}
 use Rattle.data_types.specs.declared.data_type.DataType.{DataType}
-use Rattle.blocks.specs.declared.written.Written.{Written}
 use Rattle.blocks.proofs.header.BlockHeader.to_bytes.Kinds as header_write
 use Rattle.data_types.proofs.data_type.DataType.to_u8.Kinds as type_code
 use Rattle.mf4.specs.Clauses.{Room}
 use Rattle.theorems.specs.Sole.{Clause, Settled}
 
 -- of a call that is lent a buffer, with the kinds of BlockHeader::to_bytes: the result is y, and the buffer may hold anything
-abbrev only_result : Written → Out 1 header_write.ps header_write.r
+abbrev only_result : Result ℕ Refusal → Out 1 header_write.ps header_write.r
 only_result y κs a x e = x ≡ y
 
-pub buffer_open : (asked : In 1 header_write.ps) (ensures : Clause 1 header_write.ps header_write.r) (κs : Lfts 1) (header : BlockHeader) (out : Room) (y : Written)
+pub buffer_open : (asked : In 1 header_write.ps) (ensures : Clause 1 header_write.ps header_write.r) (κs : Lfts 1) (header : BlockHeader) (out : Room) (y : Result ℕ Refusal)
     → Settled 1 header_write.ps header_write.r asked ensures (only_result y) → ⊥
 buffer_open asked ensures κs header out y h =
     let one = h.sole κs (header, (out, tt)) y y (tt, ([], tt)) (tt, (0 ∷ [], tt)) refl refl in

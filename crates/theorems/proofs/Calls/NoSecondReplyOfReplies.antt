@@ -1,15 +1,15 @@
 -- No public function of `replies` has a second result: what C is told of an answer, and what is taken for what C gives.
 use mathlib.Core.Path.{◌≡◌, refl, sym, ap, ◌∙◌}
+use Rattle.std.specs.Prelude.{Result, Ok}
 use Rattle.definitions.specs.Reply.{answer}
 use Rattle.definitions.specs.WrittenValue.{Given, given_unsigned, given_signed, given_double, given_other}
 use Rattle.definitions.proofs.Replies.{one_by}
+use Rattle.refusals.specs.declared.Refusal.{Refusal}
 use Rattle.blocks.specs.Meaning.{header_meant}
 use Rattle.blocks.specs.declared.header.BlockHeader.{BlockHeader}
 use Rattle.blocks.proofs.Back.{header_back}
 use Rattle.channels.specs.Meaning.{channel_block_meant}
 use Rattle.channels.specs.declared.channel_block.ChannelBlock.{ChannelBlock}
-use Rattle.channels.specs.declared.channel_block.ChannelRead.{ChannelRead}
-use Rattle.channels.specs.declared.channel_block.ChannelRead.TheVariants.{Block, Refused}
 use Rattle.channels.proofs.Back.{channel_one}
 use Rattle.fields.specs.Meaning.{group_meant}
 use Rattle.fields.specs.declared.group.Group.{Group}
@@ -86,13 +86,9 @@ number_back_law Other = refl
 number_given_one : (a b : NumberGiven) → given_meant a ≡ given_meant b → a ≡ b
 number_given_one = one_by given_meant number_back number_back_law
 
--- the block that was read; b where none was
-abbrev block_or : ChannelBlock → ChannelRead → ChannelBlock
-block_or b (Block read) = read
-block_or b (Refused r) = b
-
 block_given_one : (a b : ChannelBlock) → channel_block_meant a ≡ channel_block_meant b → a ≡ b
-block_given_one a b e = ap (block_or a) (channel_one (Block a) (Block b) (ap answer e))
+block_given_one a b e =
+    let read : ◌≡◌ {A = Result ChannelBlock Refusal} (Ok a) (Ok b) = channel_one (Ok a) (Ok b) (ap answer e) in cc
 
 -- ---- what C is told
 

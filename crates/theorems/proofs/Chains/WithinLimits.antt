@@ -7,13 +7,15 @@ use lib.ListN.{length}
 use lib.Dec.{ltb}
 use borrow.Author.Tests.{ltb-false}
 use contract.Lifetimes.{Lfts}
+use Rattle.std.specs.Prelude.{Result}
 use Rattle.definitions.specs.Reply.{Reply, answer, refusal}
 use Rattle.definitions.specs.Chain.{Block, id_dt, file_limit, joined, chain_of, length_by, data_length}
 use Rattle.definitions.specs.Accepted.{Accepted}
+use Rattle.refusals.specs.declared.Refusal.{Refusal}
 use Rattle.places.specs.declared.place.FileAddress.{FileAddress}
 use Rattle.places.proofs.Answers.{passed}
 use Rattle.chain.specs.Meaning.{chain_reply}
-use Rattle.chain.specs.declared.acceptance.ChainRead.{ChainRead}
+use Rattle.places.specs.declared.place.DataPosition.{DataPosition}
 use Rattle.chain.proofs.Chains.{joined_length, data_bound, chain_stands}
 use Rattle.records.proofs.Records.{whole}
 use Rattle.replies.specs.Values.{length_c}
@@ -46,7 +48,7 @@ unfolding data_length
 data_length_below f start (answer n) e = length_below id_dt f start n e
 data_length_below f start (refusal n t) e = omega arith
 
-pub chain_length_below : (κs : Lfts 1) (file : Slice) (start : FileAddress) (y : ChainRead) (n : ℕ) → ReadsLength κs file start y → chain_reply y ≡ answer n → n < 2 ^ 52
+pub chain_length_below : (κs : Lfts 1) (file : Slice) (start : FileAddress) (y : Result DataPosition Refusal) (n : ℕ) → ReadsLength κs file start y → chain_reply y ≡ answer n → n < 2 ^ 52
 chain_length_below κs file start y n p e = data_length_below file.now start.0 (answer n) (sym p ∙ e)
 
 -- of a chain that is refused C is told 0

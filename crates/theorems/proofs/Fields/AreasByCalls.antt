@@ -8,14 +8,15 @@ use Prim.Native.Nat.{ℕ, ◌+◌, ◌%◌, ◌≤◌, ◌<◌}
 use native.Mathlib.Omega.{arith}
 use contract.Lifetimes.{Lfts}
 use lib.ListN.{length, get_or}
+use Rattle.std.specs.Prelude.{Result}
 use Rattle.definitions.specs.Reply.{Reply, answer, refusal, and_then}
 use Rattle.definitions.specs.Bytes.{bit}
 use Rattle.definitions.specs.Channel.{Channel, Group, valid_of, valid_value_of, record_length, has_invalidation_bit, area_of, bounded_valid_of, bounded_value_of}
+use Rattle.refusals.specs.declared.Refusal.{Refusal}
 use Rattle.fields.specs.Meaning.{channel_meant, group_meant, validity_reply}
 use Rattle.fields.specs.declared.channel.Channel.{Channel as Description}
 use Rattle.fields.specs.declared.group.Group.{Group as Grouped}
-use Rattle.fields.specs.declared.value.ValidValueRead.{ValidValueRead}
-use Rattle.fields.specs.declared.area.ValidityRead.{ValidityRead}
+use Rattle.fields.specs.declared.value.DecodedChannelValue.{DecodedChannelValue}
 use Rattle.fields.proofs.Back.{valid_value_one, validity_one}
 use Rattle.fields.proofs.OneBit.{invalidation_byte, bit_in_area}
 use Rattle.block_replies.specs.Channels.{channel_given}
@@ -47,10 +48,10 @@ module _ (s : List ℕ) (g : Group) (c : Channel) (h : InArea (length s) g c) wh
   value_agrees = rw validity_agrees
 
 module _ (κs : Lfts 1) (bytes : Slice) (group : Grouped) (channel : Description) (h : InArea (length bytes.now) (group_meant group) (channel_meant channel)) where
-  pub bounded_value_agrees : (y z : ValidValueRead) → ReadsBoundedValue κs bytes group channel y → ReadsValidValue κs bytes group channel z → y ≡ z
+  pub bounded_value_agrees : (y z : Result DecodedChannelValue Refusal) → ReadsBoundedValue κs bytes group channel y → ReadsValidValue κs bytes group channel z → y ≡ z
   bounded_value_agrees y z p q = valid_value_one y z (p ∙ value_agrees bytes.now (group_meant group) (channel_meant channel) h ∙ sym q)
 
-  pub bounded_validity_agrees : (y : ValidityRead) (z : Bool) → ChecksBoundedValidity κs bytes group channel y → ChecksValidity κs bytes group channel z
+  pub bounded_validity_agrees : (y : Result Bool Refusal) (z : Bool) → ChecksBoundedValidity κs bytes group channel y → ChecksValidity κs bytes group channel z
       → validity_reply y ≡ answer z
   bounded_validity_agrees y z p q = p ∙ validity_agrees bytes.now (group_meant group) (channel_meant channel) h ∙ ap answer (sym q)
 
@@ -95,7 +96,7 @@ module _ (s t : List ℕ) (g : Group) (c : Channel) (long : length s ≡ length 
           let p = bit_in_area g c (h.below tells) in ap (λ (b : ℕ). bit b (c.invalidation_bit % 8)) (alike (invalidation_byte g c) p.0 p.1) in
           same_bounded_valid s t g c same long
 
-module _ (κs : Lfts 1) (s t : Slice) (group : Grouped) (channel : Description) (long : length s.now ≡ length t.now) (y z : ValidityRead)
+module _ (κs : Lfts 1) (s t : Slice) (group : Grouped) (channel : Description) (long : length s.now ≡ length t.now) (y z : Result Bool Refusal)
     (p : ChecksBoundedValidity κs s group channel y) (q : ChecksBoundedValidity κs t group channel z)
   where
     pub bounded_validity_alike : BitAlike s.now t.now (group_meant group) (channel_meant channel) → y ≡ z

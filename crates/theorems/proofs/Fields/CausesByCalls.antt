@@ -1,19 +1,21 @@
 -- When each of 18 to 22 is given, and of 28 and 29, exactly: about each call's own clause.
 use mathlib.Core.Path.{◌≡◌, sym, ap, ◌∙◌, subst}
+use mathlib.Core.Bool.{Bool}
 use mathlib.Core.List.{List}
 use Prim.Native.Nat.{ℕ, ◌*◌}
 use contract.Lifetimes.{Lfts}
 use lib.ListN.{length}
+use Rattle.std.specs.Prelude.{Result}
 use Rattle.definitions.specs.Reply.{Reply, Outcome}
 use Rattle.definitions.specs.Bytes.{span}
 use Rattle.definitions.specs.Channel.{ValidValue}
 use Rattle.definitions.specs.Chain.{joined}
+use Rattle.refusals.specs.declared.Refusal.{Refusal}
 use Rattle.fields.specs.Meaning.{channel_meant, group_meant, value_reply, valid_value_reply, validity_reply}
 use Rattle.fields.specs.declared.channel.Channel.{Channel}
 use Rattle.fields.specs.declared.group.Group.{Group}
-use Rattle.fields.specs.declared.value.ValueRead.{ValueRead}
-use Rattle.fields.specs.declared.value.ValidValueRead.{ValidValueRead}
-use Rattle.fields.specs.declared.area.ValidityRead.{ValidityRead}
+use Rattle.fields.specs.declared.value.DecodedValue.{DecodedValue}
+use Rattle.fields.specs.declared.value.DecodedChannelValue.{DecodedChannelValue}
 use Rattle.places.specs.declared.place.FileAddress.{FileAddress}
 use Rattle.block_replies.specs.Channels.{channel_given}
 use Rattle.replies.specs.Values.{group_given}
@@ -37,24 +39,24 @@ use Rattle.theorems.proofs.Calls.ToldToC.{mf4_decode_value_told, mf4_decode_vali
 as_defined : {A P : Type 0} {c : Cause} {r q : Reply A} → r ≡ q → Replies P c q → Replies P c r
 as_defined {P = P} {c = c} e h = subst (Replies P c) (sym e) h
 
-pub value_read_replies : (κs : Lfts 1) (bytes : Slice) (id_size : ℕ) (channel : Channel) (y : ValueRead)
+pub value_read_replies : (κs : Lfts 1) (bytes : Slice) (id_size : ℕ) (channel : Channel) (y : Result DecodedValue Refusal)
     → ReadsValue κs bytes id_size channel y → FieldReplies bytes.now id_size (channel_meant channel) (value_reply y)
 value_read_replies κs bytes id_size channel y p = as_defined p (value_replies bytes.now id_size (channel_meant channel))
 
-pub valid_value_read_replies : (κs : Lfts 1) (bytes : Slice) (group : Group) (channel : Channel) (y : ValidValueRead)
+pub valid_value_read_replies : (κs : Lfts 1) (bytes : Slice) (group : Group) (channel : Channel) (y : Result DecodedChannelValue Refusal)
     → ReadsValidValue κs bytes group channel y → FieldReplies bytes.now (group_meant group).id_size (channel_meant channel) (valid_value_reply y)
 valid_value_read_replies κs bytes group channel y p = as_defined p (valid_value_replies bytes.now (group_meant group) (channel_meant channel))
 
-pub bounded_value_read_replies : (κs : Lfts 1) (bytes : Slice) (group : Group) (channel : Channel) (y : ValidValueRead)
+pub bounded_value_read_replies : (κs : Lfts 1) (bytes : Slice) (group : Group) (channel : Channel) (y : Result DecodedChannelValue Refusal)
     → ReadsBoundedValue κs bytes group channel y → BoundedReplies bytes.now (group_meant group) (channel_meant channel) (valid_value_reply y)
 bounded_value_read_replies κs bytes group channel y p = as_defined p (bounded_value_replies bytes.now (group_meant group) (channel_meant channel))
 
-pub bounded_validity_replies : (κs : Lfts 1) (bytes : Slice) (group : Group) (channel : Channel) (y : ValidityRead)
+pub bounded_validity_replies : (κs : Lfts 1) (bytes : Slice) (group : Group) (channel : Channel) (y : Result Bool Refusal)
     → ChecksBoundedValidity κs bytes group channel y → ValidityReplies (length bytes.now) (group_meant group) (channel_meant channel) (validity_reply y)
 bounded_validity_replies κs bytes group channel y p = as_defined p (bounded_valid_replies bytes.now (group_meant group) (channel_meant channel))
 
 -- of a record that can be fetched, on its own bytes
-pub record_value_replies : (κs : Lfts 2) (file : Slice) (start : FileAddress) (number size : ℕ) (group : Group) (channel : Channel) (out : Room) (y : ValidValueRead) (after : List ℕ)
+pub record_value_replies : (κs : Lfts 2) (file : Slice) (start : FileAddress) (number size : ℕ) (group : Group) (channel : Channel) (out : Room) (y : Result DecodedChannelValue Refusal) (after : List ℕ)
     → ReadsRecordValue κs file start number size group channel out y after → (h : Fetchable file.now start.0 number size out.now)
     → BoundedReplies (span (joined file.now h.blocks) (number * size) size) (group_meant group) (channel_meant channel) (valid_value_reply y)
 record_value_replies κs file start number size group channel out y after p h =

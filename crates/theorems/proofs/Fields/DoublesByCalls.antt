@@ -10,17 +10,19 @@ use lib.IntN.{ℤ, pos, negsuc, nat_abs}
 use lib.Signed.{◌≤ℤ◌}
 use lib.Ieee.{binary64, le, of_bits}
 use lib.Ieee.Exact.{HasValue}
+use Rattle.std.specs.Prelude.{Result}
 use Rattle.definitions.specs.Reply.{answer}
 use Rattle.definitions.specs.Ieee754.{double_of, Nearest}
 use Rattle.definitions.specs.DataType.{kind_of}
 use Rattle.definitions.specs.Channel.{Channel, Value, variable_length, is_integer, value_of, record_double}
+use Rattle.refusals.specs.declared.Refusal.{Refusal}
 use Rattle.doubles.proofs.Whole.{of_positive, of_negative}
 use Rattle.doubles.proofs.Exact.{exact}
 use Rattle.doubles.proofs.Monotone.{monotone}
 use Rattle.decoder.proofs.Nearest.{integer_in, is_negative, integer_double, nearest_double}
 use Rattle.fields.specs.Meaning.{channel_meant, value_reply}
 use Rattle.fields.specs.declared.channel.Channel.{Channel as Description}
-use Rattle.fields.specs.declared.value.ValueRead.{ValueRead}
+use Rattle.fields.specs.declared.value.DecodedValue.{DecodedValue}
 use Rattle.block_replies.specs.Channels.{channel_given}
 use Rattle.block_replies.specs.declared.channel.Mf4Channel.{Mf4Channel}
 use Rattle.replies.specs.declared.values.Mf4ValueReply.{Mf4ValueReply}
@@ -81,7 +83,7 @@ pub record IntegerDecoded (z : ℤ) (r : ℕ) : Type 1 where
   pub channel : Description
   pub kind : FixedInteger (channel_meant channel)
   -- decode_channel_value gives y, which has the value, and decode_f64_from_record gives r
-  pub y : ValueRead
+  pub y : Result DecodedValue Refusal
   pub reads : ReadsValue lent record_bytes id_size channel y
   pub value : Value
   pub answers : value_reply y ≡ answer value

@@ -6,11 +6,13 @@ use mathlib.Core.List.{List}
 use Prim.Native.Nat.{ℕ, ◌+◌, ◌≤◌, ◌<◌}
 use contract.Lifetimes.{Lfts}
 use lib.ListN.{length, get_or}
+use Rattle.std.specs.Prelude.{Result}
 use Rattle.definitions.specs.Reply.{Reply, answer, refusal, and_then}
 use Rattle.definitions.specs.Bytes.{bytes_for}
 use Rattle.definitions.specs.DataType.{kind_of, order_of}
 use Rattle.definitions.specs.Channel.{Channel, Group, Value, ValidValue, variable_length, span_in, is_number, value_of, valid_value_of, double_in, record_double, has_invalidation_bit, area_of, bounded_valid_of, bounded_value_of}
 use Rattle.definitions.proofs.Replies.{not_answered}
+use Rattle.refusals.specs.declared.Refusal.{Refusal}
 use Rattle.words.proofs.Numbers.{Bytes}
 use Rattle.bit_fields.proofs.Locality.{record_bit}
 use Rattle.fields.proofs.Locality.{locality, content_locality, refusal_locality}
@@ -20,8 +22,8 @@ use Rattle.fields.proofs.Back.{value_one, valid_value_one}
 use Rattle.fields.specs.Meaning.{channel_meant, group_meant, value_reply, valid_value_reply}
 use Rattle.fields.specs.declared.channel.Channel.{Channel as Description}
 use Rattle.fields.specs.declared.group.Group.{Group as Grouped}
-use Rattle.fields.specs.declared.value.ValueRead.{ValueRead}
-use Rattle.fields.specs.declared.value.ValidValueRead.{ValidValueRead}
+use Rattle.fields.specs.declared.value.DecodedValue.{DecodedValue}
+use Rattle.fields.specs.declared.value.DecodedChannelValue.{DecodedChannelValue}
 use Rattle.replies.proofs.ToldToC.{value_reply_again, valid_value_again}
 use Rattle.mf4.specs.Clauses.{Slice}
 use Rattle.theorems.specs.Clauses.{ReadsValue, ReadsValidValue, ReadsBoundedValue, ChecksValidity, ReadsDouble}
@@ -79,7 +81,7 @@ module _ (s t : List ℕ) (g : Group) (c : Channel) (e : BitAlike s t g c) where
       ap₂ (λ (r : Reply Value) (q : Reply Bool). and_then r (λ v. and_then q (λ b. answer (record { value = v; valid = b })))) (same_value s t g.id_size c h) (same_bounded_valid h.long)
 
 module _ (κs : Lfts 1) (s t : Slice) (id_size : ℕ) (channel : Description) (h : Alike s.now t.now id_size (channel_meant channel)) where
-  pub value_read_alike : (y z : ValueRead) → ReadsValue κs s id_size channel y → ReadsValue κs t id_size channel z → y ≡ z
+  pub value_read_alike : (y z : Result DecodedValue Refusal) → ReadsValue κs s id_size channel y → ReadsValue κs t id_size channel z → y ≡ z
   value_read_alike y z p q = value_one y z (p ∙ same_value s.now t.now id_size (channel_meant channel) h ∙ sym q)
 
   pub double_read_alike : (y z : ℕ) → ReadsDouble κs s id_size channel y → ReadsDouble κs t id_size channel z → y ≡ z
@@ -87,13 +89,13 @@ module _ (κs : Lfts 1) (s t : Slice) (id_size : ℕ) (channel : Description) (h
 
 pub valid_value_read_alike : (κs : Lfts 1) (s t : Slice) (group : Grouped) (channel : Description)
     → Alike s.now t.now (group_meant group).id_size (channel_meant channel) → BitAlike s.now t.now (group_meant group) (channel_meant channel)
-    → (y z : ValidValueRead) → ReadsValidValue κs s group channel y → ReadsValidValue κs t group channel z → y ≡ z
+    → (y z : Result DecodedChannelValue Refusal) → ReadsValidValue κs s group channel y → ReadsValidValue κs t group channel z → y ≡ z
 valid_value_read_alike κs s t group channel h e y z p q =
     valid_value_one y z (p ∙ same_valid_value s.now t.now (group_meant group) (channel_meant channel) e h ∙ sym q)
 
 pub bounded_value_read_alike : (κs : Lfts 1) (s t : Slice) (group : Grouped) (channel : Description)
     → Alike s.now t.now (group_meant group).id_size (channel_meant channel) → BitAlike s.now t.now (group_meant group) (channel_meant channel)
-    → (y z : ValidValueRead) → ReadsBoundedValue κs s group channel y → ReadsBoundedValue κs t group channel z → y ≡ z
+    → (y z : Result DecodedChannelValue Refusal) → ReadsBoundedValue κs s group channel y → ReadsBoundedValue κs t group channel z → y ≡ z
 bounded_value_read_alike κs s t group channel h e y z p q =
     valid_value_one y z (p ∙ same_bounded_value s.now t.now (group_meant group) (channel_meant channel) e h ∙ sym q)
 
@@ -137,15 +139,15 @@ same_bounded_refusal s t g c long n m = go (value_of s g.id_size c) (value_of t 
         rw (el, ex) e
 
 module _ (κs : Lfts 1) (s t : Slice) (channel : Description) (long : length s.now ≡ length t.now) (n m : ℕ) where
-  pub value_read_refused : (id_size : ℕ) (y z : ValueRead) → ReadsValue κs s id_size channel y → ReadsValue κs t id_size channel z
+  pub value_read_refused : (id_size : ℕ) (y z : Result DecodedValue Refusal) → ReadsValue κs s id_size channel y → ReadsValue κs t id_size channel z
       → value_reply y ≡ refusal n m → value_reply z ≡ refusal n m
   value_read_refused id_size y z p q e = q ∙ same_refusal s.now t.now (channel_meant channel) long n m id_size (sym p ∙ e)
 
-  pub valid_value_read_refused : (group : Grouped) (y z : ValidValueRead) → ReadsValidValue κs s group channel y
+  pub valid_value_read_refused : (group : Grouped) (y z : Result DecodedChannelValue Refusal) → ReadsValidValue κs s group channel y
       → ReadsValidValue κs t group channel z → valid_value_reply y ≡ refusal n m → valid_value_reply z ≡ refusal n m
   valid_value_read_refused group y z p q e = q ∙ same_valid_refusal s.now t.now (channel_meant channel) long n m (group_meant group) (sym p ∙ e)
 
-  pub bounded_value_read_refused : (group : Grouped) (y z : ValidValueRead) → ReadsBoundedValue κs s group channel y
+  pub bounded_value_read_refused : (group : Grouped) (y z : Result DecodedChannelValue Refusal) → ReadsBoundedValue κs s group channel y
       → ReadsBoundedValue κs t group channel z → valid_value_reply y ≡ refusal n m → valid_value_reply z ≡ refusal n m
   bounded_value_read_refused group y z p q e = q ∙ same_bounded_refusal s.now t.now (group_meant group) (channel_meant channel) long n m (sym p ∙ e)
 

@@ -3,13 +3,15 @@ use mathlib.Core.Path.{ap}
 use mathlib.Core.List.{List}
 use Prim.Native.Nat.{ℕ}
 use contract.Lifetimes.{Lfts}
+use Rattle.std.specs.Prelude.{Result}
 use Rattle.definitions.specs.Payload.{PayloadValue, Outcomes}
+use Rattle.refusals.specs.declared.Refusal.{Refusal}
 use Rattle.fields.specs.Meaning.{group_meant, channel_meant}
 use Rattle.fields.specs.declared.channel.Channel.{Channel}
 use Rattle.fields.specs.declared.group.Group.{Group}
 use Rattle.places.specs.declared.place.FileAddress.{FileAddress}
 use Rattle.payloads.specs.Meaning.{payload_reply}
-use Rattle.payloads.specs.declared.value.PayloadRead.{PayloadRead}
+use Rattle.payloads.specs.declared.value.DecodedPayload.{DecodedPayload}
 use Rattle.block_replies.specs.Channels.{channel_given}
 use Rattle.replies.specs.Values.{group_given}
 use Rattle.block_replies.specs.declared.channel.Mf4Channel.{Mf4Channel}
@@ -25,7 +27,7 @@ use Rattle.theorems.proofs.Payloads.PayloadCauses.{payload_fetched_refused}
 use Rattle.replies.proofs.ToldToC.{of_kind_told}
 use Rattle.theorems.proofs.Payloads.PayloadsToC.{Told, payload_tellable, mf4_record_payload_told}
 
-pub record_payload_refused_law : (κs : Lfts 3) (file : Slice) (start : FileAddress) (number size : ℕ) (group : Group) (channel : Channel) (out room : Room) (y : PayloadRead) (after later : List ℕ)
+pub record_payload_refused_law : (κs : Lfts 3) (file : Slice) (start : FileAddress) (number size : ℕ) (group : Group) (channel : Channel) (out room : Room) (y : Result DecodedPayload Refusal) (after later : List ℕ)
     → ReadsPayload κs file start number size group channel out room y after later
     → RefusedExactly (record_payload_refused file.now start.0 number size out.now (group_meant group).id_size (channel_meant channel) room.now) (payload_reply y)
 record_payload_refused_law κs file start number size group channel out room y after later p =

@@ -3,14 +3,16 @@ use mathlib.Core.Path.{sym, ap, subst}
 use mathlib.Core.List.{List}
 use Prim.Native.Nat.{ℕ}
 use contract.Lifetimes.{Lfts}
+use Rattle.std.specs.Prelude.{Result}
 use Rattle.definitions.specs.Payload.{PayloadValue, Outcomes}
+use Rattle.refusals.specs.declared.Refusal.{Refusal}
 use Rattle.mf4.specs.Clauses.{Slice, Room}
 use Rattle.fields.specs.Meaning.{channel_meant, group_meant}
 use Rattle.fields.specs.declared.channel.Channel.{Channel}
 use Rattle.fields.specs.declared.group.Group.{Group}
 use Rattle.places.specs.declared.place.FileAddress.{FileAddress}
 use Rattle.payloads.specs.Meaning.{payload_reply, payload_fetched_by}
-use Rattle.payloads.specs.declared.value.PayloadRead.{PayloadRead}
+use Rattle.payloads.specs.declared.value.DecodedPayload.{DecodedPayload}
 use Rattle.theorems.specs.Clauses.{ReadsPayload}
 use Rattle.theorems.specs.Exactly.{Exactly, PayloadFetchable}
 use Rattle.theorems.specs.PayloadEnds.{PayloadEnds}
@@ -18,7 +20,7 @@ use Rattle.theorems.proofs.Payloads.PayloadEnds.{payload_ends}
 use Rattle.theorems.proofs.Payloads.PayloadAnswers.{payload_exactly}
 
 module _ (κs : Lfts 3) (file : Slice) (start : FileAddress) (number size : ℕ) (group : Group) (channel : Channel) (out room : Room)
-    (y : PayloadRead) (after later : List ℕ) (p : ReadsPayload κs file start number size group channel out room y after later) where
+    (y : Result DecodedPayload Refusal) (after later : List ℕ) (p : ReadsPayload κs file start number size group channel out room y after later) where
   pub record_payload_ends : PayloadEnds file.now start.0 number size (group_meant group) (channel_meant channel) out.now room.now (payload_fetched_by y after later)
   record_payload_ends =
       subst (PayloadEnds file.now start.0 number size (group_meant group) (channel_meant channel) out.now room.now) (sym p)

@@ -1,7 +1,7 @@
 -- Two files in each of which a chain of records joins to the bytes j, and a chain of payloads, wherever it is linked, to the
 -- bytes s: the calls that fetch a payload, the library's and C's, reply the same for both and, lent buffers that hold the same
 -- bytes, leave the same in both; and it is what the definitions give on j and s. Each theorem is about the call's own clause.
-use Rattle.std.specs.Prelude.{if◌then◌else◌}
+use Rattle.std.specs.Prelude.{if◌then◌else◌, Result}
 use mathlib.Core.Path.{◌≡◌, refl, sym, ap, ap₂, ◌∙◌}
 use mathlib.Core.Bool.{Bool, not, ◌&&◌}
 use mathlib.Core.List.{List}
@@ -14,13 +14,14 @@ use borrow.Author.Tests.{ne_eqb}
 use Rattle.definitions.specs.Reply.{Reply, Outcome, answer, refusal, and_then}
 use Rattle.definitions.specs.Channel.{Channel, Group, variable_length, value_of, valid_of}
 use Rattle.definitions.specs.Payload.{id_sd, holds_position, position_of, joined_of, payload_of, stored, PayloadValue, Outcomes, payload_value_of, payload_behind, payload_fetched}
+use Rattle.refusals.specs.declared.Refusal.{Refusal}
 use Rattle.decoder.proofs.LaidAnew.{laid_anew}
 use Rattle.fields.specs.Meaning.{channel_meant, group_meant}
 use Rattle.fields.specs.declared.channel.Channel as code
 use Rattle.fields.specs.declared.group.Group as code_group
 use Rattle.places.specs.declared.place.FileAddress.{FileAddress}
 use Rattle.payloads.specs.Meaning.{payload_fetched_by}
-use Rattle.payloads.specs.declared.value.PayloadRead.{PayloadRead}
+use Rattle.payloads.specs.declared.value.DecodedPayload.{DecodedPayload}
 use Rattle.payloads.proofs.Back.{payload_fetched_one}
 use Rattle.mf4.specs.Clauses.{Slice, Room}
 use Rattle.block_replies.specs.Channels.{channel_given}
@@ -154,7 +155,7 @@ module _ {Start Description Result Meaning : Type 0} (address : Start → ℕ) (
 module _ (κs : Lfts 3) (number size : ℕ) (group : code_group.Group) where
   -- ---- read_payload
 
-  abbrev pub PayloadSays : Slice → FileAddress → code.Channel → Room → Room → PayloadRead → List ℕ → List ℕ → Type 0
+  abbrev pub PayloadSays : Slice → FileAddress → code.Channel → Room → Room → Result DecodedPayload Refusal → List ℕ → List ℕ → Type 0
   PayloadSays file start channel out room = ReadsPayload κs file start number size group channel out room
 
   pub read_payload_of_joined : OfJoined (λ (a : FileAddress). a.0) channel_meant PayloadSays payload_fetched_by (λ o. o) number size (group_meant group)

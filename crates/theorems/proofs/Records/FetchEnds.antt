@@ -5,14 +5,16 @@ use mathlib.Core.List.{List}
 use Prim.Native.Nat.{ℕ, ◌*◌}
 use contract.Lifetimes.{Lfts}
 use lib.ListN.{length, drop}
+use Rattle.std.specs.Prelude.{Result}
 use Rattle.definitions.specs.Reply.{Reply, Outcome, answer, refusal}
 use Rattle.definitions.specs.Channel.{Channel, Group, ValidValue, bounded_value_of}
 use Rattle.definitions.specs.Chain.{joined, fetched, field_of, value_fetched}
+use Rattle.refusals.specs.declared.Refusal.{Refusal}
 use Rattle.words.proofs.Spans.{length_span}
 use Rattle.fields.specs.Meaning.{channel_meant, group_meant}
 use Rattle.fields.specs.declared.channel.Channel.{Channel as Description}
 use Rattle.fields.specs.declared.group.Group.{Group as Grouped}
-use Rattle.fields.specs.declared.value.ValidValueRead.{ValidValueRead}
+use Rattle.fields.specs.declared.value.DecodedChannelValue.{DecodedChannelValue}
 use Rattle.places.specs.declared.place.FileAddress.{FileAddress}
 use Rattle.records.specs.Meaning.{value_fetched_by}
 use Rattle.block_replies.specs.Replies.{Returned}
@@ -79,7 +81,7 @@ module _ (f : List ℕ) (start k size : ℕ) (g : Group) (c : Channel) (out : Li
 -- ---- read_value
 
 module _ (κs : Lfts 2) (file : Slice) (start : FileAddress) (number size : ℕ) (group : Grouped) (channel : Description) (out : Room)
-    (y : ValidValueRead) (after : List ℕ) (p : ReadsRecordValue κs file start number size group channel out y after)
+    (y : Result DecodedChannelValue Refusal) (after : List ℕ) (p : ReadsRecordValue κs file start number size group channel out y after)
   where
     pub record_value_ends : FetchEnds file.now start.0 number size (group_meant group) (channel_meant channel) out.now (value_fetched_by y after)
     record_value_ends =

@@ -2,15 +2,16 @@
 use mathlib.Core.List.{List}
 use Prim.Native.Nat.{ℕ}
 use contract.Lifetimes.{Lfts}
+use Rattle.std.specs.Prelude.{Result}
+use Rattle.refusals.specs.declared.Refusal.{Refusal}
 use Rattle.fields.specs.Meaning.{group_meant, channel_meant, valid_value_reply}
 use Rattle.fields.specs.declared.channel.Channel.{Channel}
 use Rattle.fields.specs.declared.group.Group.{Group}
-use Rattle.fields.specs.declared.value.ValidValueRead.{ValidValueRead}
+use Rattle.fields.specs.declared.value.DecodedChannelValue.{DecodedChannelValue}
 use Rattle.chain.specs.Meaning.{chain_reply}
 use Rattle.places.specs.declared.place.FileAddress.{FileAddress}
-use Rattle.chain.specs.declared.acceptance.ChainRead.{ChainRead}
+use Rattle.places.specs.declared.place.DataPosition.{DataPosition}
 use Rattle.records.specs.Meaning.{record_reply}
-use Rattle.records.specs.declared.record.RecordRead.{RecordRead}
 use Rattle.block_replies.specs.Channels.{channel_given}
 use Rattle.replies.specs.Values.{group_given}
 use Rattle.block_replies.specs.declared.channel.Mf4Channel.{Mf4Channel}
@@ -29,15 +30,15 @@ use Rattle.theorems.proofs.Calls.ToldToC.{Judged, value_fetched_tellable, mf4_da
 use Rattle.theorems.proofs.Calls.TestsInTurn.{as_is, told_exactly}
 use Rattle.theorems.proofs.Records.RecordCauses.{length_refused_law, record_refused_law, value_fetched_refused}
 
-pub chain_length_refused : (κs : Lfts 1) (file : Slice) (start : FileAddress) (y : ChainRead)
+pub chain_length_refused : (κs : Lfts 1) (file : Slice) (start : FileAddress) (y : Result DataPosition Refusal)
     → ReadsLength κs file start y → RefusedExactly (length_refused file.now start.0) (chain_reply y)
 chain_length_refused κs file start y p = as_is p (length_refused_law file.now start.0)
 
-pub record_read_refused : (κs : Lfts 2) (file : Slice) (start : FileAddress) (number size : ℕ) (out : Room) (y : RecordRead) (after : List ℕ)
+pub record_read_refused : (κs : Lfts 2) (file : Slice) (start : FileAddress) (number size : ℕ) (out : Room) (y : Result (Unit {0}) Refusal) (after : List ℕ)
     → ReadsRecord κs file start number size out y after → RefusedExactly (record_refused file.now start.0 number size out.now) (record_reply y)
 record_read_refused κs file start number size out y after p = as_is (of_outcome p) (record_refused_law file.now start.0 number size out.now)
 
-pub record_value_refused_law : (κs : Lfts 2) (file : Slice) (start : FileAddress) (number size : ℕ) (group : Group) (channel : Channel) (out : Room) (y : ValidValueRead) (after : List ℕ)
+pub record_value_refused_law : (κs : Lfts 2) (file : Slice) (start : FileAddress) (number size : ℕ) (group : Group) (channel : Channel) (out : Room) (y : Result DecodedChannelValue Refusal) (after : List ℕ)
     → ReadsRecordValue κs file start number size group channel out y after
     → RefusedExactly (record_value_refused file.now start.0 number size out.now (group_meant group) (channel_meant channel)) (valid_value_reply y)
 record_value_refused_law κs file start number size group channel out y after p =

@@ -5,14 +5,16 @@ use mathlib.Core.List.{List}
 use Prim.Native.Nat.{ℕ}
 use contract.Lifetimes.{Lfts}
 use lib.ListN.{length}
+use Rattle.std.specs.Prelude.{Result}
 use Rattle.definitions.specs.Reply.{Reply, answer, refusal, and_then}
 use Rattle.definitions.specs.Channel.{Channel, Group, Value, ValidValue, value_of, valid_of, area_of, bounded_valid_of, bounded_value_of}
 use Rattle.definitions.specs.Chain.{value_fetched}
+use Rattle.refusals.specs.declared.Refusal.{Refusal}
 use Rattle.fields.proofs.Back.{valid_value_one}
 use Rattle.fields.specs.Meaning.{channel_meant, group_meant, valid_value_reply}
 use Rattle.fields.specs.declared.channel.Channel.{Channel as Description}
 use Rattle.fields.specs.declared.group.Group.{Group as Grouped}
-use Rattle.fields.specs.declared.value.ValidValueRead.{ValidValueRead}
+use Rattle.fields.specs.declared.value.DecodedChannelValue.{DecodedChannelValue}
 use Rattle.places.specs.declared.place.FileAddress.{FileAddress}
 use Rattle.block_replies.specs.Replies.{Returned}
 use Rattle.block_replies.specs.Channels.{channel_given}
@@ -76,7 +78,7 @@ module _ (f e : List ℕ) (a b k l size : ℕ) (out room : List ℕ) (h : Fetcha
 module _ (κs : Lfts 2) (f e : Slice) (a b : FileAddress) (k l size : ℕ) (group : Grouped) (channel : Description) (out room : Room)
     (h : Fetchable f.now a.0 k size out.now) (i : Fetchable e.now b.0 l size room.now)
     (alike : FieldAlike f.now e.now a.0 b.0 k l size out.now room.now h i (group_meant group) (channel_meant channel))
-    (y z : ValidValueRead) (after later : List ℕ)
+    (y z : Result DecodedChannelValue Refusal) (after later : List ℕ)
     (p : ReadsRecordValue κs f a k size group channel out y after) (q : ReadsRecordValue κs e b l size group channel room z later)
   where
     pub record_value_alike : value_only (valid_value_reply y) ≡ value_only (valid_value_reply z)

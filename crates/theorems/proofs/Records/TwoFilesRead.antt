@@ -6,18 +6,19 @@ use mathlib.Core.List.{List}
 use Prim.Native.Nat.{ℕ}
 use contract.Lifetimes.{Lfts}
 use lib.ListN.{length}
+use Rattle.std.specs.Prelude.{Result}
 use Rattle.definitions.specs.Reply.{Outcome, answer}
 use Rattle.definitions.specs.Channel.{ValidValue, record_length}
+use Rattle.refusals.specs.declared.Refusal.{Refusal}
 use Rattle.chain.specs.Meaning.{chain_reply}
 use Rattle.records.specs.Meaning.{fetched_by, value_fetched_by}
 use Rattle.places.specs.declared.place.FileAddress.{FileAddress}
-use Rattle.chain.specs.declared.acceptance.ChainRead.{ChainRead}
-use Rattle.records.specs.declared.record.RecordRead.{RecordRead}
+use Rattle.places.specs.declared.place.DataPosition.{DataPosition}
 use Rattle.records.proofs.Back.{record_one}
 use Rattle.fields.specs.Meaning.{channel_meant, group_meant, valid_value_reply}
 use Rattle.fields.specs.declared.channel.Channel.{Channel}
 use Rattle.fields.specs.declared.group.Group.{Group}
-use Rattle.fields.specs.declared.value.ValidValueRead.{ValidValueRead}
+use Rattle.fields.specs.declared.value.DecodedChannelValue.{DecodedChannelValue}
 use Rattle.fields.proofs.Back.{valid_value_one}
 use Rattle.block_replies.specs.Replies.{Returned, returned, returned_by}
 use Rattle.replies.specs.Replies.{done_c}
@@ -59,7 +60,7 @@ module _ {Start Result Meaning : Type 0} (address : Start → ℕ) (j : List ℕ
 
 -- ---- data_length, mf4_data_length
 
-pub data_length_of_joined : (κs : Lfts 1) (j : List ℕ) (file : Slice) (start : FileAddress) (y : ChainRead)
+pub data_length_of_joined : (κs : Lfts 1) (j : List ℕ) (file : Slice) (start : FileAddress) (y : Result DataPosition Refusal)
     → Joins file.now start.0 j → ReadsLength κs file start y → chain_reply y ≡ answer (length j)
 data_length_of_joined κs j file start y h p = p ∙ length_of_joined file.now start.0 j h
 
@@ -70,7 +71,7 @@ mf4_data_length_of_joined κs j file start y h p = p ∙ ap length_c (length_of_
 module _ (κs : Lfts 2) (j : List ℕ) (number size : ℕ) where
   -- ---- read_record
 
-  abbrev pub RecordSays : Slice → FileAddress → Room → RecordRead → List ℕ → Type 0
+  abbrev pub RecordSays : Slice → FileAddress → Room → Result (Unit {0}) Refusal → List ℕ → Type 0
   RecordSays file start buffer = ReadsRecord κs file start number size buffer
 
   pub read_record_of_joined : OfJoined (λ (s : FileAddress). s.0) j RecordSays fetched_by (record_in j number size)
@@ -101,7 +102,7 @@ module _ (κs : Lfts 2) (j : List ℕ) (number size : ℕ) where
   -- ---- read_value
 
   module _ (group : Group) (channel : Channel) where
-    abbrev pub ValueSays : Slice → FileAddress → Room → ValidValueRead → List ℕ → Type 0
+    abbrev pub ValueSays : Slice → FileAddress → Room → Result DecodedChannelValue Refusal → List ℕ → Type 0
     ValueSays file start buffer = ReadsRecordValue κs file start number size group channel buffer
 
     abbrev value_given : List ℕ → Outcome ValidValue
@@ -118,7 +119,7 @@ module _ (κs : Lfts 2) (j : List ℕ) (number size : ℕ) where
         read_value_of_joined
 
     -- a value is answered only where the record size is the group's sum
-    pub read_value_sized : (file : Slice) (start : FileAddress) (buffer : Room) (y : ValidValueRead) (after : List ℕ) (v : ValidValue)
+    pub read_value_sized : (file : Slice) (start : FileAddress) (buffer : Room) (y : Result DecodedChannelValue Refusal) (after : List ℕ) (v : ValidValue)
         → ValueSays file start buffer y after → valid_value_reply y ≡ answer v → size ≡ record_length (group_meant group)
     read_value_sized file start buffer y after v p e =
         value_sized file.now start.0 number size (group_meant group) (channel_meant channel) buffer.now v

@@ -4,15 +4,17 @@ use mathlib.Core.Path.{◌≡◌, sym, ap, ◌∙◌, subst}
 use mathlib.Core.List.{List}
 use Prim.Native.Nat.{ℕ}
 use contract.Lifetimes.{Lfts}
+use Rattle.std.specs.Prelude.{Result}
 use Rattle.definitions.specs.Reply.{Outcome, answer}
 use Rattle.definitions.specs.Chain.{joined}
 use Rattle.definitions.specs.Report.{Report}
+use Rattle.refusals.specs.declared.Refusal.{Refusal}
 use Rattle.fields.specs.Meaning.{channel_meant, group_meant}
 use Rattle.fields.specs.declared.channel.Channel.{Channel}
 use Rattle.fields.specs.declared.group.Group.{Group}
 use Rattle.places.specs.declared.place.FileAddress.{FileAddress}
 use Rattle.report.specs.Meaning.{report_reply, reported_by}
-use Rattle.report.specs.declared.report.ReportRead.{ReportRead}
+use Rattle.tally.specs.declared.report.Report.{Report}
 use Rattle.mf4.specs.Clauses.{Slice, Room}
 use Rattle.theorems.specs.Clauses.{ReportsChannel}
 use Rattle.theorems.specs.Exactly.{Exactly}
@@ -34,7 +36,7 @@ use Rattle.theorems.proofs.Reports.ReportsOne.{report_one}
 use Rattle.theorems.proofs.Reports.TwoFilesReports.{report_in, report_of_joined}
 
 module _ (κs : Lfts 2) (file : Slice) (start : FileAddress) (size : ℕ) (group : Group) (channel : Channel) (out : Room) where
-  module _ (y : ReportRead) (after : List ℕ) (p : ReportsChannel κs file start size group channel out y after) where
+  module _ (y : Result Report Refusal) (after : List ℕ) (p : ReportsChannel κs file start size group channel out y after) where
     pub channel_report_exactly : Exactly (Reportable file.now start.0 size (group_meant group) (channel_meant channel) out.now) (report_reply y)
     channel_report_exactly = exactly (of_outcome p.0) (reported_exactly file.now start.0 size (group_meant group) (channel_meant channel) out.now)
 
@@ -68,7 +70,7 @@ module _ (κs : Lfts 2) (file : Slice) (start : FileAddress) (size : ℕ) (group
 -- ---- two files
 
 module _ (κs : Lfts 2) (j : List ℕ) (size : ℕ) (group : Group) (channel : Channel) where
-  abbrev pub ReportSays : Slice → FileAddress → Room → ReportRead → List ℕ → Type 0
+  abbrev pub ReportSays : Slice → FileAddress → Room → Result Report Refusal → List ℕ → Type 0
   ReportSays file start buffer = ReportsChannel κs file start size group channel buffer
 
   abbrev report_given : List ℕ → Outcome Report

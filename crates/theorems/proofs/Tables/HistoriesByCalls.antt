@@ -4,11 +4,12 @@ use mathlib.Core.List.{List, []}
 use Prim.Native.Nat.{ℕ}
 use contract.Lifetimes.{Lfts}
 use lib.ListN.{replicate}
+use Rattle.std.specs.Prelude.{Result}
 use Rattle.definitions.specs.Reply.{Reply, Outcome, answer}
 use Rattle.definitions.specs.Chain.{id_dt, chain_of}
 use Rattle.definitions.specs.Table.{opened, extended, shortened}
+use Rattle.refusals.specs.declared.Refusal.{Refusal}
 use Rattle.table.specs.Meaning.{change_reply}
-use Rattle.table.specs.declared.layout.TableChanged.{TableChanged}
 use Rattle.block_replies.specs.Replies.{Returned}
 use Rattle.replies.specs.declared.done.Mf4DoneReply.{Mf4DoneReply}
 use Rattle.replies.proofs.ToldToC.{done_again}
@@ -29,11 +30,11 @@ Lent l = (s : Room) × (s.now ≡ l)
 -- a reply and a table that a call leaves, over the file f: of the library
 abbrev pub ByCalls : List ℕ → Operation → List ℕ → Reply (Unit {0}) → List ℕ → Type 0
 ByCalls f (opens start) w r v =
-    (κs : Lfts 2) × (file : Holding f) × (table : Lent w) × (y : TableChanged) × (change_reply y ≡ r) × OpensTable κs file.0 (record { 0 = start }) table.0 y v
+    (κs : Lfts 2) × (file : Holding f) × (table : Lent w) × (y : Result (Unit {0}) Refusal) × (change_reply y ≡ r) × OpensTable κs file.0 (record { 0 = start }) table.0 y v
 ByCalls f (extends a) w r v =
-    (κs : Lfts 2) × (file : Holding f) × (table : Lent w) × (y : TableChanged) × (change_reply y ≡ r) × ExtendsTable κs file.0 (record { 0 = a }) table.0 y v
+    (κs : Lfts 2) × (file : Holding f) × (table : Lent w) × (y : Result (Unit {0}) Refusal) × (change_reply y ≡ r) × ExtendsTable κs file.0 (record { 0 = a }) table.0 y v
 ByCalls f shortens w r v =
-    (κs : Lfts 1) × (table : Lent w) × (y : TableChanged) × (change_reply y ≡ r) × ShortensTable κs table.0 y v
+    (κs : Lfts 1) × (table : Lent w) × (y : Result (Unit {0}) Refusal) × (change_reply y ≡ r) × ShortensTable κs table.0 y v
 
 -- and of C
 abbrev pub ToC : List ℕ → Operation → List ℕ → Reply (Unit {0}) → List ℕ → Type 0

@@ -4,16 +4,17 @@ use mathlib.Core.List.{List}
 use Prim.Native.Nat.{ℕ, ◌≤◌}
 use contract.Lifetimes.{Lfts}
 use lib.ListN.{length}
+use Rattle.std.specs.Prelude.{Result}
 use Rattle.definitions.specs.Reply.{Outcome, answer}
 use Rattle.definitions.specs.Channel.{ValidValue}
 use Rattle.definitions.specs.Chain.{file_limit, joined}
+use Rattle.refusals.specs.declared.Refusal.{Refusal}
 use Rattle.fields.specs.Meaning.{channel_meant, group_meant}
 use Rattle.fields.specs.declared.channel.Channel.{Channel}
 use Rattle.fields.specs.declared.group.Group.{Group}
-use Rattle.fields.specs.declared.value.ValidValueRead.{ValidValueRead}
+use Rattle.fields.specs.declared.value.DecodedChannelValue.{DecodedChannelValue}
 use Rattle.fields.proofs.Back.{valid_value_one}
 use Rattle.records.specs.Meaning.{fetched_by, value_fetched_by}
-use Rattle.records.specs.declared.record.RecordRead.{RecordRead}
 use Rattle.records.proofs.Back.{fetched_one}
 use Rattle.block_replies.specs.Replies.{returned, returned_by}
 use Rattle.block_replies.specs.Channels.{channel_given}
@@ -40,18 +41,18 @@ opened_by_call f start w v c = opened_from f start w v (calls_faithful f (opens 
 pub opened_to_c : (f : List ℕ) (start : ℕ) (w v : List ℕ) → ToC f (opens start) w (answer tt) v → OpenedFrom f start v
 opened_to_c f start w v c = opened_from f start w v (c_faithful f (opens start) w v (answer tt) c)
 
-one_value : (a b : ValidValueRead) (x y : List ℕ) → value_fetched_by a x ≡ value_fetched_by b y → (a ≡ b) × (x ≡ y)
+one_value : (a b : Result DecodedChannelValue Refusal) (x y : List ℕ) → value_fetched_by a x ≡ value_fetched_by b y → (a ≡ b) × (x ≡ y)
 one_value a b x y e = (valid_value_one a b (ap (λ (o : Outcome ValidValue). o.reply) e), ap (λ (o : Outcome ValidValue). o.buffer) e)
 
 module _ (κs : Lfts 3) (file table : Slice) (number size : ℕ) (out : Room) where
   -- ---- what a history left
 
   module _ (xs : List ℕ) (h : Afresh file.now xs table.now) (short : length file.now ≤ file_limit) where
-    pub table_record_afresh : (y : RecordRead) (after : List ℕ) → FetchesRecord κs file table number size out y after
+    pub table_record_afresh : (y : Result (Unit {0}) Refusal) (after : List ℕ) → FetchesRecord κs file table number size out y after
         → fetched_by y after ≡ record_in (joined file.now (blocks_there file.now xs)) number size out.now
     table_record_afresh y after p = p ∙ fetch_afresh file.now xs table.now h short number size out.now
 
-    pub table_value_afresh : (group : Group) (channel : Channel) (y : ValidValueRead) (after : List ℕ) → FetchesValue κs file table number size group channel out y after
+    pub table_value_afresh : (group : Group) (channel : Channel) (y : Result DecodedChannelValue Refusal) (after : List ℕ) → FetchesValue κs file table number size group channel out y after
         → value_fetched_by y after ≡ value_in (joined file.now (blocks_there file.now xs)) number size (group_meant group) (channel_meant channel) out.now
     table_value_afresh group channel y after p =
         p ∙ value_afresh file.now xs table.now h short number size (group_meant group) (channel_meant channel) out.now
@@ -69,12 +70,12 @@ module _ (κs : Lfts 3) (file table : Slice) (number size : ℕ) (out : Room) wh
   -- ---- just after opening: the reply and the buffer of the fetch through the chain
 
   module _ (start : ℕ) (h : OpenedFrom file.now start table.now) (λs : Lfts 2) where
-    pub table_record_as_plain : (y z : RecordRead) (after later : List ℕ) → FetchesRecord κs file table number size out y after
+    pub table_record_as_plain : (y z : Result (Unit {0}) Refusal) (after later : List ℕ) → FetchesRecord κs file table number size out y after
         → ReadsRecord λs file (record { 0 = start }) number size out z later → (y ≡ z) × (after ≡ later)
     table_record_as_plain y z after later p q =
         fetched_one y z after later (p ∙ fetch_opened file.now start table.now h number size out.now ∙ sym q)
 
-    pub table_value_as_plain : (group : Group) (channel : Channel) (y z : ValidValueRead) (after later : List ℕ)
+    pub table_value_as_plain : (group : Group) (channel : Channel) (y z : Result DecodedChannelValue Refusal) (after later : List ℕ)
         → FetchesValue κs file table number size group channel out y after
         → ReadsRecordValue λs file (record { 0 = start }) number size group channel out z later → (y ≡ z) × (after ≡ later)
     table_value_as_plain group channel y z after later p q =
@@ -97,14 +98,14 @@ module _ (κs : Lfts 3) (file table : Slice) (number size : ℕ) (out : Room) wh
 
 module _ (κs : Lfts 3) (j : List ℕ) (f g s t : Slice) (a b : ℕ) (h : OpenedFrom f.now a s.now) (i : OpenedFrom g.now b t.now)
     (hj : Joins f.now a j) (ij : Joins g.now b j) (number size : ℕ) (out room : Room) (same : out.now ≡ room.now) where
-  pub table_record_alike : (y z : RecordRead) (after later : List ℕ) → FetchesRecord κs f s number size out y after → FetchesRecord κs g t number size room z later
+  pub table_record_alike : (y z : Result (Unit {0}) Refusal) (after later : List ℕ) → FetchesRecord κs f s number size out y after → FetchesRecord κs g t number size room z later
       → (y ≡ z) × (after ≡ later)
   table_record_alike y z after later p q =
       fetched_one y z after later
       (p ∙ fetch_on_joined f.now a s.now h number size j out.now hj ∙ ap (record_in j number size) same
       ∙ sym (q ∙ fetch_on_joined g.now b t.now i number size j room.now ij))
 
-  pub table_value_alike : (group : Group) (channel : Channel) (y z : ValidValueRead) (after later : List ℕ)
+  pub table_value_alike : (group : Group) (channel : Channel) (y z : Result DecodedChannelValue Refusal) (after later : List ℕ)
       → FetchesValue κs f s number size group channel out y after → FetchesValue κs g t number size group channel room z later
       → (y ≡ z) × (after ≡ later)
   table_value_alike group channel y z after later p q =

@@ -8,19 +8,19 @@ use Prim.Native.Nat.{ℕ, ◌+◌, ◌*◌}
 use contract.Lifetimes.{Lfts}
 use lib.ListN.{length, take}
 use lib.Dec.{ltb, leb, eqb}
+use Rattle.std.specs.Prelude.{Result}
 use Rattle.definitions.specs.Reply.{Reply, Outcome, answer, refusal, and_then, on_answer}
 use Rattle.definitions.specs.Channel.{Channel, Group, bounded_value_of}
 use Rattle.definitions.specs.Chain.{id_dt, file_limit, joined, block_at, chain_of, bad_size, record_of}
 use Rattle.definitions.specs.Table.{table_limit, count_of, blocks_in, ordered, sound, opened, extended, shortened, table_fetched, table_value_fetched}
+use Rattle.refusals.specs.declared.Refusal.{Refusal}
 use Rattle.fields.specs.Meaning.{group_meant, channel_meant, valid_value_reply}
 use Rattle.fields.specs.declared.channel.Channel.{Channel as Description}
 use Rattle.fields.specs.declared.group.Group.{Group as Grouped}
-use Rattle.fields.specs.declared.value.ValidValueRead.{ValidValueRead}
+use Rattle.fields.specs.declared.value.DecodedChannelValue.{DecodedChannelValue}
 use Rattle.places.specs.declared.place.FileAddress.{FileAddress}
 use Rattle.records.specs.Meaning.{record_reply}
-use Rattle.records.specs.declared.record.RecordRead.{RecordRead}
 use Rattle.table.specs.Meaning.{change_reply}
-use Rattle.table.specs.declared.layout.TableChanged.{TableChanged}
 use Rattle.block_replies.specs.Replies.{Returned}
 use Rattle.block_replies.specs.Channels.{channel_given}
 use Rattle.replies.specs.Replies.{done_c}
@@ -95,21 +95,21 @@ module _ (f w : List ℕ) (k size : ℕ) (out : List ℕ) where
 
 -- ---- the calls
 
-module _ (κs : Lfts 2) (file : Slice) (at : FileAddress) (table : Room) (y : TableChanged) (after : List ℕ) where
+module _ (κs : Lfts 2) (file : Slice) (at : FileAddress) (table : Room) (y : Result (Unit {0}) Refusal) (after : List ℕ) where
   pub table_open_numbered : OpensTable κs file at table y after → Numbered OfTables (change_reply y)
   table_open_numbered p = numbered (of_outcome p) (opened_numbered file.now at.0 table.now)
 
   pub table_extend_numbered : ExtendsTable κs file at table y after → Numbered OfTables (change_reply y)
   table_extend_numbered p = numbered (of_outcome p) (extended_numbered file.now at.0 table.now)
 
-pub table_shorten_numbered : (κs : Lfts 1) (table : Room) (y : TableChanged) (after : List ℕ) → ShortensTable κs table y after → Numbered OfTables (change_reply y)
+pub table_shorten_numbered : (κs : Lfts 1) (table : Room) (y : Result (Unit {0}) Refusal) (after : List ℕ) → ShortensTable κs table y after → Numbered OfTables (change_reply y)
 table_shorten_numbered κs table y after p = numbered (of_outcome p) (shortened_numbered table.now)
 
 module _ (κs : Lfts 3) (file table : Slice) (number size : ℕ) where
-  pub table_record_numbered : (out : Room) (y : RecordRead) (after : List ℕ) → FetchesRecord κs file table number size out y after → Numbered OfTables (record_reply y)
+  pub table_record_numbered : (out : Room) (y : Result (Unit {0}) Refusal) (after : List ℕ) → FetchesRecord κs file table number size out y after → Numbered OfTables (record_reply y)
   table_record_numbered out y after p = numbered (of_outcome p) (table_fetched_numbered file.now table.now number size out.now)
 
-  pub table_value_read_numbered : (group : Grouped) (channel : Description) (out : Room) (y : ValidValueRead) (after : List ℕ)
+  pub table_value_read_numbered : (group : Grouped) (channel : Description) (out : Room) (y : Result DecodedChannelValue Refusal) (after : List ℕ)
       → FetchesValue κs file table number size group channel out y after → Numbered OfTableValues (valid_value_reply y)
   table_value_read_numbered group channel out y after p =
       numbered (of_outcome p) (table_value_numbered file.now table.now number size out.now (group_meant group) (channel_meant channel))

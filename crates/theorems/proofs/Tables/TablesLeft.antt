@@ -1,7 +1,7 @@
 -- What a call leaves of a table. Where it refuses: every word. Where it extends: all but the count, the total and the place that the
 -- block takes; where it gives up: all but the count, the total and the place that is cleared. And a fetch leaves what a fetch
 -- through a chain does.
-use Rattle.std.specs.Prelude.{if◌then◌else◌}
+use Rattle.std.specs.Prelude.{if◌then◌else◌, Result}
 use mathlib.Core.Path.{◌≡◌, refl, sym, ap, ◌∙◌}
 use mathlib.Core.Bool.{Bool, true, false, not}
 use mathlib.Core.List.{List}
@@ -17,11 +17,11 @@ use Rattle.definitions.specs.Channel.{Channel, Group}
 use Rattle.definitions.specs.Chain.{Block, id_dt, file_limit, joined, block_at, chain_of, bad_size, record_of}
 use Rattle.definitions.specs.Table.{table_limit, count_of, total_in, blocks_in, ordered, sound, refusing, table_of, opened, with_block, extended, without_last, shortened, table_fetched, table_value_fetched}
 use Rattle.definitions.proofs.Replies.{not_answered}
+use Rattle.refusals.specs.declared.Refusal.{Refusal}
 use Rattle.words.proofs.Spans.{length_span}
 use Rattle.records.specs.Meaning.{record_reply}
 use Rattle.places.specs.declared.place.FileAddress.{FileAddress}
 use Rattle.table.specs.Meaning.{changed_by, change_reply}
-use Rattle.table.specs.declared.layout.TableChanged.{TableChanged}
 use Rattle.block_replies.specs.Replies.{Returned, returned, returned_by}
 use Rattle.replies.specs.Replies.{done_c}
 use Rattle.replies.specs.declared.done.Mf4DoneReply.{Mf4DoneReply}
@@ -111,19 +111,19 @@ table_value_leaves f w k size g c out = refl
 
 -- ---- the calls
 
-spared : (y : TableChanged) (w v : List ℕ) (o : Outcome (Unit {0})) → LeavesRefused w o → changed_by y v ≡ o → Refused (change_reply y) → v ≡ w
+spared : (y : Result (Unit {0}) Refusal) (w v : List ℕ) (o : Outcome (Unit {0})) → LeavesRefused w o → changed_by y v ≡ o → Refused (change_reply y) → v ≡ w
 spared y w v o h p q =
     ap (λ (x : Outcome (Unit {0})). x.buffer) p
     ∙ h q.0 q.1 (sym (ap (λ (x : Outcome (Unit {0})). x.reply) p) ∙ q.2)
 
-module _ (κs : Lfts 2) (file : Slice) (at : FileAddress) (table : Room) (y : TableChanged) (after : List ℕ) where
+module _ (κs : Lfts 2) (file : Slice) (at : FileAddress) (table : Room) (y : Result (Unit {0}) Refusal) (after : List ℕ) where
   pub table_open_spares : OpensTable κs file at table y after → Refused (change_reply y) → after ≡ table.now
   table_open_spares = spared y table.now after _ (open_leaves table.now file.now at.0)
 
   pub table_extend_spares : ExtendsTable κs file at table y after → Refused (change_reply y) → after ≡ table.now
   table_extend_spares = spared y table.now after _ (extend_leaves table.now file.now at.0)
 
-pub table_shorten_spares : (κs : Lfts 1) (table : Room) (y : TableChanged) (after : List ℕ) → ShortensTable κs table y after → Refused (change_reply y) → after ≡ table.now
+pub table_shorten_spares : (κs : Lfts 1) (table : Room) (y : Result (Unit {0}) Refusal) (after : List ℕ) → ShortensTable κs table y after → Refused (change_reply y) → after ≡ table.now
 table_shorten_spares κs table y after = spared y table.now after _ (shorten_leaves table.now)
 
 module _ (κs : Lfts 3) (file table : Slice) (number size : ℕ) (out : Room) where

@@ -4,23 +4,23 @@ use mathlib.Core.Bool.{Bool, true, false}
 use mathlib.Core.List.{List}
 use Prim.Native.Nat.{ℕ, ◌+◌, ◌*◌}
 use contract.Lifetimes.{Lfts}
+use Rattle.std.specs.Prelude.{Result}
 use Rattle.definitions.specs.Reply.{Reply, Outcome, answer}
 use Rattle.definitions.specs.DataType.{kind_of, order_of}
 use Rattle.definitions.specs.Channel.{Value, variable_length, start_of, number_in, is_number, is_floating, value_of, double_in, record_double, valid_of, bounded_valid_of, bit_place}
 use Rattle.definitions.specs.Overlap.{share_a_bit}
 use Rattle.definitions.specs.WrittenValue.{value_written}
 use Rattle.definitions.proofs.Shared.{Within}
+use Rattle.refusals.specs.declared.Refusal.{Refusal}
 use Rattle.words.proofs.Numbers.{Bytes}
 use Rattle.doubles.proofs.NarrowedPatterns.{ComesBack}
 use Rattle.fields.specs.Meaning.{channel_meant, group_meant, value_reply}
 use Rattle.fields.specs.declared.channel.Channel.{Channel}
 use Rattle.fields.specs.declared.group.Group.{Group}
-use Rattle.fields.specs.declared.value.ValueRead.{ValueRead}
-use Rattle.fields.specs.declared.area.ValidityRead.{ValidityRead}
+use Rattle.fields.specs.declared.value.DecodedValue.{DecodedValue}
 use Rattle.fields.proofs.Back.{value_one, validity_one}
 use Rattle.encoder.specs.Meaning.{given_meant, value_given, written_reply, outcome}
 use Rattle.encoder.specs.declared.number.NumberGiven.{NumberGiven}
-use Rattle.encoder.specs.declared.encode.ValueWritten.{ValueWritten}
 use Rattle.encoder.specs.declared.encode.ValueWritten.TheVariants.{Done}
 use Rattle.encoder.proofs.Back.{written_one}
 use Rattle.mf4.specs.Clauses.{Slice, Room}
@@ -31,7 +31,7 @@ use Rattle.theorems.proofs.Writing.WrittenEnds.{value_ends, written_exactly}
 use Rattle.theorems.proofs.Writing.WrittenValues.{written_decoded, outside_kept, decoded_written}
 use Rattle.theorems.proofs.Calls.AnswersByCalls.{exactly, of_outcome}
 
-module _ (κs : Lfts 1) (id_size : ℕ) (channel : Channel) (given : NumberGiven) (bytes : Room) (y : ValueWritten) (after : List ℕ)
+module _ (κs : Lfts 1) (id_size : ℕ) (channel : Channel) (given : NumberGiven) (bytes : Room) (y : Result (Unit {0}) Refusal) (after : List ℕ)
     (p : WritesValue κs id_size channel given bytes y after)
   where
     same_buffer : after ≡ (value_written bytes.now id_size (channel_meant channel) (given_meant given)).buffer
@@ -59,7 +59,7 @@ module _ (κs : Lfts 1) (id_size : ℕ) (channel : Channel) (given : NumberGiven
       module _ (d : Channel) (fixed : variable_length (channel_meant d) ≡ false) (number : is_number (kind_of (channel_meant d).data_type) ≡ true)
           (far : share_a_bit (channel_meant channel) (channel_meant d) ≡ false) (ρs σs : Lfts 1) (before written : Slice) (held : before.now ≡ bytes.now) (same : written.now ≡ after)
         where
-          pub write_keeps_value : (z w : ValueRead) → ReadsValue ρs before id_size d z → ReadsValue σs written id_size d w → w ≡ z
+          pub write_keeps_value : (z w : Result DecodedValue Refusal) → ReadsValue ρs before id_size d z → ReadsValue σs written id_size d w → w ≡ z
           write_keeps_value z w q r =
               let value : List ℕ → Reply Value = λ t. value_of t id_size (channel_meant d) in
               value_one w z (r ∙ ap value same ∙ (value_write_keeps.others (channel_meant d) fixed number far).0 ∙ ap value (sym held) ∙ sym q)
@@ -79,7 +79,7 @@ module _ (κs : Lfts 1) (id_size : ℕ) (channel : Channel) (given : NumberGiven
               let valid : List ℕ → Bool = λ t. valid_of t (group_meant group) (channel_meant d) in
               r ∙ ap valid same ∙ (value_write_keeps.validity (group_meant group) (channel_meant d) skipped far).0 ∙ ap valid (sym held) ∙ sym q
 
-          pub write_keeps_bounded_validity : (z w : ValidityRead) → ChecksBoundedValidity ρs before group d z → ChecksBoundedValidity σs written group d w → w ≡ z
+          pub write_keeps_bounded_validity : (z w : Result Bool Refusal) → ChecksBoundedValidity ρs before group d z → ChecksBoundedValidity σs written group d w → w ≡ z
           write_keeps_bounded_validity z w q r =
               let valid : List ℕ → Reply Bool = λ t. bounded_valid_of t (group_meant group) (channel_meant d) in
               validity_one w z
@@ -92,7 +92,7 @@ module _ (κs : Lfts 1) (id_size : ℕ) (channel : Channel) (given : NumberGiven
             (written_decoded bytes.now id_size (channel_meant channel) (given_meant given) b sized (same_reply ∙ ap written_reply done))
 
         -- what was written is decoded, and its double
-        pub write_then_decode : (ρs : Lfts 1) (written : Slice) (z : ValueRead) → written.now ≡ after → ReadsValue ρs written id_size channel z
+        pub write_then_decode : (ρs : Lfts 1) (written : Slice) (z : Result DecodedValue Refusal) → written.now ≡ after → ReadsValue ρs written id_size channel z
             → value_reply z ≡ answer (value_given (given_meant given))
         write_then_decode ρs written z e q = q ∙ ap (λ (t : List ℕ). value_of t id_size (channel_meant channel)) e ∙ decodes.value
 
@@ -104,7 +104,7 @@ module _ (κs : Lfts 1) (id_size : ℕ) (channel : Channel) (given : NumberGiven
     pub decode_then_write : Bytes bytes.now → variable_length (channel_meant channel) ≡ false → IsNumber (given_meant given)
         → (is_floating (kind_of (channel_meant channel).data_type) ≡ true → (channel_meant channel).bit_count ≡ 32
         → ComesBack (number_in (order_of (channel_meant channel).data_type) bytes.now (start_of id_size (channel_meant channel)) (channel_meant channel)))
-        → (ρs : Lfts 1) (before : Slice) (z : ValueRead) → before.now ≡ bytes.now → ReadsValue ρs before id_size channel z
+        → (ρs : Lfts 1) (before : Slice) (z : Result DecodedValue Refusal) → before.now ≡ bytes.now → ReadsValue ρs before id_size channel z
         → value_reply z ≡ answer (value_given (given_meant given)) → (y ≡ Done) × (after ≡ bytes.now)
     decode_then_write b fixed number comes ρs before z held q e =
         let decoded : value_of bytes.now id_size (channel_meant channel) ≡ answer (value_given (given_meant given)) =
