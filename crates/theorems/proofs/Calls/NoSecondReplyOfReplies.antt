@@ -1,4 +1,4 @@
--- No public function of `replies` has a second result: what C is told of an answer, and what is taken for what C gives.
+-- No conversion of `block_replies` and `replies` has a second result: what C is told of an answer, and what is taken for what C gives.
 use mathlib.Core.Path.{◌≡◌, refl, sym, ap, ◌∙◌}
 use Rattle.std.specs.Prelude.{Result, Ok}
 use Rattle.definitions.specs.Reply.{answer}
@@ -17,14 +17,20 @@ use Rattle.fields.proofs.Back.{description_one}
 use Rattle.encoder.specs.Meaning.{given_meant}
 use Rattle.encoder.specs.declared.number.NumberGiven.{NumberGiven}
 use Rattle.encoder.specs.declared.number.NumberGiven.TheVariants.{Unsigned, Signed, Double, Other}
-use Rattle.block_replies.proofs.header_reply.Kinds as header_reply_kinds
-use Rattle.block_replies.proofs.header_reply.Reads as header_reply
-use Rattle.block_replies.proofs.list_reply.Kinds as list_reply_kinds
-use Rattle.block_replies.proofs.list_reply.Reads as list_reply
-use Rattle.block_replies.proofs.channel_reply.Kinds as channel_reply_kinds
-use Rattle.block_replies.proofs.channel_reply.Reads as channel_reply
-use Rattle.block_replies.proofs.written_reply.Kinds as written_reply_kinds
-use Rattle.block_replies.proofs.written_reply.Reads as written_reply
+use Rattle.block_replies.proofs.header.Mf4HeaderReplyFromResultBlockHeaderRefusal.from.Kinds as header_reply_kinds
+use Rattle.block_replies.proofs.header.Mf4HeaderReplyFromResultBlockHeaderRefusal.from.Reads as header_reply
+use Rattle.block_replies.proofs.list.Mf4ListReplyFromResultDataListBlockRefusal.from.Kinds as list_reply_kinds
+use Rattle.block_replies.proofs.list.Mf4ListReplyFromResultDataListBlockRefusal.from.Reads as list_reply
+use Rattle.block_replies.proofs.channel_block.Mf4ChannelReplyFromResultChannelBlockRefusal.from.Kinds as channel_reply_kinds
+use Rattle.block_replies.proofs.channel_block.Mf4ChannelReplyFromResultChannelBlockRefusal.from.Reads as channel_reply
+use Rattle.block_replies.proofs.written.Mf4WrittenReplyFromResultU64Refusal.from.Kinds as written_reply_kinds
+use Rattle.block_replies.proofs.written.Mf4WrittenReplyFromResultU64Refusal.from.Reads as written_reply
+use Rattle.block_replies.proofs.header.Mf4HeaderFromBlockHeader.from.Kinds as header_told_kinds
+use Rattle.block_replies.proofs.header.Mf4HeaderFromBlockHeader.from.Reads as header_told
+use Rattle.block_replies.proofs.channel_block.Mf4ChannelBlockFromChannelBlock.from.Kinds as block_told_kinds
+use Rattle.block_replies.proofs.channel_block.Mf4ChannelBlockFromChannelBlock.from.Reads as block_told
+use Rattle.block_replies.proofs.channel.Mf4ChannelFromChannel.from.Kinds as channel_told_kinds
+use Rattle.block_replies.proofs.channel.Mf4ChannelFromChannel.from.Reads as channel_told
 use Rattle.replies.proofs.value_reply.Kinds as value_reply_kinds
 use Rattle.replies.proofs.value_reply.Reads as value_reply
 use Rattle.replies.proofs.valid_value_reply.Kinds as valid_value_reply_kinds
@@ -49,12 +55,12 @@ use Rattle.replies.proofs.overlap_reply.Kinds as overlap_reply_kinds
 use Rattle.replies.proofs.overlap_reply.Reads as overlap_reply
 use Rattle.replies.proofs.report_reply.Kinds as report_reply_kinds
 use Rattle.replies.proofs.report_reply.Reads as report_reply
-use Rattle.block_replies.proofs.header_of.Kinds as header_of_kinds
-use Rattle.block_replies.proofs.header_of.Reads as header_of
-use Rattle.block_replies.proofs.block_of.Kinds as block_of_kinds
-use Rattle.block_replies.proofs.block_of.Reads as block_of
-use Rattle.block_replies.proofs.channel_of.Kinds as channel_of_kinds
-use Rattle.block_replies.proofs.channel_of.Reads as channel_of
+use Rattle.block_replies.proofs.header.BlockHeaderFromMf4Header.from.Kinds as header_of_kinds
+use Rattle.block_replies.proofs.header.BlockHeaderFromMf4Header.from.Reads as header_of
+use Rattle.block_replies.proofs.channel_block.ChannelBlockFromMf4ChannelBlock.from.Kinds as block_of_kinds
+use Rattle.block_replies.proofs.channel_block.ChannelBlockFromMf4ChannelBlock.from.Reads as block_of
+use Rattle.block_replies.proofs.channel.ChannelFromMf4Channel.from.Kinds as channel_of_kinds
+use Rattle.block_replies.proofs.channel.ChannelFromMf4Channel.from.Reads as channel_of
 use Rattle.replies.proofs.group_of.Kinds as group_of_kinds
 use Rattle.replies.proofs.group_of.Reads as group_of
 use Rattle.replies.proofs.number_of.Kinds as number_of_kinds
@@ -103,6 +109,15 @@ channel_reply_settled = settled (λ κs a y z b c p q. (p ∙ sym q, refl))
 
 pub written_reply_settled : Settled 0 written_reply_kinds.ps written_reply_kinds.r written_reply.Asked written_reply.ensures written_reply.Learnt
 written_reply_settled = settled (λ κs a y z b c p q. (p ∙ sym q, refl))
+
+pub header_told_settled : Settled 0 header_told_kinds.ps header_told_kinds.r header_told.Asked header_told.ensures header_told.Learnt
+header_told_settled = settled (λ κs a y z b c p q. (p ∙ sym q, refl))
+
+pub block_told_settled : Settled 0 block_told_kinds.ps block_told_kinds.r block_told.Asked block_told.ensures block_told.Learnt
+block_told_settled = settled (λ κs a y z b c p q. (p ∙ sym q, refl))
+
+pub channel_told_settled : Settled 0 channel_told_kinds.ps channel_told_kinds.r channel_told.Asked channel_told.ensures channel_told.Learnt
+channel_told_settled = settled (λ κs a y z b c p q. (p ∙ sym q, refl))
 
 pub value_reply_settled : Settled 0 value_reply_kinds.ps value_reply_kinds.r value_reply.Asked value_reply.ensures value_reply.Learnt
 value_reply_settled = settled (λ κs a y z b c p q. (p ∙ sym q, refl))
