@@ -178,7 +178,7 @@ Past c k = (j : ℕ) → j < k → Absent (c j)
 -- nothing does, where none is the first
 none_of : (c : ℕ → Cause) (count : ℕ) → Absent (first_of count c) → (k : ℕ) → k ≤ count → Past c k
 unfolding first_of
-none_of c count none zero l = λ j m. let no : ⊥ = omega arith in absurd no
+none_of c count none zero l = λ j m. absurd (omega arith)
 none_of c count none (suc k) l =
     let past : Past c k = none_of c count none k (omega arith) in
     before_or_last k past (λ n t x. none n t (k, (omega arith, past, x)))
@@ -204,7 +204,7 @@ module _ (W c : ℕ → Cause) (count : ℕ) (step : (i : ℕ) → i < count →
   pub in_a_row : (n t : ℕ) → W 0 n t ↔ (first_of count c or_else W count) n t
   unfolding ◌or_else◌ first_of
   in_a_row n t = (
-    λ w. on_from count 0 n t (omega arith) (λ j l. let no : ⊥ = omega arith in absurd no) w,
+    λ w. on_from count 0 n t (omega arith) (λ j l. absurd (omega arith)) w,
     ⊎_elim (λ x. back_from x.0 n t (omega (arith, x.1.0)) x.1.1 ((step x.0 x.1.0 n t).1 (inl x.1.2)))
         (λ x. back_from count n t (omega arith) (none_of c count x.0 count (omega arith)) x.1),
   )
@@ -234,7 +234,7 @@ told_exactly {c = c} n t a r q h = go (eqb n 0) refl q
     go : (b : Bool) → eqb n 0 ≡ b → (if b then answer a else refusal n t) ≡ r → ToldExactly c n t
     go true e q = record {
       given = λ m u x. not_answered a m u (sym (h.given m u x) ∙ sym q);
-      only = λ z. let zero = eqb-true n 0 e in let no : ⊥ = omega arith in absurd no;
+      only = λ z. let zero = eqb-true n 0 e in absurd (omega arith);
     }
     go false e q =
         let some : 0 < n = let no = eqb-false n 0 e in omega arith in record {

@@ -198,8 +198,8 @@ module _ (id f : List ℕ) (common : Declaration) where
       → length (blocks_of (ps ++ qs)) ≤ fragment_limit
       → lists id f common k a (blocks_of ps) ≡ answer (blocks_of (ps ++ qs))
   unfolding Each
-  lists_taken [] ps k a h d e z few m = let no : ⊥ = omega arith in absurd no
-  lists_taken (q ∷ qs) ps zero a h d e z few m = let no : ⊥ = omega arith in absurd no
+  lists_taken [] ps k a h d e z few m = absurd (omega arith)
+  lists_taken (q ∷ qs) ps zero a h d e z few m = absurd (omega arith)
   lists_taken (q ∷ []) ps (suc k) a h d e z few m =
       ap (λ (x : ℕ). lists id f common (suc k) x (blocks_of ps)) (sym e) ∙ part_taken k ps q [] h.0 d.0 m ∙ rw (eq-eqb _ _ h.0.next)
   lists_taken (q ∷ r ∷ qs) ps (suc k) a h d e z few m =
@@ -235,7 +235,7 @@ module _ (id f : List ℕ) (start : ℕ) where
   parts_taken : (qs : List Part) → Each (PartStands id f) [] qs → Alike f qs → link_to qs ≡ start → 0 < start → length qs ≤ list_limit
       → length (blocks_of qs) ≤ fragment_limit → chain_of id f start ≡ answer (blocks_of qs)
   unfolding chain_of blocks_of Each
-  parts_taken [] h d e z few m = let no : ⊥ = omega arith in absurd no
+  parts_taken [] h d e z few m = absurd (omega arith)
   parts_taken (q ∷ qs) h d e z few m =
       let common : Declaration = declaration_of (drop q.address f) q.list in
       let keep = all_keep id f q qs h d in

@@ -174,5 +174,5 @@ module _ (id f : List ℕ) (start : ℕ) where
         given = λ n t. ⊎_elim (λ x. chain_whole ∙ ((row n t).1 (inl x)).1)
             (λ x. chain_whole ∙ ((row n t).1 (inr (x.0, (x.1.0, ap₂ refusal (sym x.1.1) (sym x.1.2))))).1);
         only = λ n t e. ⊎_elim (λ x. inl x) (λ x. let q = x.1.1 in inr (x.0, (x.1.0, cc, cc)))
-            ((row n t).0 (λ j l. let no : ⊥ = omega arith in absurd no, sym chain_whole ∙ e));
+            ((row n t).0 (λ j l. absurd (omega arith), sym chain_whole ∙ e));
       }

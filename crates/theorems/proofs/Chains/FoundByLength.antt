@@ -68,7 +68,7 @@ module _ (id f : List ℕ) (n c : ℕ) where
   lists_even : (ps qs : List Part) → Each (PartStands id f) ps qs → Each (DeclaresLength f n c) ps qs → Each (Even (λ (q : Part). length q.blocks) c) ps qs
   unfolding Each
   lists_even ps [] h d = tt
-  lists_even ps (q ∷ []) h d = (λ m. let no : ⊥ = omega arith in absurd no, tt)
+  lists_even ps (q ∷ []) h d = (λ m. absurd (omega arith), tt)
   lists_even ps (q ∷ r ∷ rs) h d =
       let next : 0 < q.list.next = omega (arith, h.0.next, h.1.0.somewhere) in
       (λ m. h.0.links ∙ sym h.0.count ∙ d.0.counts next, lists_even (ps ++ (q ∷ [])) (r ∷ rs) h.1 d.1)

@@ -122,14 +122,14 @@ module _ (other : Channel) (list : Bor (List Mf4Channel)) (y : Mf4OverlapReply) 
 
   -- 26 for a list that is too long, and for no other
   pub too_many_channels : y.reply ≡ 26 → channel_limit < length cs
-  too_many_channels h = ⊎_elim (λ (l, _, _). l) (λ (_, _, e). let no : ⊥ = omega arith in absurd no) (refused_so 26 refl h)
+  too_many_channels h = ⊎_elim (λ (l, _, _). l) (λ (_, _, e). absurd (omega arith)) (refused_so 26 refl h)
 
   pub too_many_refused : channel_limit < length cs → y ≡ overlap_c (refusal 26 0)
   too_many_refused l = p ∙ ap overlap_c (many_refused other cs (overlap_of cs) ends l)
 
   -- 27 with the first entry that is no fixed number, and for no other list
   pub no_fixed_number_there : y.reply ≡ 27 → (length cs ≤ channel_limit) × FirstOther other cs y.told
-  no_fixed_number_there h = ⊎_elim (λ (_, e, _). let no : ⊥ = omega arith in absurd no) (λ (l, f, _). (l, f)) (refused_so 27 refl h)
+  no_fixed_number_there h = ⊎_elim (λ (_, e, _). absurd (omega arith)) (λ (l, f, _). (l, f)) (refused_so 27 refl h)
 
   pub no_fixed_number_refused : length cs ≤ channel_limit → (i : ℕ) → FirstOther other cs i → y ≡ overlap_c (refusal 27 i)
   no_fixed_number_refused l i f = p ∙ ap overlap_c (other_refused other cs (overlap_of cs) ends l i f)

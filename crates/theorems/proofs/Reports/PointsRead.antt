@@ -76,7 +76,7 @@ module _ (p : Point) where
 pub points_all : (k : ℕ) (xs : List (Reply ValidValue)) (i : ℕ) → i < length xs → is_valid (get_or xs i (refusal 0 0)) ≡ true
     → is_nan (double_read (get_or xs i (refusal 0 0))) ≡ false → Among (points k xs) (point_of (k + i) (double_read (get_or xs i (refusal 0 0))))
 unfolding points
-points_all k [] i h v n = let no : ⊥ = omega arith in absurd no
+points_all k [] i h v n = absurd (omega arith)
 points_all k (x ∷ xs) zero h v n =
     let e : k + 0 ≡ k = omega arith in
     rw e (among_first (point_of k (double_read x)) (is_valid x) (is_nan (double_read x)) (points (k + 1) xs) v n)

@@ -33,7 +33,7 @@ report_records g c size j = all_read g c (record_count size j) size j
 
 pub record_at : (n size : ℕ) (j : List ℕ) (k : ℕ) → k < n → get_or (first_records n size j) k [] ≡ span j (k * size) size
 unfolding first_records
-record_at zero size j k h = let no : ⊥ = omega arith in absurd no
+record_at zero size j k h = absurd (omega arith)
 record_at (suc n) size j zero h = let none : 0 ≡ 0 * size = omega arith in ap (λ (at : ℕ). span j at size) none
 record_at (suc n) size j (suc k) h =
     let turn : size + k * size ≡ suc k * size = omega arith in

@@ -52,4 +52,4 @@ module _ (f : List ℕ) (start size : ℕ) (g : Group) (c : Channel) (out : List
   no_field_refusal (suc (suc zero)) t h = never_given 20 t refl
   no_field_refusal (suc (suc (suc zero))) t h = never_given 21 t refl
   no_field_refusal (suc (suc (suc (suc zero)))) t h = never_given 22 t refl
-  no_field_refusal (suc (suc (suc (suc (suc k))))) t h = let no : ⊥ = omega arith in absurd no
+  no_field_refusal (suc (suc (suc (suc (suc k))))) t h = absurd (omega arith)

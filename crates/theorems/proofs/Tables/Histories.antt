@@ -166,7 +166,7 @@ module _ (f : List ℕ) where
         }
 
     shorten_list : (ys : List ℕ) → xs ≡ ys → 0 < length ys → Afresh f (take (length xs - 1) xs) (without_last w)
-    shorten_list [] is some = let no : ⊥ = omega arith in absurd no
+    shorten_list [] is some = absurd (omega arith)
     shorten_list (x ∷ ys) is some = shorten_some x ys is
 
     shorten_ways : (wrong none : Bool) → eqb (count_of w) 0 ≡ none
