@@ -66,6 +66,11 @@ module _ (P : ℕ → ℕ → Type 0) where
   of_following (answer a) g h i = i a
   of_following (refusal n t) g h i = of_refusal n t (h n t refl)
 
+  -- the same into a buffer, which a refusal leaves
+  pub of_lending : {A B : Type 0} (r : Reply A) (g : A → Outcome B) (out : List ℕ) → Numbered P r → ((a : A) → Numbered P (g a).reply) → Numbered P (on_answer r g out).reply
+  of_lending (answer a) g out h i = i a
+  of_lending (refusal n t) g out h i = of_refusal n t (h n t refl)
+
   pub of_outcome : {A : Type 0} (b : Bool) (n t : ℕ) (out : List ℕ) (o : Outcome A) → P n t → Numbered P o.reply
       → Numbered P (if◌then◌else◌ {A = Outcome A} b (record { reply = refusal n t; buffer = out }) o).reply
   of_outcome true n t out o p h = of_refusal n t p
@@ -194,16 +199,12 @@ module _ (f : List ℕ) (start k size : ℕ) (out : List ℕ) where
   unfolding record_of
   record_numbered j = of_outcome OfBlocks (ltb (length j) (k * size + size)) 16 0 out _ refl (of_answer OfBlocks tt)
 
-  on_blocks : (r : Reply (List Block)) → Numbered OfBlocks r → Numbered OfBlocks (on_answer r (λ bs. record_of (joined f bs) k size out) out).reply
-  on_blocks (answer bs) h = record_numbered (joined f bs)
-  on_blocks (refusal n t) h = of_refusal OfBlocks n t (h n t refl)
-
   pub fetched_numbered : Numbered OfBlocks (fetched f start k size out).reply
   unfolding fetched
   fetched_numbered =
       of_outcome OfBlocks (bad_size size (length out)) 15 0 out _ refl
       (of_outcome OfBlocks (ltb file_limit (length f)) 7 0 out _ refl
-      (on_blocks (chain_of id_dt f start) (chain_numbered id_dt f start)))
+      (of_lending OfBlocks (chain_of id_dt f start) _ out (chain_numbered id_dt f start) (λ bs. record_numbered (joined f bs))))
 
 -- ---- a field
 

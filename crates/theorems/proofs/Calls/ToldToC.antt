@@ -68,6 +68,12 @@ of_area = by_number OfArea (λ t h. true≢false (sym h))
 of_writing : {A : Type 0} (r : Reply A) → Numbered OfWriting r → Tellable Any r
 of_writing = by_number OfWriting (λ t h. true≢false (sym h))
 
+-- what follows an answer; a refusal before it is handed on
+pub following : {A B : Type 0} (P : A → Type 0) (Q : B → Type 0) (r : Reply A) (g : A → Reply B) → Tellable P r → ((a : A) → P a → Tellable Q (g a))
+    → Tellable Q (and_then r g)
+following P Q (answer a) g h i = i a h
+following P Q (refusal n t) g h i = h
+
 -- ---- the values of fields can be told
 
 -- two's complement of up to 64 bits is a word's
@@ -126,21 +132,13 @@ Judged v = Reversible v.value
 
 pub valid_value_tellable : (s : List ℕ) (g : Group) (c : Channel) → Tellable Judged (valid_value_of s g c)
 unfolding valid_value_of
-valid_value_tellable s g c = go (value_of s g.id_size c) (value_tellable s g.id_size c)
-  where
-    go : (r : Reply Value) → Tellable Reversible r → Tellable Judged (and_then r (λ v. answer (record { value = v; valid = valid_of s g c })))
-    go (answer v) h = h
-    go (refusal n t) h = h
+valid_value_tellable s g c = following Reversible Judged (value_of s g.id_size c) _ (value_tellable s g.id_size c) (λ v h. h)
 
 pub bounded_value_tellable : (s : List ℕ) (g : Group) (c : Channel) → Tellable Judged (bounded_value_of s g c)
 unfolding bounded_value_of
-bounded_value_tellable s g c = go (value_of s g.id_size c) (bounded_valid_of s g c) (value_tellable s g.id_size c) (bounded_valid_numbered s g c)
-  where
-    go : (r : Reply Value) (q : Reply Bool) → Tellable Reversible r → Numbered OfArea q
-        → Tellable Judged (and_then r (λ v. and_then q (λ b. answer (record { value = v; valid = b }))))
-    go (answer v) (answer b) h i = h
-    go (answer v) (refusal n t) h i = of_area (refusal n t) i
-    go (refusal n t) q h i = h
+bounded_value_tellable s g c =
+    following Reversible Judged (value_of s g.id_size c) _ (value_tellable s g.id_size c)
+    (λ v h. following Any Judged (bounded_valid_of s g c) _ (of_area _ (bounded_valid_numbered s g c)) (λ b any. h))
 
 -- ---- what each call returns
 
@@ -241,12 +239,9 @@ mf4_read_record_told κs file start number size out y after p =
 pub value_fetched_tellable : (f : List ℕ) (start k size : ℕ) (g : Group) (c : Channel) (out : List ℕ)
     → Tellable Judged (value_fetched f start k size g c out).reply
 unfolding value_fetched
-value_fetched_tellable f start k size g c out = go (fetched f start k size out).reply (fetched_numbered f start k size out)
-  where
-    go : (r : Reply (Unit {0})) → Numbered OfBlocks r
-        → Tellable Judged (and_then r (λ u. bounded_value_of (take size (fetched f start k size out).buffer) g c))
-    go (answer u) h = bounded_value_tellable (take size (fetched f start k size out).buffer) g c
-    go (refusal n t) h = of_blocks (refusal n t) h
+value_fetched_tellable f start k size g c out =
+    following Any Judged (fetched f start k size out).reply _ (of_blocks _ (fetched_numbered f start k size out))
+    (λ u any. bounded_value_tellable (take size (fetched f start k size out).buffer) g c)
 
 pub mf4_record_value_told : (κs : Lfts 2) (file : Slice) (start number size : ℕ) (group : Mf4Group) (channel : Mf4Channel) (out : Room) (y : Mf4ValidValueReply) (after : List ℕ)
     → ReadsRecordValueC κs file start number size group channel out y after

@@ -36,10 +36,10 @@ use Rattle.theorems.specs.Clauses.{OpensTable, ExtendsTable, ShortensTable, Fetc
 use Rattle.theorems.specs.ClausesToC.{OpensTableC, ExtendsTableC, ShortensTableC, FetchesRecordC, FetchesValueC}
 use Rattle.theorems.proofs.Calls.AnswersByCalls.{of_outcome}
 use Rattle.theorems.proofs.Calls.RefusalNumbers as numbers
-use Rattle.theorems.proofs.Calls.RefusalNumbers.{Numbered, OfBlocks, OfBounded, weaker, of_refusal, of_following, chain_numbered, block_numbered, of_answer, bounded_value_numbered}
+use Rattle.theorems.proofs.Calls.RefusalNumbers.{Numbered, OfBlocks, OfBounded, weaker, of_following, of_lending, chain_numbered, block_numbered, of_answer, bounded_value_numbered}
 use Rattle.theorems.proofs.Calls.RefusalNumbersByCalls.{numbered}
 use Rattle.theorems.proofs.Calls.RefusalNumbersToC.{NumberedC, done, valid_value}
-use Rattle.theorems.proofs.Calls.ToldToC.{Judged, by_number, bounded_value_tellable, by_result}
+use Rattle.theorems.proofs.Calls.ToldToC.{Judged, by_number, following, bounded_value_tellable, by_result}
 
 -- of a table, or of blocks, chains and records
 abbrev pub OfTables : ℕ → ℕ → Type 0
@@ -51,17 +51,11 @@ OfTableValues n t = OfTables n t ⊎ OfBounded n t
 
 -- ---- the definitions
 
-module _ (P : ℕ → ℕ → Type 0) where
-  on_answer_law : {A B : Type 0} (r : Reply A) (g : A → Outcome B) (out : List ℕ) → Numbered P r → ((a : A) → Numbered P (g a).reply)
-      → Numbered P (on_answer r g out).reply
-  on_answer_law (answer a) g out h i = i a
-  on_answer_law (refusal n t) g out h i = of_refusal P n t (h n t refl)
-
 pub opened_numbered : (f : List ℕ) (start : ℕ) (w : List ℕ) → Numbered OfTables (opened f start w).reply
 unfolding opened
 opened_numbered f start w =
     numbers.of_outcome OfTables (ltb file_limit (length f)) 7 0 w _ (inl refl)
-    (on_answer_law OfTables (chain_of id_dt f start) _ w (weaker _ (λ n t p. inl p) (chain_numbered id_dt f start))
+    (of_lending OfTables (chain_of id_dt f start) _ w (weaker _ (λ n t p. inl p) (chain_numbered id_dt f start))
     (λ bs. numbers.of_outcome OfTables (ltb table_limit (length bs)) 30 0 w _ (inr refl) (of_answer OfTables tt)))
 
 pub extended_numbered : (f : List ℕ) (a : ℕ) (w : List ℕ) → Numbered OfTables (extended f a w).reply
@@ -69,7 +63,7 @@ unfolding extended
 extended_numbered f a w =
     numbers.of_outcome OfTables (ltb file_limit (length f)) 7 0 w _ (inl refl)
     (numbers.of_outcome OfTables (not (sound f w)) 32 0 w _ (inr refl)
-    (on_answer_law OfTables (block_at id_dt f a) _ w (weaker _ (λ n t p. inl p) (block_numbered id_dt f a))
+    (of_lending OfTables (block_at id_dt f a) _ w (weaker _ (λ n t p. inl p) (block_numbered id_dt f a))
     (λ b. numbers.of_outcome OfTables (leb table_limit (count_of w)) 30 0 w _ (inr refl) (of_answer OfTables tt))))
 
 pub shortened_numbered : (w : List ℕ) → Numbered OfTables (shortened w).reply
@@ -149,12 +143,9 @@ module _ (κs : Lfts 3) (file table : Slice) (number size : ℕ) (out : Room) wh
 
   pub table_value_tellable : (g : Group) (c : Channel) → Tellable Judged (table_value_fetched file.now table.now number size g c out.now).reply
   unfolding table_value_fetched
-  table_value_tellable g c = go (table_fetched file.now table.now number size out.now).reply (of_tables _ (table_fetched_numbered file.now table.now number size out.now))
-    where
-      go : (r : Reply (Unit {0})) → Tellable Any r
-          → Tellable Judged (and_then r (λ u. bounded_value_of (take size (table_fetched file.now table.now number size out.now).buffer) g c))
-      go (answer u) h = bounded_value_tellable (take size (table_fetched file.now table.now number size out.now).buffer) g c
-      go (refusal n t) h = h
+  table_value_tellable g c =
+      following Any Judged (table_fetched file.now table.now number size out.now).reply _ (of_tables _ (table_fetched_numbered file.now table.now number size out.now))
+      (λ u any. bounded_value_tellable (take size (table_fetched file.now table.now number size out.now).buffer) g c)
 
   module _ (group : Mf4Group) (channel : Mf4Channel) (y : Mf4ValidValueReply) (after : List ℕ) (p : FetchesValueC κs file table number size group channel out y after) where
     pub mf4_table_value_numbered : NumberedC OfTableValues y.reply y.told
