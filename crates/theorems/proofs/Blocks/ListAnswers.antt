@@ -18,9 +18,6 @@ use Rattle.blocks.proofs.Headers.{needed, header_met}
 use Rattle.blocks.proofs.Lists.{list_linked}
 use Rattle.definitions.proofs.Replies.{not_answered, needing_met}
 
-pub above_zero : (n : ℕ) → (n ≡ 0 → ⊥) → 0 < n
-above_zero n h = omega arith
-
 module _ (s : List ℕ) where
   pub list_answered : ListStands s → list_of s ≡ answer (list_in s (header_in s))
   unfolding rest_of
@@ -51,4 +48,4 @@ module _ (s : List ℕ) where
   list_stands d h =
       let p = linked (header_in s) d (headed s (links_of s) d h) in
       let q = rested d p.2 in
-      (record { named = p.0; some = above_zero (u64_at s 16) p.1; whole = q.0 }, cc)
+      (record { named = p.0; some = omega (arith, p.1); whole = q.0 }, cc)

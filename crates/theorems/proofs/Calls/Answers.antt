@@ -9,6 +9,7 @@ use native.Mathlib.Omega.{arith}
 use lib.ListN.{length, drop}
 use lib.Dec.{ltb, eqb}
 use borrow.Author.Tests.{ltb-true, ltb-false, lt-ltb, le-ltb, eqb-true, eqb-false, not-false, ne_eqb, eq-eqb}
+use Rattle.std.proofs.lemmas.Bool.{or_parts, or_cases}
 use Rattle.definitions.specs.Reply.{Reply, Outcome, answer, refusal, and_then, told, writing, on_answer}
 use Rattle.definitions.specs.Bytes.{span}
 use Rattle.definitions.specs.Unicode.{Encoding, text_of, written_text, text_written}
@@ -26,20 +27,12 @@ use Rattle.channels.proofs.Channels.{length_channel}
 use Rattle.words.proofs.Spans.{length_span}
 use Rattle.places.proofs.Answers.{answered, followed}
 use Rattle.theorems.proofs.Blocks.Rewritten.{front_of}
-use Rattle.theorems.proofs.Blocks.ListAnswers.{above_zero, list_answered, list_stands}
+use Rattle.theorems.proofs.Blocks.ListAnswers.{list_answered, list_stands}
 use Rattle.theorems.proofs.Blocks.ChannelAnswers.{channel_answered, channel_stands}
 use Rattle.theorems.proofs.Chains.AcceptedChains.{accepted, accepts}
 use Rattle.theorems.specs.Exactly.{Exactly, ListStands, ChannelStands, Counted, ListFits, Legal, FieldStands, InArea, BoundedStands, Joinable, Fetchable, ValueFetchable}
 
 -- ---- tests in turn
-
-neither : (a b : Bool) → a || b ≡ false → (a ≡ false) × (b ≡ false)
-neither true b h = absurd (true≢false h)
-neither false b h = (refl, h)
-
-either : (a b : Bool) → a || b ≡ true → (a ≡ true) ⊎ (b ≡ true)
-either true b h = inl refl
-either false b h = inr h
 
 module _ {A : Type 0} where
   pub always : (a : A) → Exactly (Unit {0}) (answer a)
@@ -126,7 +119,7 @@ counted_passes n (variable ns) p = rw (le-ltb _ _ p.0, eq-eqb _ _ p.1)
 passed_counted : (n : ℕ) (l : Lengths) → unwritable n l ≡ false → (n ≤ link_limit) × Counted n l
 passed_counted n (equal k) h = (ltb-false _ _ h, tt)
 passed_counted n (variable ns) h =
-    let p = neither (ltb link_limit n) (not (eqb n (length ns))) h in
+    let p = or_parts (ltb link_limit n) (not (eqb n (length ns))) h in
     (ltb-false _ _ p.0, eqb-true _ _ (not-false _ p.1))
 
 module _ (out : List ℕ) (next : ℕ) (links : List ℕ) (l : Lengths) where
@@ -158,7 +151,7 @@ width_told w (inl e) = inl (eqb-true _ _ e)
 width_told w (inr e) = inr (eqb-true _ _ e)
 
 passed_width : (w : ℕ) → not (eqb w 32 || eqb w 64) ≡ false → (w ≡ 32) ⊎ (w ≡ 64)
-passed_width w h = width_told w (either (eqb w 32) (eqb w 64) (not-false _ h))
+passed_width w h = width_told w (or_cases (eqb w 32) (eqb w 64) (not-false _ h))
 
 module _ (s : List ℕ) (at n : ℕ) (c : Channel) where
   inside_exactly : {Q : Type 0} (r : Reply Value) → Exactly Q r → Exactly ((at + n ≤ length s) × Q) (if ltb (length s) (at + n) then refusal 21 (told (at + n)) else r)
@@ -248,9 +241,9 @@ size_passes size room p =
 
 pub size_fits : (size room : ℕ) → bad_size size room ≡ false → (0 < size) × (size ≤ record_limit) × (size ≤ room)
 size_fits size room h =
-    let p = neither (eqb size 0 || ltb record_limit size) (ltb room size) h in
-    let q = neither (eqb size 0) (ltb record_limit size) p.0 in
-    (above_zero size (eqb-false _ _ q.0), ltb-false _ _ q.1, ltb-false _ _ p.1)
+    let p = or_parts (eqb size 0 || ltb record_limit size) (ltb room size) h in
+    let q = or_parts (eqb size 0) (ltb record_limit size) p.0 in
+    (omega (arith, eqb-false _ _ q.0), ltb-false _ _ q.1, ltb-false _ _ p.1)
 
 module _ (f : List ℕ) (start k size : ℕ) (out : List ℕ) where
   record_exactly : (j : List ℕ) → Exactly (k * size + size ≤ length j) (record_of j k size out).reply

@@ -7,6 +7,7 @@ use mathlib.Core.List.{List}
 use Prim.Native.Nat.{ℕ, zero, suc, ◌+◌, ◌≤◌, ◌<◌}
 use native.Mathlib.Omega.{arith}
 use lib.Dec.{ltb, leb, eqb}
+use borrow.Author.Count.{below_more}
 use borrow.Author.Tests.{ltb-true, ltb-false, lt-ltb, le-ltb, leb-false, lt-leb, eqb-true, eq-eqb, eqb-false}
 use Rattle.definitions.specs.Reply.{Reply, Outcome, answer, refusal, and_then, on_answer}
 use Rattle.definitions.proofs.Replies.{not_answered, both}
@@ -163,13 +164,9 @@ together c d e h = record {
 
 -- ---- many in a row
 
--- of each place up to k, by whether it is k
+-- of each place up to k
 pub before_or_last : {P : ℕ → Type 0} (k : ℕ) → ((j : ℕ) → j < k → P j) → P k → (j : ℕ) → j < suc k → P j
-before_or_last {P = P} k before last j l = go (eqb j k) refl
-  where
-    go : (b : Bool) → eqb j k ≡ b → P j
-    go true e = subst P (sym (eqb-true j k e)) last
-    go false e = let no = eqb-false j k e in before j (omega arith)
+before_or_last {P = P} k before last j l = below_more P k before last j (omega arith)
 
 -- nothing before test k refuses
 abbrev Past : (ℕ → Cause) → ℕ → Type 0

@@ -37,8 +37,8 @@ module _ (s : List ℕ) (d : DataList) (p i more n : ℕ) (here : i + 1 + more �
 
   -- nothing follows the last one
   none_behind : {B : Type 0} → is_last d i ≡ true → (0 < more) ⊎ (0 < d.next) → B
-  none_behind h (inl m) = let no : ⊥ = omega (arith, leb-true d.links (i + 1) (both (eqb d.next 0) (leb d.links (i + 1)) h).1) in absurd no
-  none_behind h (inr m) = let no : ⊥ = omega (arith, eqb-true d.next 0 (both (eqb d.next 0) (leb d.links (i + 1)) h).0) in absurd no
+  none_behind h (inl m) = absurd (omega (arith, leb-true d.links (i + 1) (both (eqb d.next 0) (leb d.links (i + 1)) h).1))
+  none_behind h (inr m) = absurd (omega (arith, eqb-true d.next 0 (both (eqb d.next 0) (leb d.links (i + 1)) h).0))
 
   behind_by : (t : Bool) → eqb d.next 0 ≡ t → (t && leb d.links (i + 1)) ≡ false → (0 < more) ⊎ (0 < d.next)
   behind_by true e h = inl (omega (arith, leb-false d.links (i + 1) h))
@@ -50,7 +50,7 @@ module _ (s : List ℕ) (d : DataList) (p i more n : ℕ) (here : i + 1 + more �
 
   -- bit 0 is not both
   clash : {B : Type 0} → bit d.flags 0 ≡ 1 → bit d.flags 0 ≡ 0 → B
-  clash one zero = let no : ⊥ = omega (arith, sym one ∙ zero) in absurd no
+  clash one zero = absurd (omega arith)
 
   by_test : (one last : Bool) → one_length d.flags ≡ one → is_last d i ≡ last → Test one last ≡ true → Truthful s d p i more n
   by_test true true e k h = record {

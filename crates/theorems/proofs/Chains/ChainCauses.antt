@@ -103,7 +103,7 @@ module _ (id f : List ℕ) (start : ℕ) where
     where
       go : (b : Bool) → eqb next 0 ≡ b → RefusedExactly (λ n t. (0 < next) × (r ≡ refusal n t)) (if b then answer bs else r)
       go true e = record {
-        given = λ n t x. let no : ⊥ = omega (arith, x.0, eqb-true next 0 e) in absurd no;
+        given = λ n t x. absurd (omega (arith, x.0, eqb-true next 0 e));
         only = λ n t h. not_answered bs n t (sym h);
       }
       go false e = let some = eqb-false next 0 e in record { given = λ n t x. x.1; only = λ n t h. (omega arith, h) }

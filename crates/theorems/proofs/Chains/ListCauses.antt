@@ -60,9 +60,9 @@ module _ (s : List ℕ) (d : DataList) (i p n : ℕ) where
     where
       to : Untrue s d i p n → not (leb n (length_in s d)) ≡ true
       to (longer o m) = (tests_more n (length_in s d)).shows m
-      to (not_full o (inl m) short) = let none : ⊥ = omega (arith, leb-true d.links (i + 1) (both (eqb d.next 0) _ l).1) in absurd none
-      to (not_full o (inr m) short) = let none : ⊥ = omega (arith, eqb-true d.next 0 (both (eqb d.next 0) _ l).0) in absurd none
-      to (misplaced z other) = let none : ⊥ = omega (arith, sym (eqb-true _ _ e) ∙ z) in absurd none
+      to (not_full o (inl m) short) = absurd (omega (arith, leb-true d.links (i + 1) (both (eqb d.next 0) _ l).1))
+      to (not_full o (inr m) short) = absurd (omega (arith, eqb-true d.next 0 (both (eqb d.next 0) _ l).0))
+      to (misplaced z other) = absurd (omega (arith, eqb-true _ _ e))
   untrue_by true false e l = record {
     holds = λ h. not_full (eqb-true _ _ e) (follows (eqb d.next 0) refl l) ((tests_not _ (tests_equal n (length_in s d))).holds h);
     shows = to;
@@ -75,7 +75,7 @@ module _ (s : List ℕ) (d : DataList) (i p n : ℕ) where
       to : Untrue s d i p n → not (eqb n (length_in s d)) ≡ true
       to (longer o m) = (tests_not _ (tests_equal n (length_in s d))).shows (λ q. omega arith)
       to (not_full o m short) = (tests_not _ (tests_equal n (length_in s d))).shows short
-      to (misplaced z other) = let none : ⊥ = omega (arith, sym (eqb-true _ _ e) ∙ z) in absurd none
+      to (misplaced z other) = absurd (omega (arith, eqb-true _ _ e))
   untrue_by false last e l = record {
     holds = λ h. misplaced (unset d.flags (eqb-false _ _ e)) ((tests_not _ (tests_equal (u64_at s (d.rest_at + i * 8)) p)).holds h);
     shows = to;
@@ -149,7 +149,7 @@ module _ (f : List ℕ) (start a : ℕ) where
   tests_count : (last : Bool) → eqb d.next 0 ≡ last → Tests OtherCount (not (if last then leb d.count e.count else eqb d.count e.count))
   tests_count true l = record {
     holds = λ h. inr ((tests_more d.count e.count).holds h);
-    shows = ⊎_elim (λ x. let no : ⊥ = omega (arith, x.0, eqb-true d.next 0 l) in absurd no) (tests_more d.count e.count).shows;
+    shows = ⊎_elim (λ x. absurd (omega (arith, x.0, eqb-true d.next 0 l))) (tests_more d.count e.count).shows;
   }
   tests_count false l =
       let other = tests_not _ (tests_equal d.count e.count) in

@@ -41,7 +41,7 @@ module _ (f : List ℕ) (before : List Part) (q : Part) (after : List Part) wher
         let p = both (eqb _ n) (leb _ c) h in record {
           flag = eqb-true _ _ e;
           declares = eqb-true _ n p.0;
-          counts = λ more. let no : ⊥ = omega (arith, eqb-true q.list.next 0 g) in absurd no;
+          counts = λ more. absurd (omega (arith, eqb-true q.list.next 0 g));
           most = leb-true _ c p.1;
         }
     length_by_law true false e g h =

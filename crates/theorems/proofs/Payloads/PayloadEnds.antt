@@ -21,7 +21,6 @@ use Rattle.theorems.specs.Causes.{Not}
 use Rattle.theorems.specs.FetchEnds.{record_left}
 use Rattle.theorems.specs.PayloadEnds.{payload_told, PayloadEnds, no_position, no_record, no_payload, no_room, no_value, a_value}
 use Rattle.theorems.proofs.Blocks.Rewritten.{front_of}
-use Rattle.theorems.proofs.Blocks.ListAnswers.{above_zero}
 use Rattle.theorems.proofs.Calls.RefusalNumbers.{Numbered, OfPayloads, of_answer, of_refusal, of_blocks_too, fetched_numbered, payload_numbered}
 use Rattle.theorems.proofs.Calls.Answers.{fetched_exactly, fetched_record}
 use Rattle.theorems.proofs.Calls.LeftAlone.{fetch_leaves}
@@ -37,7 +36,7 @@ module _ (c : Channel) where
       let v = both (eqb c.channel_type 1) (not (eqb c.data_link 0)) q.0 in
       record {
         variable = eqb-true _ _ v.0;
-        linked = above_zero c.data_link (eqb-false _ _ (not-true _ v.1));
+        linked = omega (arith, eqb-false _ _ (not-true _ v.1));
         from_first = eqb-true _ _ q.1;
         eight = eqb-true _ _ p.1;
       }

@@ -20,7 +20,6 @@ use Rattle.places.proofs.Blocks.{block_stands}
 use Rattle.table.proofs.Fragments.{data_long}
 use Rattle.theorems.specs.Exactly.{Exactly, InArea}
 use Rattle.theorems.specs.TableCauses.{Openable, Extendable, Shortenable, TableFetchable, TableValueFetchable}
-use Rattle.theorems.proofs.Blocks.ListAnswers.{above_zero}
 use Rattle.theorems.proofs.Calls.Answers.{size_fits, size_passes, bounded_value_exactly}
 use Rattle.theorems.proofs.Chains.AcceptedChains.{accepted, accepts}
 use Rattle.theorems.proofs.Chains.BlocksStand.{block_taken}
@@ -83,7 +82,7 @@ module _ (w : List ℕ) where
     answers = λ h. let n : count_of w ≡ 0 → ⊥ = λ z. omega (arith, h.some) in (tt, rw ((tests_order w).shows h.order, ne_eqb _ _ n) refl);
     only = λ u e.
         let p = shortened_by (not (ordered w)) (eqb (count_of w) 0) u e in
-        record { order = (tests_order w).holds (not-false (ordered w) p.0); some = above_zero (count_of w) (eqb-false _ _ p.1) };
+        record { order = (tests_order w).holds (not-false (ordered w) p.0); some = omega (arith, eqb-false _ _ p.1) };
   }
 
 -- ---- a record, and a value in it

@@ -86,18 +86,18 @@ shown_again type count kind number l = one (eqb kind 1) refl
 
 -- and a number that is shown is given again
 given_again : (kind number at n : ℕ) → 0 < kind → kind ≤ 3 → value_again kind number at n ≡ value_given (given_by kind number)
-given_again zero number at n some few = let no_kind : ⊥ = omega arith in absurd no_kind
+given_again zero number at n some few = absurd (omega arith)
 given_again (suc zero) number at n some few = refl
 given_again (suc (suc zero)) number at n some few = refl
 given_again (suc (suc (suc zero))) number at n some few = refl
-given_again (suc (suc (suc (suc k)))) number at n some few = let no_kind : ⊥ = omega arith in absurd no_kind
+given_again (suc (suc (suc (suc k)))) number at n some few = absurd (omega arith)
 
 given_number : (kind number : ℕ) → 0 < kind → kind ≤ 3 → IsNumber (given_by kind number)
-given_number zero number some few = let no_kind : ⊥ = omega arith in absurd no_kind
+given_number zero number some few = absurd (omega arith)
 given_number (suc zero) number some few = tt
 given_number (suc (suc zero)) number some few = tt
 given_number (suc (suc (suc zero))) number some few = tt
-given_number (suc (suc (suc (suc k)))) number some few = let no_kind : ⊥ = omega arith in absurd no_kind
+given_number (suc (suc (suc (suc k)))) number some few = absurd (omega arith)
 
 -- a number of 64 bits is the pattern of a double
 number_sized : (kind number : ℕ) → number < 2 ^ 64 → Sized (given_by kind number)
