@@ -13,6 +13,8 @@ pub mod LeftAloneToC
 pub mod Answers
 pub mod AnswersByCalls
 pub mod AnswersToC
+-- the parts of what it replies and leaves
+pub mod Outcomes
 -- which numbers its refusals have
 pub mod RefusalNumbers
 pub mod RefusalNumbersByCalls

@@ -29,7 +29,7 @@ use Rattle.theorems.specs.Refused.{RefusedExactly, ToldExactly}
 use Rattle.theorems.specs.BlockCauses.{header_refused, list_refused, channel_refused, header_unwritten, list_unwritten, channel_unwritten, text_unwritten}
 use Rattle.theorems.specs.Clauses.{ReadsHeader, WritesHeader, ReadsList, WritesEqual, WritesVariable, ReadsChannel, WritesChannel, WritesText}
 use Rattle.theorems.specs.ClausesToC.{ReadsHeaderC, WritesHeaderC, ReadsListC, WritesEqualC, WritesVariableC, ReadsChannelC, WritesChannelC, WritesTextC}
-use Rattle.theorems.proofs.Calls.AnswersByCalls.{of_outcome}
+use Rattle.theorems.proofs.Calls.Outcomes.{of_outcome}
 use Rattle.theorems.proofs.Calls.ToldToC.{mf4_read_header_told, mf4_write_header_told, mf4_read_list_told, mf4_write_list_equal_told, mf4_write_list_variable_told, mf4_read_channel_told, mf4_write_channel_told, mf4_text_told}
 use Rattle.theorems.proofs.Calls.TestsInTurn.{as_is, told_exactly}
 use Rattle.theorems.proofs.Blocks.BlockCauses.{header_refused_law, list_refused_law, channel_refused_law, header_written_refused, list_written_refused, channel_written_refused, text_written_refused}

@@ -18,6 +18,7 @@ use Rattle.words.proofs.Numbers.{Bytes}
 use Rattle.blocks.proofs.Headers.{length_header}
 use Rattle.channels.proofs.Channels.{length_channel}
 use Rattle.theorems.specs.Exactly.{ListFits}
+use Rattle.theorems.proofs.Calls.Outcomes.{of_buffer}
 use Rattle.theorems.proofs.Blocks.Rewritten.{Words, front_of}
 use Rattle.theorems.proofs.Calls.Answers.{list_written_exactly}
 use Rattle.theorems.proofs.Blocks.ListAnswers.{list_stands}
@@ -37,7 +38,7 @@ passed true n t out o a h = not_answered a n t h
 passed false n t out o a h = refl
 
 front_written : {A : Type 0} (out bytes : List ℕ) (a b : A) → (writing out bytes a).reply ≡ answer b → (writing out bytes a).buffer ≡ bytes ++ drop (length bytes) out
-front_written {A} out bytes a b h = ap (λ (o : Outcome A). o.buffer) (passed (ltb (length out) (length bytes)) 6 (told (length bytes)) out _ b h)
+front_written {A} out bytes a b h = of_buffer (passed (ltb (length out) (length bytes)) 6 (told (length bytes)) out _ b h)
 
 -- the buffer of an outcome that answers
 pub record WrittenInto (after : List ℕ) (o : Outcome ℕ) : Type 0 where

@@ -22,6 +22,7 @@ use Rattle.block_replies.specs.declared.written.Mf4WrittenReply.{Mf4WrittenReply
 use Rattle.mf4.specs.Clauses.{Slice, Room}
 use Rattle.theorems.specs.ClausesToC.{ReadsHeaderC, WritesHeaderC, GivesCodeC, ReadsChannelC, WritesChannelC, ReadsListC, WritesEqualC, WritesVariableC}
 use Rattle.block_replies.proofs.ToldToC.{written_again, header_again, list_again, channel_again}
+use Rattle.theorems.proofs.Calls.Outcomes.{returned_buffer}
 use Rattle.theorems.proofs.Calls.ToldToC.{mf4_read_header_told, mf4_write_header_told, mf4_read_channel_told, mf4_write_channel_told, mf4_read_list_told, mf4_write_list_equal_told, mf4_write_list_variable_told}
 use Rattle.theorems.proofs.Types.TypeCodes.{code_back, type_written_law}
 use Rattle.theorems.proofs.Blocks.Rewritten.{Words}
@@ -36,7 +37,7 @@ into : (y : Mf4WrittenReply) (after : List ℕ) (o : Outcome ℕ) → returned y
 into y after o p told zero = record {
   count = y.count;
   answers = sym told ∙ rw (eq-eqb _ _ zero);
-  left = ap (λ (x : Returned Mf4WrittenReply). x.buffer) p;
+  left = returned_buffer p;
 }
 
 -- ---- a type

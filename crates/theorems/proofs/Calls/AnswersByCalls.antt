@@ -15,6 +15,7 @@ use Rattle.refusals.specs.declared.Refusal.{Refusal}
 use Rattle.mf4.specs.Clauses.{Slice, Room}
 use Rattle.theorems.specs.Exactly.{Exactly, ListStands, ChannelStands, ListFits, FieldStands, InArea, BoundedStands, Joinable, Fetchable, ValueFetchable}
 use Rattle.theorems.specs.Clauses.{ReadsHeader, WritesHeader, ReadsList, WritesEqual, WritesVariable, ReadsChannel, WritesChannel, WritesText, ReadsValue, ReadsValidValue, ReadsBoundedValue, ChecksBoundedValidity, ReadsLength, ReadsRecord, ReadsRecordValue}
+use Rattle.theorems.proofs.Calls.Outcomes.{of_outcome}
 use Rattle.theorems.proofs.Calls.Answers.{header_exactly, list_exactly, channel_exactly, header_written_exactly, channel_written_exactly, list_written_exactly, text_written_exactly, value_exactly, valid_value_exactly, bounded_valid_exactly, bounded_value_exactly, length_exactly, fetched_exactly, value_fetched_exactly}
 use Rattle.blocks.specs.Meaning.{header_reply, header_meant, written_reply, list_reply}
 use Rattle.channels.specs.Meaning.{channel_block_reply, channel_block_meant}
@@ -40,10 +41,6 @@ use Rattle.places.specs.declared.place.DataPosition.{DataPosition}
 -- a reply that is the definition's
 pub exactly : {A P : Type 0} {r q : Reply A} → r ≡ q → Exactly P q → Exactly P r
 exactly e h = record { answers = λ p. let a = h.answers p in (a.0, e ∙ a.1); only = λ a i. h.only a (sym e ∙ i) }
-
--- and one beside the buffer
-pub of_outcome : {A : Type 0} {o q : Outcome A} → o ≡ q → o.reply ≡ q.reply
-of_outcome {A} e = ap (λ (o : Outcome A). o.reply) e
 
 -- ---- blocks
 

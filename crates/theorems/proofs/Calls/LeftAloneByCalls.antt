@@ -9,6 +9,7 @@ use Rattle.definitions.specs.Reply.{Reply, Outcome, answer, refusal}
 use Rattle.definitions.specs.DataList.{equal, variable}
 use Rattle.mf4.specs.Clauses.{Slice, Room}
 use Rattle.theorems.specs.Clauses.{WritesHeader, WritesChannel, WritesEqual, WritesVariable, WritesText, ReadsRecord}
+use Rattle.theorems.proofs.Calls.Outcomes.{of_buffer, of_outcome}
 use Rattle.theorems.proofs.Calls.LeftAlone.{SameBehind, untouched, Leaves, itself, count_of, header_leaves, channel_leaves, list_leaves, text_leaves, fetch_leaves}
 use Rattle.blocks.specs.Meaning.{header_meant, written_reply}
 use Rattle.channels.specs.Meaning.{channel_block_meant}
@@ -45,8 +46,8 @@ module _ {Result A : Type 0} (reply : Result → Reply A) (count : A → ℕ) (o
 
   pub sparing : Sparing (λ y after. record { reply = reply y; buffer = after } ≡ o) (λ y. Refused (reply y)) (λ y. reported count (reply y)) before
   sparing y after p =
-      let same : after ≡ o.buffer = ap (λ (x : Outcome A). x.buffer) p in
-      let replied : o.reply ≡ reply y = sym (ap (λ (x : Outcome A). x.reply) p) in
+      let same : after ≡ o.buffer = of_buffer p in
+      let replied : o.reply ≡ reply y = sym (of_outcome p) in
       record {
         refused = λ q. same ∙ h.refused q.0 q.1 (replied ∙ q.2);
         behind = subst (SameBehind (reported count (reply y)) before) (sym same) (by_reply (reply y) replied);

@@ -11,6 +11,7 @@ use Rattle.definitions.specs.Reply.{Reply, Outcome}
 use Rattle.definitions.specs.Report.{Report}
 use Rattle.mf4.specs.Clauses.{Allows}
 use Rattle.theorems.specs.Sole.{Settled}
+use Rattle.theorems.proofs.Calls.Outcomes.{of_outcome}
 use Rattle.theorems.proofs.Reports.ReportsOne.{report_one}
 use Rattle.blocks.specs.Meaning.{written_reply}
 use Rattle.text.specs.Meaning.{text_reply}
@@ -172,7 +173,7 @@ settled sole = record { free = λ κs a. tt; says = λ κs a y e w. refl; sole =
 one_outcome : {A Y B : Type 0} (meaning : Y → Reply A) → ((y z : Y) → meaning y ≡ meaning z → y ≡ z) → (place : List ℕ → B)
     {y z : Y} {b c : List ℕ} → ◌≡◌ {A = Outcome A} (record { reply = meaning y; buffer = b }) (record { reply = meaning z; buffer = c })
     → (y ≡ z) × (place b ≡ place c)
-one_outcome {A} meaning one place {y} {z} e = (one y z (ap (λ (o : Outcome A). o.reply) e), ap (λ (o : Outcome A). place o.buffer) e)
+one_outcome {A} meaning one place {y} {z} e = (one y z (of_outcome e), ap (λ (o : Outcome A). place o.buffer) e)
 
 -- one result and two buffers, which stand among the lent ones at their places
 pub in_places : {Y B : Type 0} (place : List ℕ → List ℕ → B) {y z : Y} {a b v w : List ℕ} → (y ≡ z) × (a ≡ b) × (v ≡ w) → (y ≡ z) × (place a v ≡ place b w)
@@ -368,7 +369,7 @@ fixed_number_settled = settled (λ κs a y z b c p q. (p ∙ sym q, refl))
 pub channel_report_settled : Settled 2 channel_report_kinds.ps channel_report_kinds.r channel_report.Asked channel_report.ensures channel_report.Learnt
 channel_report_settled =
     settled (λ κs a y z b c p q. let e = p.0 ∙ sym q.0 in (
-      report_one y z p.1 q.1 (ap (λ (o : Outcome Report). o.reply) e),
+      report_one y z p.1 q.1 (of_outcome e),
       ap (λ (o : Outcome Report). (tt, (tt, (tt, (tt, (tt, (o.buffer, tt))))))) e,
     ))
 

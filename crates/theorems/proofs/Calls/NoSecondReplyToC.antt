@@ -4,6 +4,7 @@ use mathlib.Core.Path.{◌≡◌, refl, sym, ap, ◌∙◌}
 use mathlib.Core.List.{List}
 use Prim.Native.Nat.{ℕ}
 use Rattle.theorems.specs.Sole.{Settled}
+use Rattle.theorems.proofs.Calls.Outcomes.{returned_result}
 use Rattle.theorems.proofs.Calls.NoSecondReply.{settled, in_places}
 use Rattle.block_replies.specs.Replies.{Returned, returned, ReturnedBoth, returned_both}
 use Rattle.mf4.proofs.mf4_read_header.Kinds as mf4_read_header_kinds
@@ -73,7 +74,7 @@ use Rattle.mf4.proofs.mf4_first_overlap.Reads as mf4_first_overlap
 
 -- what is returned comes of one struct, and of one buffer, which stands among the lent ones at its place
 pub one_returned : {R B : Type 0} (place : List ℕ → B) {y z : R} {b c : List ℕ} → returned y b ≡ returned z c → (y ≡ z) × (place b ≡ place c)
-one_returned {R} place e = (ap (λ (x : Returned R). x.result) e, ap (λ (x : Returned R). place x.buffer) e)
+one_returned {R} place e = (returned_result e, ap (λ (x : Returned R). place x.buffer) e)
 
 -- the same of two buffers
 pub one_returned_both : {R : Type 0} {y z : R} {a b v w : List ℕ} → returned_both y a v ≡ returned_both z b w → (y ≡ z) × (a ≡ b) × (v ≡ w)

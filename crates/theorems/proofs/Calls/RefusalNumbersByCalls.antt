@@ -33,8 +33,8 @@ use Rattle.payloads.specs.Meaning.{payload_reply}
 use Rattle.payloads.specs.declared.value.DecodedPayload.{DecodedPayload}
 use Rattle.mf4.specs.Clauses.{Slice, Room}
 use Rattle.theorems.specs.Clauses.{ReadsHeader, WritesHeader, ReadsList, WritesEqual, WritesVariable, ReadsChannel, WritesChannel, WritesText, ReadsValue, ReadsValidValue, ReadsBoundedValue, ChecksBoundedValidity, WritesValue, ReadsLength, ReadsRecord, ReadsRecordValue, ReadsPayload}
+use Rattle.theorems.proofs.Calls.Outcomes.{of_outcome}
 use Rattle.theorems.proofs.Calls.RefusalNumbers.{Numbered, OfBlocks, OfFields, OfArea, OfBounded, OfFetches, OfPayloads, header_numbered, list_numbered, channel_numbered, header_written_numbered, channel_written_numbered, list_written_numbered, text_written_numbered, length_numbered, fetched_numbered, value_numbered, valid_value_numbered, bounded_valid_numbered, bounded_value_numbered, value_fetched_numbered}
-use Rattle.theorems.proofs.Calls.AnswersByCalls.{of_outcome}
 use Rattle.theorems.proofs.Payloads.PayloadEnds.{fetched_payload_numbered}
 use Rattle.theorems.proofs.Writing.WrittenEnds.{OfWriting, value_written_numbered}
 

@@ -34,6 +34,7 @@ use Rattle.replies.specs.declared.payload.Mf4PayloadReply.{Mf4PayloadReply}
 use Rattle.replies.specs.declared.overlap.Mf4OverlapReply.{Mf4OverlapReply}
 use Rattle.mf4.specs.Clauses.{Slice, Room}
 use Rattle.theorems.specs.ClausesToC.{ReadsHeaderC, WritesHeaderC, ReadsListC, WritesEqualC, WritesVariableC, ReadsChannelC, WritesChannelC, WritesTextC, ReadsValueC, ReadsValidValueC, ReadsUnboundedC, ChecksValidityC, WritesValueC, ReadsLengthC, ReadsRecordC, ReadsRecordValueC, ReadsPayloadC}
+use Rattle.theorems.proofs.Calls.Outcomes.{returned_result}
 use Rattle.theorems.proofs.Calls.RefusalNumbers.{Numbered, OfBlocks, OfFields, OfArea, OfBounded, OfFetches, OfPayloads, header_numbered, list_numbered, channel_numbered, header_written_numbered, channel_written_numbered, list_written_numbered, text_written_numbered, length_numbered, fetched_numbered, value_numbered, valid_value_numbered, bounded_valid_numbered, bounded_value_numbered, value_fetched_numbered}
 use Rattle.theorems.proofs.Texts.TextClausesToC.{text_clause}
 use Rattle.theorems.proofs.Payloads.PayloadEnds.{fetched_payload_numbered}
@@ -59,7 +60,7 @@ module _ {A R : Type 0} (to_c : Reply A → R) (number told : R → ℕ) (zero :
     -- beside a buffer
     pub numbered_beside : {P : ℕ → ℕ → Type 0} {y : R} {after : List ℕ} (o : Outcome A) → returned y after ≡ returned_by to_c o → Numbered P o.reply
         → NumberedC P (number y) (told y)
-    numbered_beside o p h = numbered o.reply (ap (λ (x : Returned R). x.result) p) h
+    numbered_beside o p h = numbered o.reply (returned_result p) h
 
 -- of the structs that several calls return
 module _ {P : ℕ → ℕ → Type 0} where
@@ -150,7 +151,7 @@ record_read_numbered κs file start number size out y after p =
 pub record_value_numbered : (κs : Lfts 2) (file : Slice) (start number size : ℕ) (group : Mf4Group) (channel : Mf4Channel) (out : Room) (y : Mf4ValidValueReply) (after : List ℕ)
     → ReadsRecordValueC κs file start number size group channel out y after → NumberedC OfFetches y.reply y.told
 record_value_numbered κs file start number size group channel out y after p =
-    valid_value _ (ap (λ (x : Returned Mf4ValidValueReply). x.result) p)
+    valid_value _ (returned_result p)
     (value_fetched_numbered file.now start number size out.now (group_given group) (channel_given channel))
 
 pub record_payload_numbered : (κs : Lfts 3) (file : Slice) (start number size : ℕ) (group : Mf4Group) (channel : Mf4Channel) (out room : Room) (y : Mf4PayloadReply) (after later : List ℕ)

@@ -31,6 +31,7 @@ use Rattle.theorems.specs.Causes.{Replies, FieldReplies, ValidityReplies, Bounde
 use Rattle.theorems.specs.Refused.{Cause}
 use Rattle.theorems.specs.Clauses.{ReadsValue, ReadsValidValue, ReadsBoundedValue, ChecksBoundedValidity, ReadsRecordValue}
 use Rattle.theorems.specs.ClausesToC.{ReadsValueC, ReadsValidValueC, ReadsUnboundedC, ChecksValidityC, ReadsRecordValueC}
+use Rattle.theorems.proofs.Calls.Outcomes.{of_outcome}
 use Rattle.theorems.proofs.Calls.Answers.{value_of_record}
 use Rattle.theorems.proofs.Fields.Causes.{value_replies, valid_value_replies, bounded_valid_replies, bounded_value_replies}
 use Rattle.theorems.proofs.Calls.ToldToC.{mf4_decode_value_told, mf4_decode_valid_value_told, mf4_decode_valid_value_unbounded_told, mf4_check_validity_told, mf4_record_value_told}
@@ -60,7 +61,7 @@ pub record_value_replies : (κs : Lfts 2) (file : Slice) (start : FileAddress) (
     → ReadsRecordValue κs file start number size group channel out y after → (h : Fetchable file.now start.0 number size out.now)
     → BoundedReplies (span (joined file.now h.blocks) (number * size) size) (group_meant group) (channel_meant channel) (valid_value_reply y)
 record_value_replies κs file start number size group channel out y after p h =
-    as_defined (ap (λ (o : Outcome ValidValue). o.reply) p ∙ value_of_record file.now start.0 number size out.now (group_meant group) (channel_meant channel) h)
+    as_defined (of_outcome p ∙ value_of_record file.now start.0 number size out.now (group_meant group) (channel_meant channel) h)
     (bounded_value_replies _ (group_meant group) (channel_meant channel))
 
 -- ---- for C: of the reply that the struct tells

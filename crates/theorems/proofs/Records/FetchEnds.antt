@@ -29,6 +29,7 @@ use Rattle.theorems.specs.Exactly.{Fetchable, record_bytes}
 use Rattle.theorems.specs.FetchEnds.{record_left, FetchEnds, no_record, no_value, a_value}
 use Rattle.theorems.specs.Clauses.{ReadsRecordValue}
 use Rattle.theorems.specs.ClausesToC.{ReadsRecordValueC}
+use Rattle.theorems.proofs.Calls.Outcomes.{returned_buffer}
 use Rattle.theorems.proofs.Blocks.Rewritten.{front_of}
 use Rattle.theorems.proofs.Calls.Answers.{fetched_exactly, fetched_record}
 use Rattle.theorems.proofs.Calls.LeftAlone.{SameBehind, untouched, front_laid, fetch_leaves}
@@ -99,7 +100,7 @@ module _ (κs : Lfts 2) (file : Slice) (start number size : ℕ) (group : Mf4Gro
     pub mf4_record_value_ends : FetchEnds file.now start number size (group_given group) (channel_given channel) out.now (record { reply = valid_value_again y; buffer = after })
     mf4_record_value_ends =
         let left : after ≡ (value_fetched file.now start number size (group_given group) (channel_given channel) out.now).buffer =
-        ap (λ (x : Returned Mf4ValidValueReply). x.buffer) p in
+        returned_buffer p in
         rw (mf4_record_value_told κs file start number size group channel out y after p, left)
         (value_ends file.now start number size (group_given group) (channel_given channel) out.now)
 

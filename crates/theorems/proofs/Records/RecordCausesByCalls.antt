@@ -24,8 +24,8 @@ use Rattle.theorems.specs.Refused.{RefusedExactly, ToldExactly}
 use Rattle.theorems.specs.RecordCauses.{length_refused, record_refused, record_value_refused}
 use Rattle.theorems.specs.Clauses.{ReadsLength, ReadsRecord, ReadsRecordValue}
 use Rattle.theorems.specs.ClausesToC.{ReadsLengthC, ReadsRecordC, ReadsRecordValueC}
-use Rattle.theorems.proofs.Calls.AnswersByCalls.{of_outcome}
 use Rattle.replies.proofs.ToldToC.{of_kind_told}
+use Rattle.theorems.proofs.Calls.Outcomes.{of_outcome}
 use Rattle.theorems.proofs.Calls.ToldToC.{Judged, value_fetched_tellable, mf4_data_length_told, mf4_read_record_told, mf4_record_value_told}
 use Rattle.theorems.proofs.Calls.TestsInTurn.{as_is, told_exactly}
 use Rattle.theorems.proofs.Records.RecordCauses.{length_refused_law, record_refused_law, value_fetched_refused}

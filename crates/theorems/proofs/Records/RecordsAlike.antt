@@ -27,8 +27,8 @@ use Rattle.mf4.specs.Clauses.{Slice, Room}
 use Rattle.theorems.specs.Exactly.{Fetchable, record_bytes}
 use Rattle.theorems.specs.Clauses.{ReadsRecordValue}
 use Rattle.theorems.specs.ClausesToC.{ReadsRecordValueC}
+use Rattle.theorems.proofs.Calls.Outcomes.{of_outcome, returned_result}
 use Rattle.theorems.proofs.Calls.Answers.{value_of_record}
-use Rattle.theorems.proofs.Calls.AnswersByCalls.{of_outcome}
 use Rattle.theorems.proofs.Calls.ToldToC.{mf4_record_value_told}
 use Rattle.theorems.proofs.Fields.LocalityByCalls as fields
 use Rattle.theorems.proofs.Fields.LocalityByCalls.{Alike, same_value, same_bounded_value}
@@ -110,6 +110,6 @@ module _ (κs : Lfts 2) (f e : Slice) (a b k l size : ℕ) (group : Mf4Group) (c
 
     pub mf4_record_reply_alike : BitAlike f.now e.now a b k l size out.now room.now h i (group_given group) (channel_given channel) → y ≡ z
     mf4_record_reply_alike bit =
-        ap (λ (x : Returned Mf4ValidValueReply). x.result) p
+        returned_result p
         ∙ ap valid_value_c (same_fetched f.now e.now a b k l size out.now room.now h i (group_given group) (channel_given channel) alike bit)
-        ∙ sym (ap (λ (x : Returned Mf4ValidValueReply). x.result) q)
+        ∙ sym (returned_result q)

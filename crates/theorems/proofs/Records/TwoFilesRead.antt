@@ -32,6 +32,7 @@ use Rattle.replies.specs.declared.valid_values.Mf4ValidValueReply.{Mf4ValidValue
 use Rattle.mf4.specs.Clauses.{Slice, Room}
 use Rattle.theorems.specs.Clauses.{ReadsLength, ReadsRecord, ReadsRecordValue}
 use Rattle.theorems.specs.ClausesToC.{ReadsLengthC, ReadsRecordC, ReadsRecordValueC}
+use Rattle.theorems.proofs.Calls.Outcomes.{of_buffer, of_outcome, returned_buffer, returned_result}
 use Rattle.theorems.proofs.Calls.AnswersToC.{record_value_zero}
 use Rattle.theorems.proofs.Records.TwoFiles.{Joins, record_in, value_in, length_of_joined, record_of_joined, value_of_joined, value_sized}
 
@@ -80,7 +81,7 @@ module _ (κs : Lfts 2) (j : List ℕ) (number size : ℕ) where
   pub read_record_alike : Alike (λ (s : FileAddress). s.0) j RecordSays fetched_by (record_in j number size)
   read_record_alike =
       alike (λ (s : FileAddress). s.0) j RecordSays fetched_by (record_in j number size)
-      (λ y z after later e. (record_one y z (ap (λ (o : Outcome (Unit {0})). o.reply) e), ap (λ (o : Outcome (Unit {0})). o.buffer) e))
+      (λ y z after later e. (record_one y z (of_outcome e), of_buffer e))
       read_record_of_joined
 
   -- ---- mf4_read_record
@@ -95,7 +96,7 @@ module _ (κs : Lfts 2) (j : List ℕ) (number size : ℕ) where
   pub mf4_read_record_alike : Alike (λ s. s) j RecordSaysC returned (λ out. returned_by done_c (record_in j number size out))
   mf4_read_record_alike =
       alike (λ s. s) j RecordSaysC returned (λ out. returned_by done_c (record_in j number size out))
-      (λ y z after later e. (ap (λ (l : Returned Mf4DoneReply). l.result) e, ap (λ (l : Returned Mf4DoneReply). l.buffer) e))
+      (λ y z after later e. (returned_result e, returned_buffer e))
       mf4_read_record_of_joined
 
 module _ (κs : Lfts 2) (j : List ℕ) (number size : ℕ) where
@@ -115,7 +116,7 @@ module _ (κs : Lfts 2) (j : List ℕ) (number size : ℕ) where
     pub read_value_alike : Alike (λ (s : FileAddress). s.0) j ValueSays value_fetched_by value_given
     read_value_alike =
         alike (λ (s : FileAddress). s.0) j ValueSays value_fetched_by value_given
-        (λ y z after later e. (valid_value_one y z (ap (λ (o : Outcome ValidValue). o.reply) e), ap (λ (o : Outcome ValidValue). o.buffer) e))
+        (λ y z after later e. (valid_value_one y z (of_outcome e), of_buffer e))
         read_value_of_joined
 
     -- a value is answered only where the record size is the group's sum
@@ -123,7 +124,7 @@ module _ (κs : Lfts 2) (j : List ℕ) (number size : ℕ) where
         → ValueSays file start buffer y after → valid_value_reply y ≡ answer v → size ≡ record_length (group_meant group)
     read_value_sized file start buffer y after v p e =
         value_sized file.now start.0 number size (group_meant group) (channel_meant channel) buffer.now v
-        (sym (ap (λ (o : Outcome ValidValue). o.reply) p) ∙ e)
+        (sym (of_outcome p) ∙ e)
 
   -- ---- mf4_record_value
 
@@ -141,7 +142,7 @@ module _ (κs : Lfts 2) (j : List ℕ) (number size : ℕ) where
     pub mf4_record_value_alike : Alike (λ s. s) j ValueSaysC returned value_given_c
     mf4_record_value_alike =
         alike (λ s. s) j ValueSaysC returned value_given_c
-        (λ y z after later e. (ap (λ (l : Returned Mf4ValidValueReply). l.result) e, ap (λ (l : Returned Mf4ValidValueReply). l.buffer) e))
+        (λ y z after later e. (returned_result e, returned_buffer e))
         mf4_record_value_of_joined
 
     pub mf4_record_value_sized : (file : Slice) (start : ℕ) (buffer : Room) (y : Mf4ValidValueReply) (after : List ℕ)

@@ -11,6 +11,7 @@ use Rattle.definitions.specs.Chain.{id_dt, joined}
 use Rattle.definitions.specs.Report.{Report, first_records, record_count, readings, reported}
 use Rattle.places.proofs.Answers.{answered}
 use Rattle.theorems.specs.ReportEnds.{Reportable, line_of, Tells}
+use Rattle.theorems.proofs.Calls.Outcomes.{of_outcome}
 use Rattle.theorems.proofs.Calls.Answers.{area_exactly}
 use Rattle.theorems.proofs.Chains.WithinLimits.{accepted_below}
 use Rattle.theorems.proofs.Reports.Counts.{report_counted}
@@ -42,5 +43,5 @@ module _ (f : List ℕ) (start size : ℕ) (g : Group) (c : Channel) (out : List
   reported_tells r e =
       let h = (reported_exactly f start size g c out).only r e in
       let same : line_of (joined f h.blocks) size g c ≡ r =
-      answered (sym (ap (λ (o : Outcome Report). o.reply) (reported_line f start size g c out h)) ∙ e) in
+      answered (sym (of_outcome (reported_line f start size g c out h)) ∙ e) in
       (h, subst (Tells (joined f h.blocks) size g c) same (line_tells h))

@@ -20,7 +20,8 @@ use Rattle.theorems.specs.Clauses.{ReportsChannel}
 use Rattle.theorems.specs.Exactly.{Exactly}
 use Rattle.theorems.specs.Refused.{RefusedExactly}
 use Rattle.theorems.specs.ReportEnds.{Reportable, Tells, report_refused, Due, ReportEnds}
-use Rattle.theorems.proofs.Calls.AnswersByCalls.{exactly, of_outcome}
+use Rattle.theorems.proofs.Calls.Outcomes.{of_buffer, of_outcome}
+use Rattle.theorems.proofs.Calls.AnswersByCalls.{exactly}
 use Rattle.theorems.proofs.Calls.LeftAloneByCalls as left
 use Rattle.theorems.proofs.Calls.LeftAloneByCalls.{Sparing, Refused}
 use Rattle.theorems.proofs.Calls.RefusalNumbers.{Numbered}
@@ -83,4 +84,4 @@ module _ (κs : Lfts 2) (j : List ℕ) (size : ℕ) (group : Group) (channel : C
   pub channel_report_alike : Alike (λ (s : FileAddress). s.0) j ReportSays reported_by report_given
   channel_report_alike f g s t b c y z after later h i e p q =
       let same = channel_report_of_joined f s b y after h p ∙ ap report_given e ∙ sym (channel_report_of_joined g t c z later i q) in
-      (report_one y z p.1 q.1 (of_outcome same), ap (λ (o : Outcome Report). o.buffer) same)
+      (report_one y z p.1 q.1 (of_outcome same), of_buffer same)

@@ -23,6 +23,7 @@ use Rattle.theorems.specs.ClausesToC.{ReportsChannelC}
 use Rattle.theorems.specs.Exactly.{ExactlyZero}
 use Rattle.theorems.specs.Refused.{ToldExactly}
 use Rattle.theorems.specs.ReportEnds.{Reportable, Tells, report_refused, Due, ReportEnds}
+use Rattle.theorems.proofs.Calls.Outcomes.{returned_buffer, returned_result}
 use Rattle.theorems.proofs.Calls.AnswersToC.{zero_exactly}
 use Rattle.theorems.proofs.Calls.LeftAloneByCalls.{Sparing}
 use Rattle.theorems.proofs.Calls.LeftAloneToC as left
@@ -58,7 +59,7 @@ module _ (κs : Lfts 2) (file : Slice) (start size : ℕ) (group : Mf4Group) (ch
     pub mf4_report_ends : ReportEnds file.now start size (group_given group) (channel_given channel) out.now (record { reply = report_again y; buffer = after })
     mf4_report_ends =
         let buffer : after ≡ (reported file.now start size (group_given group) (channel_given channel) out.now).buffer =
-        ap (λ (x : Returned Mf4ReportReply). x.buffer) p in
+        returned_buffer p in
         rw (mf4_report_told, buffer) (reported_ends file.now start size (group_given group) (channel_given channel) out.now)
 
     pub mf4_report_tells : (r : Report) → report_again y ≡ answer r
@@ -107,5 +108,5 @@ module _ (κs : Lfts 2) (j : List ℕ) (size : ℕ) (group : Mf4Group) (channel 
   pub mf4_report_alike : Alike (λ s. s) j ReportSaysC returned report_given_c
   mf4_report_alike =
       alike (λ s. s) j ReportSaysC returned report_given_c
-      (λ y z after later e. (ap (λ (l : Returned Mf4ReportReply). l.result) e, ap (λ (l : Returned Mf4ReportReply). l.buffer) e))
+      (λ y z after later e. (returned_result e, returned_buffer e))
       mf4_report_of_joined

@@ -19,6 +19,7 @@ use Rattle.places.proofs.Blocks.{block_stands}
 use Rattle.table.proofs.Words.{one_more, one_less}
 use Rattle.theorems.specs.Histories.{block_there, blocks_there, AllStand, Afresh, Operation, opens, extends, shortens, outcome_of, addresses_of, leaves, Runs}
 use Rattle.definitions.proofs.Replies.{not_answered}
+use Rattle.theorems.proofs.Calls.Outcomes.{of_buffer, of_outcome}
 use Rattle.theorems.proofs.Chains.AcceptedChains.{accepted}
 
 -- ---- the block at an address
@@ -215,14 +216,14 @@ opened_from f start w v e = go (ltb file_limit (length f)) (chain_of id_dt f sta
   where
     few : (bs : List Block) (full : Bool) → length f ≤ file_limit → chain_of id_dt f start ≡ answer bs → ltb table_limit (length bs) ≡ full
         → record { reply = answer tt; buffer = v } ≡ (if full then refusing 30 w else leaving (table_of bs)) → OpenedFrom f start v
-    few bs true s c l e = let q : answer tt ≡ refusal 30 0 = ap (λ (z : Outcome (Unit {0})). z.reply) e in not_answered tt 30 0 (sym q)
-    few bs false s c l e = record { short = s; blocks = bs; chain = c; few = ltb-false _ _ l; table = ap (λ (z : Outcome (Unit {0})). z.buffer) e }
+    few bs true s c l e = let q : answer tt ≡ refusal 30 0 = of_outcome e in not_answered tt 30 0 (sym q)
+    few bs false s c l e = record { short = s; blocks = bs; chain = c; few = ltb-false _ _ l; table = of_buffer e }
 
     go : (long : Bool) (r : Reply (List Block)) → ltb file_limit (length f) ≡ long → chain_of id_dt f start ≡ r
         → record { reply = answer tt; buffer = v } ≡ (if long then refusing 7 w else on_answer r (λ bs. if ltb table_limit (length bs) then refusing 30 w else leaving (table_of bs)) w)
         → OpenedFrom f start v
-    go true r s c e = let q : answer tt ≡ refusal 7 0 = ap (λ (z : Outcome (Unit {0})). z.reply) e in not_answered tt 7 0 (sym q)
-    go false (refusal n t) s c e = let q : answer tt ≡ refusal n t = ap (λ (z : Outcome (Unit {0})). z.reply) e in not_answered tt n t (sym q)
+    go true r s c e = let q : answer tt ≡ refusal 7 0 = of_outcome e in not_answered tt 7 0 (sym q)
+    go false (refusal n t) s c e = let q : answer tt ≡ refusal n t = of_outcome e in not_answered tt n t (sym q)
     go false (answer bs) s c e = few bs (ltb table_limit (length bs)) (ltb-false _ _ s) c refl e
 
 -- so its table is afresh, whatever stood there before

@@ -17,6 +17,7 @@ use Rattle.mf4.specs.Clauses.{Slice, Room}
 use Rattle.theorems.specs.Clauses.{OpensTable, ExtendsTable, ShortensTable}
 use Rattle.theorems.specs.ClausesToC.{OpensTableC, ExtendsTableC, ShortensTableC}
 use Rattle.theorems.specs.Histories.{Afresh, Operation, opens, extends, shortens, addresses_of, Runs}
+use Rattle.theorems.proofs.Calls.Outcomes.{returned_buffer}
 use Rattle.theorems.proofs.Tables.TableNumbers.{mf4_open_table_told, mf4_extend_table_told, mf4_shorten_table_told}
 use Rattle.theorems.proofs.Tables.Histories.{Faithful, history, zeros_afresh, open_afresh}
 
@@ -59,13 +60,13 @@ told {o = o} is e b = rw (sym is ∙ e, b) refl
 
 pub c_faithful : (f : List ℕ) → Faithful f (ToC f)
 c_faithful f (opens start) w v r c =
-    told c.4 (mf4_open_table_told c.0 c.1.0 start c.2.0 c.3 v c.5) (ap (λ (x : Returned Mf4DoneReply). x.buffer) c.5)
+    told c.4 (mf4_open_table_told c.0 c.1.0 start c.2.0 c.3 v c.5) (returned_buffer c.5)
     ∙ ap₂ (λ (g u : List ℕ). opened g start u) c.1.1 c.2.1
 c_faithful f (extends a) w v r c =
-    told c.4 (mf4_extend_table_told c.0 c.1.0 a c.2.0 c.3 v c.5) (ap (λ (x : Returned Mf4DoneReply). x.buffer) c.5)
+    told c.4 (mf4_extend_table_told c.0 c.1.0 a c.2.0 c.3 v c.5) (returned_buffer c.5)
     ∙ ap₂ (λ (g u : List ℕ). extended g a u) c.1.1 c.2.1
 c_faithful f shortens w v r c =
-    told c.3 (mf4_shorten_table_told c.0 c.1.0 c.2 v c.4) (ap (λ (x : Returned Mf4DoneReply). x.buffer) c.4)
+    told c.3 (mf4_shorten_table_told c.0 c.1.0 c.2 v c.4) (returned_buffer c.4)
     ∙ ap shortened c.1.1
 
 -- ---- so, of any calls in turn

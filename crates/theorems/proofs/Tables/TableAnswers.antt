@@ -20,6 +20,7 @@ use Rattle.places.proofs.Blocks.{block_stands}
 use Rattle.table.proofs.Fragments.{data_long}
 use Rattle.theorems.specs.Exactly.{Exactly, InArea}
 use Rattle.theorems.specs.TableCauses.{Openable, Extendable, Shortenable, TableFetchable, TableValueFetchable}
+use Rattle.theorems.proofs.Calls.Outcomes.{of_outcome}
 use Rattle.theorems.proofs.Calls.Answers.{size_fits, size_passes, bounded_value_exactly}
 use Rattle.theorems.proofs.Chains.AcceptedChains.{accepted, accepts}
 use Rattle.theorems.proofs.Chains.BlocksStand.{block_taken}
@@ -109,7 +110,7 @@ module _ (f w : List ℕ) (k size : ℕ) (out : List ℕ) where
 
   pub table_record_exactly : Exactly (TableFetchable f w k size out) (table_fetched f w k size out).reply
   table_record_exactly = record {
-    answers = λ h. (tt, ap (λ (o : Outcome (Unit {0})). o.reply) (table_record f w k size out (passed_of h)));
+    answers = λ h. (tt, of_outcome (table_record f w k size out (passed_of h)));
     only = λ u e. fetchable_of (table_passed f w k size out e);
   }
 
@@ -122,7 +123,7 @@ module _ (f w : List ℕ) (k size : ℕ) (out : List ℕ) where
 
     value_of : Passed f w k size out → (table_value_fetched f w k size g c out).reply ≡ bounded_value_of here g c
     unfolding table_value_fetched
-    value_of p = rw (table_front f w k size out p, ap (λ (o : Outcome (Unit {0})). o.reply) (table_record f w k size out p)) refl
+    value_of p = rw (table_front f w k size out p, of_outcome (table_record f w k size out p)) refl
 
     record_before : (v : ValidValue) → (table_value_fetched f w k size g c out).reply ≡ answer v → Passed f w k size out
     unfolding table_value_fetched

@@ -23,7 +23,8 @@ use Rattle.theorems.specs.Exactly.{Exactly, ExactlyZero}
 use Rattle.theorems.specs.TableCauses.{Openable, Extendable, Shortenable, TableFetchable, TableValueFetchable}
 use Rattle.theorems.specs.Clauses.{OpensTable, ExtendsTable, ShortensTable, FetchesRecord, FetchesValue}
 use Rattle.theorems.specs.ClausesToC.{OpensTableC, ExtendsTableC, ShortensTableC, FetchesRecordC, FetchesValueC}
-use Rattle.theorems.proofs.Calls.AnswersByCalls.{of_outcome, exactly}
+use Rattle.theorems.proofs.Calls.Outcomes.{of_outcome}
+use Rattle.theorems.proofs.Calls.AnswersByCalls.{exactly}
 use Rattle.theorems.proofs.Calls.AnswersToC.{zero_exactly}
 use Rattle.theorems.proofs.Calls.ToldToC.{Judged}
 use Rattle.theorems.proofs.Tables.TableAnswers.{open_exactly, extend_exactly, shorten_exactly, table_record_exactly, table_value_exactly}

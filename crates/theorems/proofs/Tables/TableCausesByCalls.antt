@@ -23,7 +23,7 @@ use Rattle.theorems.specs.Refused.{RefusedExactly, ToldExactly}
 use Rattle.theorems.specs.TableCauses.{open_refused, extend_refused, shorten_refused, table_record_refused, table_value_refused}
 use Rattle.theorems.specs.Clauses.{OpensTable, ExtendsTable, ShortensTable, FetchesRecord, FetchesValue}
 use Rattle.theorems.specs.ClausesToC.{OpensTableC, ExtendsTableC, ShortensTableC, FetchesRecordC, FetchesValueC}
-use Rattle.theorems.proofs.Calls.AnswersByCalls.{of_outcome}
+use Rattle.theorems.proofs.Calls.Outcomes.{of_outcome}
 use Rattle.theorems.proofs.Calls.ToldToC.{Judged}
 use Rattle.theorems.proofs.Calls.TestsInTurn.{as_is, told_exactly}
 use Rattle.theorems.proofs.Tables.TableCauses.{open_refused_law, extend_refused_law, shorten_refused_law, table_record_refused_law, table_value_refused_law}

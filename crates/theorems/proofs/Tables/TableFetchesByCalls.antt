@@ -28,6 +28,7 @@ use Rattle.mf4.specs.Clauses.{Slice, Room}
 use Rattle.theorems.specs.Clauses.{ReadsRecord, ReadsRecordValue, FetchesRecord, FetchesValue}
 use Rattle.theorems.specs.ClausesToC.{ReadsRecordC, ReadsRecordValueC, FetchesRecordC, FetchesValueC}
 use Rattle.theorems.specs.Histories.{blocks_there, Afresh, opens}
+use Rattle.theorems.proofs.Calls.Outcomes.{of_buffer, of_outcome}
 use Rattle.theorems.proofs.Calls.NoSecondReplyToC.{one_returned}
 use Rattle.theorems.proofs.Records.TwoFiles.{Joins, record_in, value_in}
 use Rattle.theorems.proofs.Tables.HistoriesByCalls.{ByCalls, ToC, calls_faithful, c_faithful}
@@ -42,7 +43,7 @@ pub opened_to_c : (f : List ℕ) (start : ℕ) (w v : List ℕ) → ToC f (opens
 opened_to_c f start w v c = opened_from f start w v (c_faithful f (opens start) w v (answer tt) c)
 
 one_value : (a b : Result DecodedChannelValue Refusal) (x y : List ℕ) → value_fetched_by a x ≡ value_fetched_by b y → (a ≡ b) × (x ≡ y)
-one_value a b x y e = (valid_value_one a b (ap (λ (o : Outcome ValidValue). o.reply) e), ap (λ (o : Outcome ValidValue). o.buffer) e)
+one_value a b x y e = (valid_value_one a b (of_outcome e), of_buffer e)
 
 module _ (κs : Lfts 3) (file table : Slice) (number size : ℕ) (out : Room) where
   -- ---- what a history left

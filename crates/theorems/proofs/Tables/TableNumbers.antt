@@ -34,7 +34,7 @@ use Rattle.replies.proofs.ToldToC.{done_again, done_told, valid_value_again, val
 use Rattle.mf4.specs.Clauses.{Slice, Room}
 use Rattle.theorems.specs.Clauses.{OpensTable, ExtendsTable, ShortensTable, FetchesRecord, FetchesValue}
 use Rattle.theorems.specs.ClausesToC.{OpensTableC, ExtendsTableC, ShortensTableC, FetchesRecordC, FetchesValueC}
-use Rattle.theorems.proofs.Calls.AnswersByCalls.{of_outcome}
+use Rattle.theorems.proofs.Calls.Outcomes.{of_outcome, returned_result}
 use Rattle.theorems.proofs.Calls.RefusalNumbers as numbers
 use Rattle.theorems.proofs.Calls.RefusalNumbers.{Numbered, OfBlocks, OfBounded, weaker, of_following, of_lending, chain_numbered, block_numbered, of_answer, bounded_value_numbered}
 use Rattle.theorems.proofs.Calls.RefusalNumbersByCalls.{numbered}
@@ -150,7 +150,7 @@ module _ (κs : Lfts 3) (file table : Slice) (number size : ℕ) (out : Room) wh
   module _ (group : Mf4Group) (channel : Mf4Channel) (y : Mf4ValidValueReply) (after : List ℕ) (p : FetchesValueC κs file table number size group channel out y after) where
     pub mf4_table_value_numbered : NumberedC OfTableValues y.reply y.told
     mf4_table_value_numbered =
-        valid_value _ (ap (λ (x : Returned Mf4ValidValueReply). x.result) p)
+        valid_value _ (returned_result p)
         (table_value_numbered file.now table.now number size out.now (group_given group) (channel_given channel))
 
     pub mf4_table_value_told : valid_value_again y ≡ (table_value_fetched file.now table.now number size (group_given group) (channel_given channel) out.now).reply

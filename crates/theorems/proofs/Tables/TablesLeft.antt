@@ -28,6 +28,7 @@ use Rattle.replies.specs.declared.done.Mf4DoneReply.{Mf4DoneReply}
 use Rattle.mf4.specs.Clauses.{Slice, Room}
 use Rattle.theorems.specs.Clauses.{OpensTable, ExtendsTable, ShortensTable, FetchesRecord}
 use Rattle.theorems.specs.ClausesToC.{OpensTableC, ExtendsTableC, ShortensTableC, FetchesRecordC}
+use Rattle.theorems.proofs.Calls.Outcomes.{of_buffer, of_outcome, returned_buffer}
 use Rattle.theorems.proofs.Calls.Answers.{size_fits}
 use Rattle.theorems.proofs.Calls.LeftAlone.{Leaves}
 use Rattle.theorems.proofs.Calls.LeftAlone as left
@@ -113,8 +114,8 @@ table_value_leaves f w k size g c out = refl
 
 spared : (y : Result (Unit {0}) Refusal) (w v : List ℕ) (o : Outcome (Unit {0})) → LeavesRefused w o → changed_by y v ≡ o → Refused (change_reply y) → v ≡ w
 spared y w v o h p q =
-    ap (λ (x : Outcome (Unit {0})). x.buffer) p
-    ∙ h q.0 q.1 (sym (ap (λ (x : Outcome (Unit {0})). x.reply) p) ∙ q.2)
+    of_buffer p
+    ∙ h q.0 q.1 (sym (of_outcome p) ∙ q.2)
 
 module _ (κs : Lfts 2) (file : Slice) (at : FileAddress) (table : Room) (y : Result (Unit {0}) Refusal) (after : List ℕ) where
   pub table_open_spares : OpensTable κs file at table y after → Refused (change_reply y) → after ≡ table.now
@@ -135,7 +136,7 @@ module _ (κs : Lfts 3) (file table : Slice) (number size : ℕ) (out : Room) wh
 spared_to_c : (y : Mf4DoneReply) (w v : List ℕ) (o : Outcome (Unit {0})) → LeavesRefused w o → returned y v ≡ returned_by done_c o → (y.reply ≡ 0 → ⊥) → v ≡ w
 spared_to_c y w v o h p some =
     let number : y.reply ≡ (done_c o.reply).reply = ap (λ (x : Returned Mf4DoneReply). x.result.reply) p in
-    ap (λ (x : Returned Mf4DoneReply). x.buffer) p ∙ by_reply o.reply refl (λ z. some (number ∙ z))
+    returned_buffer p ∙ by_reply o.reply refl (λ z. some (number ∙ z))
   where
     by_reply : (r : Reply (Unit {0})) → o.reply ≡ r → ((done_c r).reply ≡ 0 → ⊥) → o.buffer ≡ w
     by_reply (answer u) e s = absurd (s refl)

@@ -17,6 +17,7 @@ use Rattle.definitions.proofs.Replies.{not_answered, both}
 use Rattle.encoder.proofs.Choosing.{value_refused, payload_given, fixed_given}
 use Rattle.theorems.specs.Exactly.{Exactly, FieldStands, Takes, Writable}
 use Rattle.theorems.specs.WrittenValue.{of_kind, WrittenEnds, not_decoded, other_kind, does_not_fit, is_written}
+use Rattle.theorems.proofs.Calls.Outcomes.{of_buffer}
 use Rattle.theorems.proofs.Calls.Answers.{value_exactly}
 use Rattle.theorems.proofs.Calls.RefusalNumbers.{Numbered, OfFields, of_answer, of_refusal, value_numbered}
 
@@ -146,7 +147,7 @@ module _ (s : List ℕ) (id_size : ℕ) (c : Channel) (v : Given) where
   refused_kept n t q = go value_ends
     where
       kept : {r : Reply (Unit {0})} → value_written s id_size c v ≡ record { reply = r; buffer = s } → (value_written s id_size c v).buffer ≡ s
-      kept e = ap (λ (o : Outcome (Unit {0})). o.buffer) e
+      kept e = of_buffer e
 
       go : Ends (value_written s id_size c v) → (value_written s id_size c v).buffer ≡ s
       go (not_decoded m u e o) = kept o

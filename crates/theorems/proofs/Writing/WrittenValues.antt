@@ -39,6 +39,7 @@ use Rattle.encoder.proofs.Standing.{kind_in, stands, made_again}
 use Rattle.encoder.proofs.Choosing.{form_field, field_form, fixed_given, all_passed}
 use Rattle.theorems.specs.Exactly.{Legal, FieldStands, Writable}
 use Rattle.theorems.specs.WrittenValue.{WrittenEnds, not_decoded, other_kind, does_not_fit, is_written, IsNumber, Sized, record_place, DecodesTo, SameOutside}
+use Rattle.theorems.proofs.Calls.Outcomes.{of_outcome}
 use Rattle.theorems.proofs.Calls.Answers.{value_exactly}
 use Rattle.theorems.proofs.Writing.WrittenEnds.{written, value_ends}
 
@@ -184,7 +185,7 @@ module _ (s : List ℕ) (id_size : ℕ) (c : Channel) (v : Given) (b : Bytes s) 
   written_decoded sized answer-is = go (value_ends s id_size c v)
     where
       refused : {n t : ℕ} → value_written s id_size c v ≡ record { reply = refusal n t; buffer = s } → DecodesTo (value_written s id_size c v).buffer id_size c v
-      refused {n} {t} o = not_answered tt n t (sym (ap (λ (x : Outcome (Unit {0})). x.reply) o) ∙ answer-is)
+      refused {n} {t} o = not_answered tt n t (sym (of_outcome o) ∙ answer-is)
 
       go : WrittenEnds s id_size c v (value_written s id_size c v) → DecodesTo (value_written s id_size c v).buffer id_size c v
       go (not_decoded n t e o) = refused o

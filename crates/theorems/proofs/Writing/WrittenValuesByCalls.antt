@@ -27,15 +27,16 @@ use Rattle.mf4.specs.Clauses.{Slice, Room}
 use Rattle.theorems.specs.Clauses.{ReadsValue, ChecksValidity, ChecksBoundedValidity, ReadsDouble, WritesValue}
 use Rattle.theorems.specs.Exactly.{Exactly, Writable}
 use Rattle.theorems.specs.WrittenValue.{WrittenEnds, IsNumber, Sized, DecodesTo, SameOutside}
+use Rattle.theorems.proofs.Calls.Outcomes.{of_buffer, of_outcome}
 use Rattle.theorems.proofs.Writing.WrittenEnds.{value_ends, written_exactly}
 use Rattle.theorems.proofs.Writing.WrittenValues.{written_decoded, outside_kept, decoded_written}
-use Rattle.theorems.proofs.Calls.AnswersByCalls.{exactly, of_outcome}
+use Rattle.theorems.proofs.Calls.AnswersByCalls.{exactly}
 
 module _ (κs : Lfts 1) (id_size : ℕ) (channel : Channel) (given : NumberGiven) (bytes : Room) (y : Result (Unit {0}) Refusal) (after : List ℕ)
     (p : WritesValue κs id_size channel given bytes y after)
   where
     same_buffer : after ≡ (value_written bytes.now id_size (channel_meant channel) (given_meant given)).buffer
-    same_buffer = ap (λ (o : Outcome (Unit {0})). o.buffer) p
+    same_buffer = of_buffer p
 
     same_reply : (value_written bytes.now id_size (channel_meant channel) (given_meant given)).reply ≡ written_reply y
     same_reply = sym (of_outcome p)
@@ -110,4 +111,4 @@ module _ (κs : Lfts 1) (id_size : ℕ) (channel : Channel) (given : NumberGiven
         let decoded : value_of bytes.now id_size (channel_meant channel) ≡ answer (value_given (given_meant given)) =
         ap (λ (t : List ℕ). value_of t id_size (channel_meant channel)) (sym held) ∙ sym q ∙ e in
         let same = decoded_written bytes.now id_size (channel_meant channel) (given_meant given) b fixed number decoded comes in
-        (written_one y Done (of_outcome (p ∙ same)), same_buffer ∙ ap (λ (o : Outcome (Unit {0})). o.buffer) same)
+        (written_one y Done (of_outcome (p ∙ same)), same_buffer ∙ of_buffer same)

@@ -35,6 +35,7 @@ use Rattle.mf4.specs.Clauses.{Slice, Room}
 use Rattle.theorems.specs.ClausesToC.{ReadsValueC, ChecksValidityC, ChecksUnboundedC, ReadsDoubleC, WritesValueC}
 use Rattle.theorems.specs.Exactly.{ExactlyZero, Takes, Writable}
 use Rattle.theorems.specs.WrittenValue.{WrittenEnds, IsNumber, Sized, DecodesTo, SameOutside}
+use Rattle.theorems.proofs.Calls.Outcomes.{returned_buffer, returned_result}
 use Rattle.theorems.proofs.Writing.WrittenEnds.{value_ends, written_exactly}
 use Rattle.theorems.proofs.Writing.WrittenValues.{written_decoded, outside_kept, decoded_written}
 use Rattle.theorems.proofs.Calls.ToldToC.{value_tellable, mf4_decode_value_told, mf4_write_value_told}
@@ -115,7 +116,7 @@ module _ (κs : Lfts 1) (id_size : ℕ) (channel : Mf4Channel) (value : Mf4Numbe
     (p : WritesValueC κs id_size channel value bytes y after)
   where
     same_buffer : after ≡ (value_written bytes.now id_size (channel_given channel) (number_given value)).buffer
-    same_buffer = ap (λ (x : Returned Mf4DoneReply). x.buffer) p
+    same_buffer = returned_buffer p
 
     pub value_write_zero : ExactlyZero (Writable bytes.now id_size (channel_given channel) (number_given value)) y.reply
     value_write_zero =
@@ -129,7 +130,7 @@ module _ (κs : Lfts 1) (id_size : ℕ) (channel : Mf4Channel) (value : Mf4Numbe
     pub mf4_write_value_ends : (o : Outcome (Unit {0})) × (WrittenEnds bytes.now id_size (channel_given channel) (number_given value) o × (y ≡ done_c o.reply) × (after ≡ o.buffer))
     mf4_write_value_ends = (
       value_written bytes.now id_size (channel_given channel) (number_given value),
-      (value_ends bytes.now id_size (channel_given channel) (number_given value), ap (λ (x : Returned Mf4DoneReply). x.result) p, same_buffer),
+      (value_ends bytes.now id_size (channel_given channel) (number_given value), returned_result p, same_buffer),
     )
 
     module _ (b : Bytes bytes.now) (sized : value.number < 2 ^ 64) where
@@ -203,4 +204,4 @@ module _ (κs : Lfts 1) (id_size : ℕ) (channel : Mf4Channel) (value : Mf4Numbe
         let same = decoded_written bytes.now id_size (channel_given channel) (number_given value) b fixed is_number_law
         (told ∙ ap answer (given_again z.kind z.number z.at z.length some few) ∙ ap₂ (λ (k n : ℕ). answer (value_given (given_by k n))) (sym ek) (sym en)) comes in
         let after_is : returned y after ≡ returned (done_c (answer tt)) bytes.now = p ∙ ap (returned_by done_c) same in
-        (ap (λ (x : Returned Mf4DoneReply). x.result.reply) after_is, ap (λ (x : Returned Mf4DoneReply). x.buffer) after_is)
+        (ap (λ (x : Returned Mf4DoneReply). x.result.reply) after_is, returned_buffer after_is)
