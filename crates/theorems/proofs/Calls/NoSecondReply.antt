@@ -157,8 +157,6 @@ use Rattle.slots.proofs.is_fixed_number.Kinds as fixed_number_kinds
 use Rattle.slots.proofs.is_fixed_number.Reads as fixed_number
 use Rattle.report.proofs.report_channel.Kinds as channel_report_kinds
 use Rattle.report.proofs.report_channel.Reads as channel_report
-use Rattle.overlaps.proofs.begin_search.Kinds as search_begin_kinds
-use Rattle.overlaps.proofs.begin_search.Reads as search_begin
 use Rattle.lent_channels.proofs.first_overlap.Kinds as first_overlap_kinds
 use Rattle.lent_channels.proofs.first_overlap.Reads as first_overlap
 
@@ -372,9 +370,6 @@ channel_report_settled =
       report_one y z p.1 q.1 (of_outcome e),
       ap (λ (o : Outcome Report). (tt, (tt, (tt, (tt, (tt, (o.buffer, tt))))))) e,
     ))
-
-pub search_begin_settled : Settled 0 search_begin_kinds.ps search_begin_kinds.r search_begin.Asked search_begin.ensures search_begin.Learnt
-search_begin_settled = settled (λ κs a y z b c p q. (p ∙ sym q, refl))
 
 pub first_overlap_settled : Settled 1 first_overlap_kinds.ps first_overlap_kinds.r first_overlap.Asked first_overlap.ensures first_overlap.Learnt
 first_overlap_settled = settled (λ κs a y z b c p q. (p ∙ sym q, refl))

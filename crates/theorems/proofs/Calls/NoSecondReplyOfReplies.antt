@@ -27,44 +27,44 @@ use Rattle.block_replies.proofs.written.Mf4WrittenReplyFromResultU64Refusal.from
 use Rattle.block_replies.proofs.written.Mf4WrittenReplyFromResultU64Refusal.from.Reads as written_reply
 use Rattle.block_replies.proofs.header.Mf4HeaderFromBlockHeader.from.Kinds as header_told_kinds
 use Rattle.block_replies.proofs.header.Mf4HeaderFromBlockHeader.from.Reads as header_told
+use Rattle.block_replies.proofs.channel.Mf4ChannelFromChannel.from.Kinds as description_told_kinds
+use Rattle.block_replies.proofs.channel.Mf4ChannelFromChannel.from.Reads as description_told
 use Rattle.block_replies.proofs.channel_block.Mf4ChannelBlockFromChannelBlock.from.Kinds as block_told_kinds
 use Rattle.block_replies.proofs.channel_block.Mf4ChannelBlockFromChannelBlock.from.Reads as block_told
-use Rattle.block_replies.proofs.channel.Mf4ChannelFromChannel.from.Kinds as channel_told_kinds
-use Rattle.block_replies.proofs.channel.Mf4ChannelFromChannel.from.Reads as channel_told
-use Rattle.replies.proofs.value_reply.Kinds as value_reply_kinds
-use Rattle.replies.proofs.value_reply.Reads as value_reply
-use Rattle.replies.proofs.valid_value_reply.Kinds as valid_value_reply_kinds
-use Rattle.replies.proofs.valid_value_reply.Reads as valid_value_reply
-use Rattle.replies.proofs.validity_reply.Kinds as validity_reply_kinds
-use Rattle.replies.proofs.validity_reply.Reads as validity_reply
-use Rattle.replies.proofs.text_reply.Kinds as text_reply_kinds
-use Rattle.replies.proofs.text_reply.Reads as text_reply
+use Rattle.replies.proofs.values.Mf4ValueReplyFromResultDecodedValueRefusal.from.Kinds as value_reply_kinds
+use Rattle.replies.proofs.values.Mf4ValueReplyFromResultDecodedValueRefusal.from.Reads as value_reply
+use Rattle.replies.proofs.valid_values.Mf4ValidValueReplyFromResultDecodedChannelValueRefusal.from.Kinds as valid_value_reply_kinds
+use Rattle.replies.proofs.valid_values.Mf4ValidValueReplyFromResultDecodedChannelValueRefusal.from.Reads as valid_value_reply
+use Rattle.replies.proofs.validity.Mf4ValidityReplyFromResultBoolRefusal.from.Kinds as validity_reply_kinds
+use Rattle.replies.proofs.validity.Mf4ValidityReplyFromResultBoolRefusal.from.Reads as validity_reply
+use Rattle.replies.proofs.texts.Mf4TextReplyFromResultTextWrittenRefusal.from.Kinds as text_reply_kinds
+use Rattle.replies.proofs.texts.Mf4TextReplyFromResultTextWrittenRefusal.from.Reads as text_reply
 use Rattle.replies.proofs.flag.Kinds as flag_kinds
 use Rattle.replies.proofs.flag.Reads as flag
-use Rattle.replies.proofs.length_reply.Kinds as length_reply_kinds
-use Rattle.replies.proofs.length_reply.Reads as length_reply
-use Rattle.replies.proofs.fetched_reply.Kinds as fetched_reply_kinds
-use Rattle.replies.proofs.fetched_reply.Reads as fetched_reply
-use Rattle.replies.proofs.payload_reply.Kinds as payload_reply_kinds
-use Rattle.replies.proofs.payload_reply.Reads as payload_reply
-use Rattle.replies.proofs.changed_reply.Kinds as changed_reply_kinds
-use Rattle.replies.proofs.changed_reply.Reads as changed_reply
-use Rattle.replies.proofs.stored_reply.Kinds as stored_reply_kinds
-use Rattle.replies.proofs.stored_reply.Reads as stored_reply
-use Rattle.replies.proofs.overlap_reply.Kinds as overlap_reply_kinds
-use Rattle.replies.proofs.overlap_reply.Reads as overlap_reply
-use Rattle.replies.proofs.report_reply.Kinds as report_reply_kinds
-use Rattle.replies.proofs.report_reply.Reads as report_reply
+use Rattle.replies.proofs.fetches.Mf4LengthReplyFromResultDataPositionRefusal.from.Kinds as length_reply_kinds
+use Rattle.replies.proofs.fetches.Mf4LengthReplyFromResultDataPositionRefusal.from.Reads as length_reply
+use Rattle.replies.proofs.done.Mf4DoneReplyFromResultUnitRefusal.from.Kinds as done_reply_kinds
+use Rattle.replies.proofs.done.Mf4DoneReplyFromResultUnitRefusal.from.Reads as done_reply
+use Rattle.replies.proofs.payload.Mf4PayloadReplyFromResultDecodedPayloadRefusal.from.Kinds as payload_reply_kinds
+use Rattle.replies.proofs.payload.Mf4PayloadReplyFromResultDecodedPayloadRefusal.from.Reads as payload_reply
+use Rattle.replies.proofs.overlap.Mf4OverlapReplyFromResultOptionPairRefusal.from.Kinds as overlap_reply_kinds
+use Rattle.replies.proofs.overlap.Mf4OverlapReplyFromResultOptionPairRefusal.from.Reads as overlap_reply
+use Rattle.replies.proofs.reports.Mf4ReportReplyFromResultReportRefusal.from.Kinds as report_reply_kinds
+use Rattle.replies.proofs.reports.Mf4ReportReplyFromResultReportRefusal.from.Reads as report_reply
+use Rattle.replies.proofs.reports.Mf4ReportReplyFromReport.from.Kinds as line_told_kinds
+use Rattle.replies.proofs.reports.Mf4ReportReplyFromReport.from.Reads as line_told
+use Rattle.replies.proofs.reports.Mf4PointFromPoint.from.Kinds as point_told_kinds
+use Rattle.replies.proofs.reports.Mf4PointFromPoint.from.Reads as point_told
 use Rattle.block_replies.proofs.header.BlockHeaderFromMf4Header.from.Kinds as header_of_kinds
 use Rattle.block_replies.proofs.header.BlockHeaderFromMf4Header.from.Reads as header_of
 use Rattle.block_replies.proofs.channel_block.ChannelBlockFromMf4ChannelBlock.from.Kinds as block_of_kinds
 use Rattle.block_replies.proofs.channel_block.ChannelBlockFromMf4ChannelBlock.from.Reads as block_of
 use Rattle.block_replies.proofs.channel.ChannelFromMf4Channel.from.Kinds as channel_of_kinds
 use Rattle.block_replies.proofs.channel.ChannelFromMf4Channel.from.Reads as channel_of
-use Rattle.replies.proofs.group_of.Kinds as group_of_kinds
-use Rattle.replies.proofs.group_of.Reads as group_of
-use Rattle.replies.proofs.number_of.Kinds as number_of_kinds
-use Rattle.replies.proofs.number_of.Reads as number_of
+use Rattle.replies.proofs.group.GroupFromMf4Group.from.Kinds as group_of_kinds
+use Rattle.replies.proofs.group.GroupFromMf4Group.from.Reads as group_of
+use Rattle.replies.proofs.stored.NumberGivenFromMf4Number.from.Kinds as number_of_kinds
+use Rattle.replies.proofs.stored.NumberGivenFromMf4Number.from.Reads as number_of
 use Rattle.theorems.specs.Sole.{Settled}
 use Rattle.theorems.proofs.Calls.NoSecondReply.{settled}
 
@@ -113,11 +113,11 @@ written_reply_settled = settled (λ κs a y z b c p q. (p ∙ sym q, refl))
 pub header_told_settled : Settled 0 header_told_kinds.ps header_told_kinds.r header_told.Asked header_told.ensures header_told.Learnt
 header_told_settled = settled (λ κs a y z b c p q. (p ∙ sym q, refl))
 
+pub description_told_settled : Settled 0 description_told_kinds.ps description_told_kinds.r description_told.Asked description_told.ensures description_told.Learnt
+description_told_settled = settled (λ κs a y z b c p q. (p ∙ sym q, refl))
+
 pub block_told_settled : Settled 0 block_told_kinds.ps block_told_kinds.r block_told.Asked block_told.ensures block_told.Learnt
 block_told_settled = settled (λ κs a y z b c p q. (p ∙ sym q, refl))
-
-pub channel_told_settled : Settled 0 channel_told_kinds.ps channel_told_kinds.r channel_told.Asked channel_told.ensures channel_told.Learnt
-channel_told_settled = settled (λ κs a y z b c p q. (p ∙ sym q, refl))
 
 pub value_reply_settled : Settled 0 value_reply_kinds.ps value_reply_kinds.r value_reply.Asked value_reply.ensures value_reply.Learnt
 value_reply_settled = settled (λ κs a y z b c p q. (p ∙ sym q, refl))
@@ -137,23 +137,23 @@ flag_settled = settled (λ κs a y z b c p q. (p ∙ sym q, refl))
 pub length_reply_settled : Settled 0 length_reply_kinds.ps length_reply_kinds.r length_reply.Asked length_reply.ensures length_reply.Learnt
 length_reply_settled = settled (λ κs a y z b c p q. (p ∙ sym q, refl))
 
-pub fetched_reply_settled : Settled 0 fetched_reply_kinds.ps fetched_reply_kinds.r fetched_reply.Asked fetched_reply.ensures fetched_reply.Learnt
-fetched_reply_settled = settled (λ κs a y z b c p q. (p ∙ sym q, refl))
+pub done_reply_settled : Settled 0 done_reply_kinds.ps done_reply_kinds.r done_reply.Asked done_reply.ensures done_reply.Learnt
+done_reply_settled = settled (λ κs a y z b c p q. (p ∙ sym q, refl))
 
 pub payload_reply_settled : Settled 0 payload_reply_kinds.ps payload_reply_kinds.r payload_reply.Asked payload_reply.ensures payload_reply.Learnt
 payload_reply_settled = settled (λ κs a y z b c p q. (p ∙ sym q, refl))
-
-pub changed_reply_settled : Settled 0 changed_reply_kinds.ps changed_reply_kinds.r changed_reply.Asked changed_reply.ensures changed_reply.Learnt
-changed_reply_settled = settled (λ κs a y z b c p q. (p ∙ sym q, refl))
-
-pub stored_reply_settled : Settled 0 stored_reply_kinds.ps stored_reply_kinds.r stored_reply.Asked stored_reply.ensures stored_reply.Learnt
-stored_reply_settled = settled (λ κs a y z b c p q. (p ∙ sym q, refl))
 
 pub overlap_reply_settled : Settled 0 overlap_reply_kinds.ps overlap_reply_kinds.r overlap_reply.Asked overlap_reply.ensures overlap_reply.Learnt
 overlap_reply_settled = settled (λ κs a y z b c p q. (p ∙ sym q, refl))
 
 pub report_reply_settled : Settled 0 report_reply_kinds.ps report_reply_kinds.r report_reply.Asked report_reply.ensures report_reply.Learnt
 report_reply_settled = settled (λ κs a y z b c p q. (p ∙ sym q, refl))
+
+pub line_told_settled : Settled 0 line_told_kinds.ps line_told_kinds.r line_told.Asked line_told.ensures line_told.Learnt
+line_told_settled = settled (λ κs a y z b c p q. (p ∙ sym q, refl))
+
+pub point_told_settled : Settled 0 point_told_kinds.ps point_told_kinds.r point_told.Asked point_told.ensures point_told.Learnt
+point_told_settled = settled (λ κs a y z b c p q. (p ∙ sym q, refl))
 
 -- ---- what C gives
 
