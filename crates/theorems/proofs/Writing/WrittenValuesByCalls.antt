@@ -4,7 +4,7 @@ use mathlib.Core.Bool.{Bool, true, false}
 use mathlib.Core.List.{List}
 use Prim.Native.Nat.{ℕ, ◌+◌, ◌*◌}
 use contract.Lifetimes.{Lfts}
-use Rattle.std.specs.Prelude.{Result}
+use Rattle.std.specs.Prelude.{Result, Ok}
 use Rattle.definitions.specs.Reply.{Reply, Outcome, answer}
 use Rattle.definitions.specs.DataType.{kind_of, order_of}
 use Rattle.definitions.specs.Channel.{Value, variable_length, start_of, number_in, is_number, is_floating, value_of, double_in, record_double, valid_of, bounded_valid_of, bit_place}
@@ -21,7 +21,6 @@ use Rattle.fields.specs.declared.value.DecodedValue.{DecodedValue}
 use Rattle.fields.proofs.Back.{value_one, validity_one}
 use Rattle.encoder.specs.Meaning.{given_meant, value_given, written_reply, outcome}
 use Rattle.encoder.specs.declared.number.NumberGiven.{NumberGiven}
-use Rattle.encoder.specs.declared.encode.ValueWritten.TheVariants.{Done}
 use Rattle.encoder.proofs.Back.{written_one}
 use Rattle.mf4.specs.Clauses.{Slice, Room}
 use Rattle.theorems.specs.Clauses.{ReadsValue, ChecksValidity, ChecksBoundedValidity, ReadsDouble, WritesValue}
@@ -86,7 +85,7 @@ module _ (κs : Lfts 1) (id_size : ℕ) (channel : Channel) (given : NumberGiven
               validity_one w z
               (r ∙ ap valid same ∙ (value_write_keeps.validity (group_meant group) (channel_meant d) skipped far).1 ∙ ap valid (sym held) ∙ sym q)
 
-      module _ (done : y ≡ Done) where
+      module _ (done : y ≡ Ok tt) where
         decodes : DecodesTo after id_size (channel_meant channel) (given_meant given)
         decodes =
             subst (λ (t : List ℕ). DecodesTo t id_size (channel_meant channel) (given_meant given)) (sym same_buffer)
@@ -106,9 +105,9 @@ module _ (κs : Lfts 1) (id_size : ℕ) (channel : Channel) (given : NumberGiven
         → (is_floating (kind_of (channel_meant channel).data_type) ≡ true → (channel_meant channel).bit_count ≡ 32
         → ComesBack (number_in (order_of (channel_meant channel).data_type) bytes.now (start_of id_size (channel_meant channel)) (channel_meant channel)))
         → (ρs : Lfts 1) (before : Slice) (z : Result DecodedValue Refusal) → before.now ≡ bytes.now → ReadsValue ρs before id_size channel z
-        → value_reply z ≡ answer (value_given (given_meant given)) → (y ≡ Done) × (after ≡ bytes.now)
+        → value_reply z ≡ answer (value_given (given_meant given)) → (y ≡ Ok tt) × (after ≡ bytes.now)
     decode_then_write b fixed number comes ρs before z held q e =
         let decoded : value_of bytes.now id_size (channel_meant channel) ≡ answer (value_given (given_meant given)) =
         ap (λ (t : List ℕ). value_of t id_size (channel_meant channel)) (sym held) ∙ sym q ∙ e in
         let same = decoded_written bytes.now id_size (channel_meant channel) (given_meant given) b fixed number decoded comes in
-        (written_one y Done (of_outcome (p ∙ same)), same_buffer ∙ of_buffer same)
+        (written_one y (Ok tt) (of_outcome (p ∙ same)), same_buffer ∙ of_buffer same)
