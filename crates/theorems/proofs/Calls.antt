@@ -19,6 +19,8 @@ pub mod Outcomes
 pub mod RefusalNumbers
 pub mod RefusalNumbersByCalls
 pub mod RefusalNumbersToC
+-- the same of the Results that the calls of the library give
+pub mod OfResults
 -- from what C is told the reply comes back
 pub mod ToldToC
 -- the laws of causes: what tests in turn refuse, and with which numbers
