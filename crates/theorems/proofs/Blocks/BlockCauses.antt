@@ -8,6 +8,8 @@ use native.Mathlib.Omega.{arith}
 use lib.ListN.{length}
 use lib.Dec.{ltb, eqb}
 use borrow.Author.Tests.{ltb-true, lt-ltb}
+use Rattle.std.specs.Bool.{Decides}
+use Rattle.std.proofs.lemmas.Bool.Decides.{Decides-ltb, Decides-eqb, Decides-or, Decides-not}
 use Rattle.definitions.specs.Reply.{Reply, and_then, told, needing, writing}
 use Rattle.definitions.specs.Bytes.{id_at}
 use Rattle.definitions.specs.Unicode.{Encoding, text_of, written_text, text_written}
@@ -19,18 +21,18 @@ use Rattle.blocks.proofs.Writes.{length_list}
 use Rattle.channels.proofs.Channels.{length_channel}
 use Rattle.theorems.specs.Refused.{Cause, ◌or_else◌, RefusedExactly}
 use Rattle.theorems.specs.BlockCauses.{too_short, header_refused, link_count_in, list_refused, channel_refused, no_room, Uncounted, header_unwritten, list_unwritten, channel_unwritten, text_unwritten}
-use Rattle.theorems.proofs.Calls.TestsInTurn.{Tests, tests_less, tests_equal, tests_false, tests_not, tests_or, as_is, tested, last_tested, going_on, tested_lent}
+use Rattle.theorems.proofs.Calls.TestsInTurn.{tests_false, as_is, tested, last_tested, going_on, tested_lent}
 
 -- ---- read
 
 module _ (s : List ℕ) where
   pub header_refused_law : RefusedExactly (header_refused s) (header_of s)
   unfolding header_of
-  header_refused_law = last_tested (ltb (length s) 24) 2 (told 24) (header_in s) (tests_less (length s) 24)
+  header_refused_law = last_tested (ltb (length s) 24) 2 (told 24) (header_in s) (Decides-ltb (length s) 24)
 
   -- a test of the bytes, and what comes behind it
   long_enough : {A : Type 0} {c : Cause} (n : ℕ) (r : Reply A) → RefusedExactly c r → RefusedExactly (too_short s n or_else c) (needing s n r)
-  long_enough n r h = tested (ltb (length s) n) 2 (told n) r (tests_less (length s) n) h
+  long_enough n r h = tested (ltb (length s) n) 2 (told n) r (Decides-ltb (length s) n) h
 
   -- what is read behind the header goes by the header in the bytes
   behind_header : {A : Type 0} {c : Cause} (g : Header → Reply A) → RefusedExactly c (g (header_in s)) → RefusedExactly (header_refused s or_else c) (and_then (header_of s) g)
@@ -41,17 +43,17 @@ module _ (s : List ℕ) where
   list_refused_law =
       behind_header (links_of s)
       (tested (not (id_at s 0 id_dl)) 3 0 _ (tests_false (id_at s 0 id_dl))
-      (tested (eqb (link_count_in s) 0) 4 0 _ (tests_equal (link_count_in s) 0)
+      (tested (eqb (link_count_in s) 0) 4 0 _ (Decides-eqb (link_count_in s) 0)
       (long_enough (flags_at (link_count_in s) + 8) _
-      (last_tested (ltb (length s) _) 2 _ _ (tests_less (length s) (flags_at (link_count_in s) + 8 + rest_in s (link_count_in s) * 8))))))
+      (last_tested (ltb (length s) _) 2 _ _ (Decides-ltb (length s) (flags_at (link_count_in s) + 8 + rest_in s (link_count_in s) * 8))))))
 
   pub channel_refused_law : RefusedExactly (channel_refused s) (channel_block_of s)
   unfolding channel_block_of fields_of
   channel_refused_law =
       behind_header (fields_of s)
       (tested (not (id_at s 0 id_cn)) 3 0 _ (tests_false (id_at s 0 id_cn))
-      (tested (ltb (link_count_in s) 8) 17 0 _ (tests_less (link_count_in s) 8)
-      (last_tested (ltb (length s) _) 2 _ _ (tests_less (length s) (fields_at (link_count_in s) + 72)))))
+      (tested (ltb (link_count_in s) 8) 17 0 _ (Decides-ltb (link_count_in s) 8)
+      (last_tested (ltb (length s) _) 2 _ _ (Decides-ltb (length s) (fields_at (link_count_in s) + 72)))))
 
 -- ---- written
 
@@ -61,7 +63,7 @@ module _ (out : List ℕ) where
   room_refused n bytes a e =
       subst (λ (k : ℕ). RefusedExactly (no_room out k) (writing out bytes a).reply) e
       (tested_lent (ltb (length out) (length bytes)) 6 (told (length bytes)) out _
-      (last_tested (ltb (length out) (length bytes)) 6 (told (length bytes)) a (tests_less (length out) (length bytes))))
+      (last_tested (ltb (length out) (length bytes)) 6 (told (length bytes)) a (Decides-ltb (length out) (length bytes))))
 
   pub header_written_refused : (h : Header) → RefusedExactly (header_unwritten out) (header_written out h).reply
   unfolding header_written
@@ -75,9 +77,9 @@ module _ (out : List ℕ) where
   unfolding text_written written_text
   text_written_refused e s = room_refused _ (text_of e s).bytes _ refl
 
-  tests_unwritable : (n : ℕ) (l : Lengths) → Tests ((link_limit < n) ⊎ Uncounted n l) (unwritable n l)
-  tests_unwritable n (equal k) = record { holds = λ h. inl (ltb-true link_limit n h); shows = ⊎_elim (lt-ltb link_limit n) (λ no. absurd no) }
-  tests_unwritable n (variable ns) = tests_or (ltb link_limit n) (not (eqb n (length ns))) (tests_less link_limit n) (tests_not (eqb n (length ns)) (tests_equal n (length ns)))
+  tests_unwritable : (n : ℕ) (l : Lengths) → Decides (unwritable n l) ((link_limit < n) ⊎ Uncounted n l)
+  tests_unwritable n (equal k) = (λ h. inl (ltb-true link_limit n h), ⊎_elim (lt-ltb link_limit n) (λ no. absurd no))
+  tests_unwritable n (variable ns) = Decides-or (ltb link_limit n) (not (eqb n (length ns))) (Decides-ltb link_limit n) (Decides-not (eqb n (length ns)) (Decides-eqb n (length ns)))
 
   pub list_written_refused : (next : ℕ) (links : List ℕ) (l : Lengths) → RefusedExactly (list_unwritten out links l) (list_written out next links l).reply
   unfolding list_written

@@ -9,6 +9,8 @@ use native.Mathlib.Omega.{arith}
 use lib.Dec.{ltb, leb, eqb}
 use borrow.Author.Count.{below_more}
 use borrow.Author.Tests.{ltb-true, ltb-false, lt-ltb, le-ltb, leb-false, lt-leb, eqb-true, eq-eqb, eqb-false}
+use Rattle.std.specs.Bool.{Decides}
+use Rattle.std.proofs.lemmas.Bool.Decides.{Decides-like, Decides-not, Decides-or, nat_tests}
 use Rattle.definitions.specs.Reply.{Reply, Outcome, answer, refusal, and_then, on_answer}
 use Rattle.definitions.proofs.Replies.{not_answered, both}
 use Rattle.theorems.specs.Exactly.{Exactly}
@@ -17,66 +19,31 @@ use Rattle.theorems.specs.Refused.{Cause, refused, Absent, ◌or_else◌, first_
 
 -- ---- a test and what it tests
 
-pub record Tests (P : Type 0) (b : Bool) : Type 0 where
-  pub holds : b ≡ true → P
-  pub shows : P → b ≡ true
+pub tests_false : (b : Bool) → Decides (not b) (b ≡ false)
+tests_false true = (λ h. cc, λ h. cc)
+tests_false false = (λ h. refl, λ h. refl)
 
-pub tests_less : (a b : ℕ) → Tests (a < b) (ltb a b)
-tests_less a b = record { holds = ltb-true a b; shows = lt-ltb a b }
-
-pub tests_equal : (a b : ℕ) → Tests (a ≡ b) (eqb a b)
-tests_equal a b = record { holds = eqb-true a b; shows = eq-eqb a b }
-
-pub tests_false : (b : Bool) → Tests (b ≡ false) (not b)
-tests_false true = record { holds = λ h. absurd (true≢false (sym h)); shows = λ h. absurd (true≢false h) }
-tests_false false = record { holds = λ h. refl; shows = λ h. refl }
-
-pub tests_not : {P : Type 0} (b : Bool) → Tests P b → Tests (Not P) (not b)
-tests_not true t = record { holds = λ h. absurd (true≢false (sym h)); shows = λ n. absurd (n (t.holds refl)) }
-tests_not false t = record { holds = λ h p. true≢false (sym (t.shows p)); shows = λ n. refl }
-
-pub tests_not_not : {P : Type 0} (b : Bool) → Tests P b → Tests P (not (not b))
+pub tests_not_not : {P : Type 0} (b : Bool) → Decides b P → Decides (not (not b)) P
 tests_not_not true t = t
 tests_not_not false t = t
 
-pub tests_more : (a b : ℕ) → Tests (b < a) (not (leb a b))
-tests_more a b = go (leb a b) refl
-  where
-    go : (t : Bool) → leb a b ≡ t → Tests (b < a) (not t)
-    go true e = record { holds = λ h. absurd (true≢false (sym h)); shows = λ h. absurd (true≢false (sym e ∙ lt-leb a b h)) }
-    go false e = record { holds = λ h. leb-false a b e; shows = λ h. refl }
+pub tests_more : (a b : ℕ) → Decides (not (leb a b)) (b < a)
+tests_more a b = (λ h. grind (arith, nat_tests), λ h. grind (arith, nat_tests))
 
-pub tests_no_less : (a b : ℕ) → Tests (b ≤ a) (not (ltb a b))
-tests_no_less a b = go (ltb a b) refl
-  where
-    go : (t : Bool) → ltb a b ≡ t → Tests (b ≤ a) (not t)
-    go true e = record { holds = λ h. absurd (true≢false (sym h)); shows = λ h. absurd (true≢false (sym e ∙ le-ltb a b h)) }
-    go false e = record { holds = λ h. ltb-false a b e; shows = λ h. refl }
+pub tests_no_less : (a b : ℕ) → Decides (not (ltb a b)) (b ≤ a)
+tests_no_less a b = (λ h. grind (arith, nat_tests), λ h. grind (arith, nat_tests))
 
-pub tests_both : {P Q : Type 0} (a b : Bool) → Tests P a → Tests Q b → Tests (P × Q) (a && b)
-tests_both a b p q = record {
-  holds = λ h. let x = both a b h in (p.holds x.0, q.holds x.1);
-  shows = λ x. rw (p.shows x.0, q.shows x.1);
-}
+pub tests_true : (b : Bool) → Decides b (b ≡ true)
+tests_true b = (λ h. h, λ h. h)
 
-pub tests_true : (b : Bool) → Tests (b ≡ true) b
-tests_true b = record { holds = λ h. h; shows = λ h. h }
-
-pub tests_or : {P Q : Type 0} (a b : Bool) → Tests P a → Tests Q b → Tests (P ⊎ Q) (a || b)
-tests_or true b p q = record { holds = λ h. inl (p.holds refl); shows = λ h. refl }
-tests_or false b p q = record { holds = λ h. inr (q.holds h); shows = ⊎_elim (λ x. absurd (true≢false (sym (p.shows x)))) q.shows }
-
-pub tests_neither : {P Q : Type 0} (a b : Bool) → Tests P a → Tests Q b → Tests (Not P × Not Q) (not (a || b))
+pub tests_neither : {P Q : Type 0} (a b : Bool) → Decides a P → Decides b Q → Decides (not (a || b)) (Not P × Not Q)
 tests_neither a b p q =
-    let t = tests_not (a || b) (tests_or a b p q) in record {
-      holds = λ h. (λ x. t.holds h (inl x), λ x. t.holds h (inr x));
-      shows = λ n. t.shows (⊎_elim n.0 n.1);
-    }
+    Decides-like (not (a || b)) (λ h. (λ x. h (inl x), λ x. h (inr x))) (λ n. ⊎_elim n.0 n.1) (Decides-not (a || b) (Decides-or a b p q))
 
 -- one of two is not met
-pub tests_either : {P Q : Type 0} (a b : Bool) → Tests P (not a) → Tests Q (not b) → Tests (P ⊎ Q) (not (a && b))
-tests_either true b p q = record { holds = λ h. inr (q.holds h); shows = ⊎_elim (λ x. absurd (true≢false (sym (p.shows x)))) q.shows }
-tests_either false b p q = record { holds = λ h. inl (p.holds refl); shows = λ h. refl }
+pub tests_either : {P Q : Type 0} (a b : Bool) → Decides (not a) P → Decides (not b) Q → Decides (not (a && b)) (P ⊎ Q)
+tests_either true b p q = (λ h. inr (q.0 h), ⊎_elim (λ x. absurd (true≢false (sym (p.1 x)))) q.1)
+tests_either false b p q = (λ h. inl (p.0 refl), λ h. refl)
 
 -- ---- one after the other
 
@@ -86,29 +53,29 @@ module _ {A : Type 0} where
   as_is {c = c} e h = subst (RefusedExactly c) (sym e) h
 
   -- a test, and what comes behind it, where it found nothing
-  pub tested_else : {P : Type 0} {c : Cause} (b : Bool) (n t : ℕ) (r : Reply A) → Tests P b → (b ≡ false → RefusedExactly c r)
+  pub tested_else : {P : Type 0} {c : Cause} (b : Bool) (n t : ℕ) (r : Reply A) → Decides b P → (b ≡ false → RefusedExactly c r)
       → RefusedExactly (refused n t P or_else c) (if b then refusal n t else r)
   unfolding refused ◌or_else◌
   tested_else true n t r p h = record {
-    given = λ m u. ⊎_elim (λ x. rw (x.1, x.2)) (λ x. absurd (x.0 n t (p.holds refl, refl, refl)));
-    only = λ m u e. inl (p.holds refl, cc, cc);
+    given = λ m u. ⊎_elim (λ x. rw (x.1, x.2)) (λ x. absurd (x.0 n t (p.0 refl, refl, refl)));
+    only = λ m u e. inl (p.0 refl, cc, cc);
   }
   tested_else false n t r p h =
-      let none : Absent (refused n t _) = λ m u x. true≢false (sym (p.shows x.0)) in record {
+      let none : Absent (refused n t _) = λ m u x. true≢false (sym (p.1 x.0)) in record {
         given = λ m u. ⊎_elim (λ x. absurd (none m u x)) (λ x. (h refl).given m u x.1);
         only = λ m u e. inr (none, (h refl).only m u e);
       }
 
-  pub tested : {P : Type 0} {c : Cause} (b : Bool) (n t : ℕ) (r : Reply A) → Tests P b → RefusedExactly c r
+  pub tested : {P : Type 0} {c : Cause} (b : Bool) (n t : ℕ) (r : Reply A) → Decides b P → RefusedExactly c r
       → RefusedExactly (refused n t P or_else c) (if b then refusal n t else r)
   tested b n t r p h = tested_else b n t r p (λ none. h)
 
   -- the last test
-  pub last_tested : {P : Type 0} (b : Bool) (n t : ℕ) (a : A) → Tests P b → RefusedExactly (refused n t P) (if b then refusal n t else answer a)
+  pub last_tested : {P : Type 0} (b : Bool) (n t : ℕ) (a : A) → Decides b P → RefusedExactly (refused n t P) (if b then refusal n t else answer a)
   unfolding refused
-  last_tested true n t a p = record { given = λ m u x. rw (x.1, x.2); only = λ m u e. (p.holds refl, cc, cc) }
+  last_tested true n t a p = record { given = λ m u x. rw (x.1, x.2); only = λ m u e. (p.0 refl, cc, cc) }
   last_tested false n t a p = record {
-    given = λ m u x. absurd (true≢false (sym (p.shows x.0)));
+    given = λ m u x. absurd (true≢false (sym (p.1 x.0)));
     only = λ m u e. not_answered a m u (sym e);
   }
 

@@ -9,6 +9,8 @@ use native.Mathlib.Omega.{arith}
 use lib.ListN.{length, drop}
 use lib.Dec.{ltb, leb, eqb}
 use borrow.Author.Tests.{leb-true, leb-false, eqb-true, eqb-false}
+use Rattle.std.specs.Bool.{Decides}
+use Rattle.std.proofs.lemmas.Bool.Decides.{Decides-ltb, Decides-eqb, Decides-not}
 use Rattle.definitions.specs.Reply.{Reply, answer, refusal}
 use Rattle.definitions.specs.Bytes.{u64_at, id_at}
 use Rattle.definitions.specs.DataList.{DataList, one_length, list_of}
@@ -22,10 +24,10 @@ use Rattle.theorems.specs.ChainCauses.{NoHeader, block_there, block_refused, len
 use Rattle.theorems.proofs.Blocks.ListAnswers.{list_stands}
 use Rattle.theorems.proofs.Blocks.BlockCauses.{list_refused_law}
 use Rattle.theorems.proofs.Chains.BlocksStand.{unset, list_there_law}
-use Rattle.theorems.proofs.Calls.TestsInTurn.{Tests, tests_less, tests_equal, tests_false, tests_not, tests_not_not, tests_more, tests_either, as_is, tested, last_tested, going_on}
+use Rattle.theorems.proofs.Calls.TestsInTurn.{tests_false, tests_not_not, tests_more, tests_either, as_is, tested, last_tested, going_on}
 
-tests_header : (f : List ℕ) (a : ℕ) → Tests (NoHeader f a) (not (has_header f a))
-tests_header f a = tests_either (not (eqb a 0)) (leb (a + 24) (length f)) (tests_not_not (eqb a 0) (tests_equal a 0)) (tests_more (a + 24) (length f))
+tests_header : (f : List ℕ) (a : ℕ) → Decides (not (has_header f a)) (NoHeader f a)
+tests_header f a = tests_either (not (eqb a 0)) (leb (a + 24) (length f)) (tests_not_not (eqb a 0) (Decides-eqb a 0)) (tests_more (a + 24) (length f))
 
 -- ---- a data block
 
@@ -35,9 +37,9 @@ module _ (id f : List ℕ) (a : ℕ) where
   block_refused_law =
       tested (not (has_header f a)) 11 0 _ (tests_header f a)
       (tested (not (id_at f a id)) 12 0 _ (tests_false (id_at f a id))
-      (tested (not (eqb (u64_at f (a + 16)) 0)) 12 0 _ (tests_not (eqb (u64_at f (a + 16)) 0) (tests_equal (u64_at f (a + 16)) 0))
-      (tested (ltb (u64_at f (a + 8)) 24) 12 0 _ (tests_less (u64_at f (a + 8)) 24)
-      (last_tested (ltb (length f) (a + u64_at f (a + 8))) 12 0 (block_there f a) (tests_less (length f) (a + u64_at f (a + 8)))))))
+      (tested (not (eqb (u64_at f (a + 16)) 0)) 12 0 _ (Decides-not (eqb (u64_at f (a + 16)) 0) (Decides-eqb (u64_at f (a + 16)) 0))
+      (tested (ltb (u64_at f (a + 8)) 24) 12 0 _ (Decides-ltb (u64_at f (a + 8)) 24)
+      (last_tested (ltb (length f) (a + u64_at f (a + 8))) 12 0 (block_there f a) (Decides-ltb (length f) (a + u64_at f (a + 8)))))))
 
   pub block_there_law : (b : Block) → block_at id f a ≡ answer b → b ≡ block_there f a
   unfolding block_at
@@ -55,38 +57,38 @@ module _ (id f : List ℕ) (a : ℕ) where
 module _ (s : List ℕ) (d : DataList) (i p n : ℕ) where
   -- by the flag and by whether the fragment is the chain's last
   untrue_by : (one last : Bool) → one_length d.flags ≡ one → is_last d i ≡ last
-      → Tests (Untrue s d i p n) (not (if one then (if last then leb n (length_in s d) else eqb n (length_in s d)) else eqb (u64_at s (d.rest_at + i * 8)) p))
-  untrue_by true true e l = record { holds = λ h. longer (eqb-true _ _ e) ((tests_more n (length_in s d)).holds h); shows = to }
+      → Decides (not (if one then (if last then leb n (length_in s d) else eqb n (length_in s d)) else eqb (u64_at s (d.rest_at + i * 8)) p)) (Untrue s d i p n)
+  untrue_by true true e l = (λ h. longer (eqb-true _ _ e) ((tests_more n (length_in s d)).0 h), to)
     where
       to : Untrue s d i p n → not (leb n (length_in s d)) ≡ true
-      to (longer o m) = (tests_more n (length_in s d)).shows m
+      to (longer o m) = (tests_more n (length_in s d)).1 m
       to (not_full o (inl m) short) = absurd (omega (arith, leb-true d.links (i + 1) (both (eqb d.next 0) _ l).1))
       to (not_full o (inr m) short) = absurd (omega (arith, eqb-true d.next 0 (both (eqb d.next 0) _ l).0))
       to (misplaced z other) = absurd (omega (arith, eqb-true _ _ e))
-  untrue_by true false e l = record {
-    holds = λ h. not_full (eqb-true _ _ e) (follows (eqb d.next 0) refl l) ((tests_not _ (tests_equal n (length_in s d))).holds h);
-    shows = to;
-  }
+  untrue_by true false e l = (
+    λ h. not_full (eqb-true _ _ e) (follows (eqb d.next 0) refl l) ((Decides-not _ (Decides-eqb n (length_in s d))).0 h),
+    to,
+  )
     where
       follows : (t : Bool) → eqb d.next 0 ≡ t → (t && leb d.links (i + 1)) ≡ false → (i + 1 < d.links) ⊎ (0 < d.next)
       follows true q h = inl (leb-false d.links (i + 1) h)
       follows false q h = let no = eqb-false d.next 0 q in inr (omega arith)
 
       to : Untrue s d i p n → not (eqb n (length_in s d)) ≡ true
-      to (longer o m) = (tests_not _ (tests_equal n (length_in s d))).shows (λ q. omega arith)
-      to (not_full o m short) = (tests_not _ (tests_equal n (length_in s d))).shows short
+      to (longer o m) = (Decides-not _ (Decides-eqb n (length_in s d))).1 (λ q. omega arith)
+      to (not_full o m short) = (Decides-not _ (Decides-eqb n (length_in s d))).1 short
       to (misplaced z other) = absurd (omega (arith, eqb-true _ _ e))
-  untrue_by false last e l = record {
-    holds = λ h. misplaced (unset d.flags (eqb-false _ _ e)) ((tests_not _ (tests_equal (u64_at s (d.rest_at + i * 8)) p)).holds h);
-    shows = to;
-  }
+  untrue_by false last e l = (
+    λ h. misplaced (unset d.flags (eqb-false _ _ e)) ((Decides-not _ (Decides-eqb (u64_at s (d.rest_at + i * 8)) p)).0 h),
+    to,
+  )
     where
       to : Untrue s d i p n → not (eqb (u64_at s (d.rest_at + i * 8)) p) ≡ true
       to (longer o m) = absurd (eqb-false _ _ e o)
       to (not_full o m short) = absurd (eqb-false _ _ e o)
-      to (misplaced z other) = (tests_not _ (tests_equal (u64_at s (d.rest_at + i * 8)) p)).shows other
+      to (misplaced z other) = (Decides-not _ (Decides-eqb (u64_at s (d.rest_at + i * 8)) p)).1 other
 
-  tests_untrue : Tests (Untrue s d i p n) (not (declared s d i p n))
+  tests_untrue : Decides (not (declared s d i p n)) (Untrue s d i p n)
   tests_untrue = untrue_by (one_length d.flags) (is_last d i) refl refl
 
 module _ (id f s : List ℕ) (d : DataList) (i p : ℕ) where
@@ -108,10 +110,10 @@ module _ (id f s : List ℕ) (d : DataList) (i p : ℕ) where
 
 -- ---- a list
 
-tests_disagreeing : (d : DataList) → Tests (Disagrees d) (not (agrees d))
+tests_disagreeing : (d : DataList) → Decides (not (agrees d)) (Disagrees d)
 tests_disagreeing d =
     tests_either (eqb d.count d.links) (leb (d.rest_at + d.rest * 8) d.header.block_length)
-    (tests_not _ (tests_equal d.count d.links)) (tests_more (d.rest_at + d.rest * 8) d.header.block_length)
+    (Decides-not _ (Decides-eqb d.count d.links)) (tests_more (d.rest_at + d.rest * 8) d.header.block_length)
 
 module _ (f : List ℕ) (n a : ℕ) where
   pub list_at_refused_law : RefusedExactly (list_at_refused f n a) (list_at f n a)
@@ -122,7 +124,7 @@ module _ (f : List ℕ) (n a : ℕ) where
       (going_on (list_of (drop a f)) (admitted n) (list_refused_law (drop a f))
       (λ x e. as_is (ap (admitted n) (list_stands (drop a f) x e).1)
       (tested (not (agrees d)) 10 0 _ (tests_disagreeing d)
-      (last_tested (ltb fragment_limit (n + d.links)) 9 0 d (tests_less fragment_limit (n + d.links))))))
+      (last_tested (ltb fragment_limit (n + d.links)) 9 0 d (Decides-ltb fragment_limit (n + d.links))))))
 
   pub list_is_there : (d : DataList) → list_at f n a ≡ answer d → d ≡ list_there f a
   list_is_there d h = (list_stands (drop a f) d (list_there_law f n a d h).2).1
@@ -146,31 +148,31 @@ module _ (f : List ℕ) (start a : ℕ) where
   abbrev OtherCount : Type 0
   OtherCount = ((0 < d.next) × Not (d.count ≡ e.count)) ⊎ (e.count < d.count)
 
-  tests_count : (last : Bool) → eqb d.next 0 ≡ last → Tests OtherCount (not (if last then leb d.count e.count else eqb d.count e.count))
-  tests_count true l = record {
-    holds = λ h. inr ((tests_more d.count e.count).holds h);
-    shows = ⊎_elim (λ x. absurd (omega (arith, x.0, eqb-true d.next 0 l))) (tests_more d.count e.count).shows;
-  }
+  tests_count : (last : Bool) → eqb d.next 0 ≡ last → Decides (not (if last then leb d.count e.count else eqb d.count e.count)) OtherCount
+  tests_count true l = (
+    λ h. inr ((tests_more d.count e.count).0 h),
+    ⊎_elim (λ x. absurd (omega (arith, x.0, eqb-true d.next 0 l))) (tests_more d.count e.count).1,
+  )
   tests_count false l =
-      let other = tests_not _ (tests_equal d.count e.count) in
+      let other = Decides-not _ (Decides-eqb d.count e.count) in
       let more : 0 < d.next = let no = eqb-false d.next 0 l in omega arith in
-      record { holds = λ h. inl (more, other.holds h); shows = ⊎_elim (λ x. other.shows x.1) (λ x. other.shows (λ q. omega arith)) }
+      (λ h. inl (more, other.0 h), ⊎_elim (λ x. other.1 x.1) (λ x. other.1 (λ q. omega arith)))
 
   unlike_by : (of-d of-e last : Bool) → one_length d.flags ≡ of-d → one_length e.flags ≡ of-e → eqb d.next 0 ≡ last
-      → Tests (Unlike f start a) (not (keeps_to (if of-e then by_length n e.count else by_offsets) last (if of-d then by_length m d.count else by_offsets)))
+      → Decides (not (keeps_to (if of-e then by_length n e.count else by_offsets) last (if of-d then by_length m d.count else by_offsets))) (Unlike f start a)
   unlike_by true true last x y l =
       let set = eqb-true _ _ x in
-      let test = tests_either (eqb m n) _ (tests_not _ (tests_equal m n)) (tests_count last l) in
-      record { holds = λ h. ⊎_elim (other_length set) (⊎_elim (λ q. other_count set q.0 q.1) (higher_count set)) (test.holds h); shows = λ u. test.shows (to u) }
+      let test = tests_either (eqb m n) _ (Decides-not _ (Decides-eqb m n)) (tests_count last l) in
+      (λ h. ⊎_elim (other_length set) (⊎_elim (λ q. other_count set q.0 q.1) (higher_count set)) (test.0 h), λ u. test.1 (to u))
     where
       to : Unlike f start a → Not (m ≡ n) ⊎ OtherCount
       to (other_form differ) = absurd (differ (eqb-true _ _ x ∙ sym (eqb-true _ _ y)))
       to (other_length o q) = inl q
       to (other_count o p q) = inr (inl (p, q))
       to (higher_count o q) = inr (inr q)
-  unlike_by true false last x y l = record { holds = λ h. other_form (λ q. eqb-false _ _ y (sym q ∙ eqb-true _ _ x)); shows = λ h. refl }
-  unlike_by false true last x y l = record { holds = λ h. other_form (λ q. eqb-false _ _ x (q ∙ eqb-true _ _ y)); shows = λ h. refl }
-  unlike_by false false last x y l = record { holds = λ h. absurd (true≢false (sym h)); shows = to }
+  unlike_by true false last x y l = (λ h. other_form (λ q. eqb-false _ _ y (sym q ∙ eqb-true _ _ x)), λ h. refl)
+  unlike_by false true last x y l = (λ h. other_form (λ q. eqb-false _ _ x (q ∙ eqb-true _ _ y)), λ h. refl)
+  unlike_by false false last x y l = (λ h. absurd (true≢false (sym h)), to)
     where
       to : Unlike f start a → false ≡ true
       to (other_form differ) = absurd (differ (unset d.flags (eqb-false _ _ x) ∙ sym (unset e.flags (eqb-false _ _ y))))
@@ -178,7 +180,7 @@ module _ (f : List ℕ) (start a : ℕ) where
       to (other_count o p q) = absurd (eqb-false _ _ x o)
       to (higher_count o q) = absurd (eqb-false _ _ x o)
 
-  tests_unlike : Tests (Unlike f start a) (not (keeps_to (declaration_of (drop start f) e) (eqb d.next 0) (declaration_of (drop a f) d)))
+  tests_unlike : Decides (not (keeps_to (declaration_of (drop start f) e) (eqb d.next 0) (declaration_of (drop a f) d))) (Unlike f start a)
   tests_unlike = unlike_by _ _ _ refl refl refl
 
 -- a list of the chain that the list at the start begins

@@ -5,10 +5,12 @@ use mathlib.Core.List.{List}
 use Prim.Native.Nat.{ℕ, ◌*◌}
 use lib.ListN.{length}
 use lib.Dec.{ltb, eqb}
+use Rattle.std.specs.Bool.{Decides}
+use Rattle.std.proofs.lemmas.Bool.Decides.{Decides-ltb, Decides-eqb, Decides-and, Decides-not}
 use Rattle.definitions.specs.DataType.{Kind, kind_of}
 use Rattle.definitions.specs.Channel.{Channel, Group, is_integer, is_floating, is_number, value_by, value_of, valid_of, valid_value_of, record_length, has_invalidation_bit, area_of, bounded_valid_of, bounded_value_of}
 use Rattle.theorems.proofs.Calls.Answers.{value_exactly, valid_value_exactly, bounded_valid_exactly, bounded_value_exactly}
-use Rattle.theorems.proofs.Calls.TestsInTurn.{Tests, tests_less, tests_no_less, tests_equal, tests_not, tests_true, tests_both, tests_neither, tested, last_tested, going_on, made_of}
+use Rattle.theorems.proofs.Calls.TestsInTurn.{tests_no_less, tests_true, tests_neither, tested, last_tested, going_on, made_of}
 use Rattle.theorems.specs.Refused.{RefusedExactly}
 use Rattle.theorems.specs.Causes.{needed, field_refused, area_refused, FieldReplies, ValidityReplies, BoundedReplies}
 
@@ -17,17 +19,17 @@ module _ (s : List ℕ) (id_size : ℕ) (c : Channel) where
   k = kind_of c.data_type
 
   -- of a kind's fields alone
-  of_kind_law : {P : Type 0} (a b : Bool) → Tests P b → Tests ((a ≡ true) × P) (a && b)
-  of_kind_law a b t = tests_both a b (tests_true a) t
+  of_kind_law : {P : Type 0} (a b : Bool) → Decides b P → Decides (a && b) ((a ≡ true) × P)
+  of_kind_law a b t = Decides-and a b (tests_true a) t
 
   value_refused : RefusedExactly (field_refused s id_size c) (value_of s id_size c)
   unfolding value_of value_by
   value_refused =
-      tested _ 18 0 _ (of_kind_law (is_number k) (eqb c.bit_count 0) (tests_equal c.bit_count 0))
-      (tested _ 19 0 _ (of_kind_law (is_number k) (ltb 7 c.bit_offset) (tests_less 7 c.bit_offset))
-      (tested _ 20 0 _ (of_kind_law (is_integer k) (ltb 64 c.bit_count) (tests_less 64 c.bit_count))
-      (tested _ 21 _ _ (tests_less (length s) (needed s id_size c))
-      (last_tested _ 22 0 _ (of_kind_law (is_floating k) _ (tests_neither (eqb c.bit_count 32) (eqb c.bit_count 64) (tests_equal c.bit_count 32) (tests_equal c.bit_count 64)))))))
+      tested _ 18 0 _ (of_kind_law (is_number k) (eqb c.bit_count 0) (Decides-eqb c.bit_count 0))
+      (tested _ 19 0 _ (of_kind_law (is_number k) (ltb 7 c.bit_offset) (Decides-ltb 7 c.bit_offset))
+      (tested _ 20 0 _ (of_kind_law (is_integer k) (ltb 64 c.bit_count) (Decides-ltb 64 c.bit_count))
+      (tested _ 21 _ _ (Decides-ltb (length s) (needed s id_size c))
+      (last_tested _ 22 0 _ (of_kind_law (is_floating k) _ (tests_neither (eqb c.bit_count 32) (eqb c.bit_count 64) (Decides-eqb c.bit_count 32) (Decides-eqb c.bit_count 64)))))))
 
   pub value_replies : FieldReplies s id_size c (value_of s id_size c)
   value_replies = record { answers = value_exactly s id_size c; refusals = value_refused }
@@ -45,8 +47,8 @@ pub area_refused_law : (n : ℕ) (g : Group) (c : Channel) → RefusedExactly (a
 unfolding area_of
 area_refused_law n g c =
     let tells = has_invalidation_bit c in
-    tested _ 28 0 _ (tests_not (eqb n (record_length g)) (tests_equal n (record_length g)))
-    (last_tested _ 29 0 tt (tests_both tells _ (tests_true tells) (tests_no_less c.invalidation_bit (8 * g.invalidation_bytes))))
+    tested _ 28 0 _ (Decides-not (eqb n (record_length g)) (Decides-eqb n (record_length g)))
+    (last_tested _ 29 0 tt (Decides-and tells _ (tests_true tells) (tests_no_less c.invalidation_bit (8 * g.invalidation_bytes))))
 
 module _ (s : List ℕ) (g : Group) (c : Channel) where
   pub bounded_valid_replies : ValidityReplies (length s) g c (bounded_valid_of s g c)

@@ -6,6 +6,8 @@ use Prim.Native.Nat.{ℕ, ◌+◌}
 use lib.ListN.{length, take}
 use lib.Dec.{ltb}
 use borrow.Author.Tests.{not-false}
+use Rattle.std.specs.Bool.{Decides}
+use Rattle.std.proofs.lemmas.Bool.Decides.{Decides-ltb, Decides-and, Decides-not}
 use Rattle.definitions.specs.Reply.{Reply, Outcome, answer, refusal, and_then, writing}
 use Rattle.definitions.specs.Bytes.{u32_at}
 use Rattle.definitions.specs.DataType.{kind_of}
@@ -24,7 +26,7 @@ use Rattle.theorems.proofs.Chains.ChainCauses.{chain_refused_law}
 use Rattle.theorems.proofs.Records.RecordCauses.{tests_joined, in_record}
 use Rattle.theorems.proofs.Blocks.BlockCauses.{room_refused}
 use Rattle.theorems.proofs.Payloads.PayloadEnds.{positioned, held, payload_replied}
-use Rattle.theorems.proofs.Calls.TestsInTurn.{Tests, tests_less, tests_true, tests_both, tests_not, as_is, tested, tested_else, last_tested, going_on, made_of, chosen}
+use Rattle.theorems.proofs.Calls.TestsInTurn.{tests_true, as_is, tested, tested_else, last_tested, going_on, made_of, chosen}
 
 pub joined_refused : (id f : List ℕ) (start : ℕ) → RefusedExactly (chain_refused id f start) (joined_of id f start)
 unfolding joined_of
@@ -42,18 +44,18 @@ module _ (f s : List ℕ) (id_size : ℕ) (c : Channel) where
   unfolding payload_of position_of joined_of payload_at
   payload_refused_law =
       let found : ℕ → Reply (List ℕ) = λ p. and_then (joined_of id_sd f c.data_link) (λ bytes. payload_at bytes p) in
-      going_on (position_of s id_size c) found (last_tested (ltb (length s) (id_size + c.byte_offset + 8)) 21 _ at (tests_less (length s) (id_size + c.byte_offset + 8)))
+      going_on (position_of s id_size c) found (last_tested (ltb (length s) (id_size + c.byte_offset + 8)) 21 _ at (Decides-ltb (length s) (id_size + c.byte_offset + 8)))
       (λ p e. as_is (ap found (position_is p e))
       (going_on (joined_of id_sd f c.data_link) (λ bytes. payload_at bytes at) (joined_refused id_sd f c.data_link)
       (λ bytes q. let chain = followed (chain_of id_sd f c.data_link) (λ bs. answer (joined f bs)) bytes q in
       as_is (ap (λ (x : List ℕ). payload_at x at) (sym (answered chain.2)))
-      (tested _ 23 0 _ (tests_joined id_sd f c.data_link _ (λ j. ltb (length j) (at + 4)) (λ j. tests_less (length j) (at + 4)) chain.0 chain.1)
-      (last_tested _ 23 0 _ (tests_joined id_sd f c.data_link _ (λ j. ltb (length j) (at + 4 + u32_at j at)) (λ j. tests_less (length j) (at + 4 + u32_at j at)) chain.0 chain.1))))))
+      (tested _ 23 0 _ (tests_joined id_sd f c.data_link _ (λ j. ltb (length j) (at + 4)) (λ j. Decides-ltb (length j) (at + 4)) chain.0 chain.1)
+      (last_tested _ 23 0 _ (tests_joined id_sd f c.data_link _ (λ j. ltb (length j) (at + 4 + u32_at j at)) (λ j. Decides-ltb (length j) (at + 4 + u32_at j at)) chain.0 chain.1))))))
 
 -- ---- the call
 
-tests_position : (c : Channel) → Tests (Not (Positioned c)) (not (holds_position c))
-tests_position c = tests_not (holds_position c) (record { holds = positioned c; shows = held c })
+tests_position : (c : Channel) → Decides (not (holds_position c)) (Not (Positioned c))
+tests_position c = Decides-not (holds_position c) ((positioned c, held c))
 
 module _ (f : List ℕ) (g : Group) (c : Channel) (room : List ℕ) (p : Positioned c) where
   -- of a payload alone only 21 is left
@@ -62,7 +64,7 @@ module _ (f : List ℕ) (g : Group) (c : Channel) (room : List ℕ) (p : Positio
   value_refused s payload =
       made_of _ (value_of payload g.id_size c)
       (as_is (payload_replied payload g.id_size c p)
-      (last_tested _ 21 8 _ (tests_both (is_number (kind_of c.data_type)) (ltb (length payload) 8) (tests_true _) (tests_less (length payload) 8))))
+      (last_tested _ 21 8 _ (Decides-and (is_number (kind_of c.data_type)) (ltb (length payload) 8) (tests_true _) (Decides-ltb (length payload) 8))))
 
   -- into the buffer, and then its value
   abbrev stored_value : List ℕ → List ℕ → Reply PayloadValue

@@ -6,6 +6,8 @@ use mathlib.Core.List.{List}
 use Prim.Native.Nat.{ℕ, ◌+◌, ◌*◌}
 use lib.ListN.{length, take, drop}
 use lib.Dec.{ltb, eqb}
+use Rattle.std.specs.Bool.{Decides}
+use Rattle.std.proofs.lemmas.Bool.Decides.{Decides-ltb, Decides-eqb, Decides-or}
 use Rattle.definitions.specs.Reply.{Reply, Outcome, answer, and_then}
 use Rattle.definitions.specs.Bytes.{span}
 use Rattle.definitions.specs.Channel.{Channel, Group, bounded_value_of}
@@ -22,7 +24,7 @@ use Rattle.theorems.proofs.Chains.ChainCauses.{chain_refused_law}
 use Rattle.theorems.proofs.Blocks.Rewritten.{front_of}
 use Rattle.theorems.proofs.Calls.Answers.{fetched_exactly, fetched_record}
 use Rattle.theorems.proofs.Fields.Causes.{bounded_value_replies}
-use Rattle.theorems.proofs.Calls.TestsInTurn.{Tests, tests_less, tests_equal, tests_or, as_is, tested, last_tested, going_on, made_of, together, tested_lent, going_on_lent}
+use Rattle.theorems.proofs.Calls.TestsInTurn.{as_is, tested, last_tested, going_on, made_of, together, tested_lent, going_on_lent}
 
 pub total_refused : (id f : List ℕ) (start : ℕ) → RefusedExactly (chain_refused id f start) (total_of id f start)
 unfolding total_of
@@ -30,25 +32,25 @@ total_refused id f start = made_of total (chain_of id f start) (chain_refused_la
 
 pub length_refused_law : (f : List ℕ) (start : ℕ) → RefusedExactly (length_refused f start) (data_length f start)
 unfolding data_length
-length_refused_law f start = tested (ltb file_limit (length f)) 7 0 _ (tests_less file_limit (length f)) (total_refused id_dt f start)
+length_refused_law f start = tested (ltb file_limit (length f)) 7 0 _ (Decides-ltb file_limit (length f)) (total_refused id_dt f start)
 
 -- the blocks of an accepted chain are the chain's
-pub tests_joined : (id f : List ℕ) (start : ℕ) (P : List ℕ → Type 0) (test : List ℕ → Bool) → ((j : List ℕ) → Tests (P j) (test j))
-    → (bs : List Block) → chain_of id f start ≡ answer bs → Tests (JoinedSo id f start P) (test (joined f bs))
-tests_joined id f start P test t bs e = record {
-  holds = λ h. (bs, (accepted id f start bs e, (t (joined f bs)).holds h));
-  shows = λ p.
+pub tests_joined : (id f : List ℕ) (start : ℕ) (P : List ℕ → Type 0) (test : List ℕ → Bool) → ((j : List ℕ) → Decides (test j) (P j))
+    → (bs : List Block) → chain_of id f start ≡ answer bs → Decides (test (joined f bs)) (JoinedSo id f start P)
+tests_joined id f start P test t bs e = (
+  λ h. (bs, (accepted id f start bs e, (t (joined f bs)).0 h)),
+  λ p.
       let same : p.0 ≡ bs = answered (sym (accepts id f start p.0 p.1.0) ∙ e) in
-      (t (joined f bs)).shows (subst (λ (x : List Block). P (joined f x)) same p.1.1);
-}
+      (t (joined f bs)).1 (subst (λ (x : List Block). P (joined f x)) same p.1.1),
+)
 
-pub tests_size : (size room : ℕ) → Tests (BadSize size room) (bad_size size room)
+pub tests_size : (size room : ℕ) → Decides (bad_size size room) (BadSize size room)
 tests_size size room =
-    let t = tests_or (eqb size 0 || ltb record_limit size) (ltb room size) (tests_or (eqb size 0) (ltb record_limit size) (tests_equal size 0) (tests_less record_limit size)) (tests_less room size) in
-    record {
-      holds = λ h. ⊎_elim (⊎_elim inl (λ x. inr (inl x))) (λ x. inr (inr x)) (t.holds h);
-      shows = λ p. t.shows (⊎_elim (λ x. inl (inl x)) (⊎_elim (λ x. inl (inr x)) inr) p);
-    }
+    let t = Decides-or (eqb size 0 || ltb record_limit size) (ltb room size) (Decides-or (eqb size 0) (ltb record_limit size) (Decides-eqb size 0) (Decides-ltb record_limit size)) (Decides-ltb room size) in
+    (
+      λ h. ⊎_elim (⊎_elim inl (λ x. inr (inl x))) (λ x. inr (inr x)) (t.0 h),
+      λ p. t.1 (⊎_elim (λ x. inl (inl x)) (⊎_elim (λ x. inl (inr x)) inr) p),
+    )
 
 module _ (f : List ℕ) (start k size : ℕ) (out : List ℕ) where
   pub record_refused_law : RefusedExactly (record_refused f start k size out) (fetched f start k size out).reply
@@ -58,11 +60,11 @@ module _ (f : List ℕ) (start k size : ℕ) (out : List ℕ) where
       (tested (bad_size size (length out)) 15 0 _ (tests_size size (length out))
       (together _ _ _
       (tested_lent (ltb file_limit (length f)) 7 0 out _
-      (tested (ltb file_limit (length f)) 7 0 _ (tests_less file_limit (length f))
+      (tested (ltb file_limit (length f)) 7 0 _ (Decides-ltb file_limit (length f))
       (going_on_lent (chain_of id_dt f start) _ out
       (going_on (chain_of id_dt f start) _ (chain_refused_law id_dt f start)
       (λ bs e. tested_lent (ltb (length (joined f bs)) (k * size + size)) 16 0 out _
-      (last_tested _ 16 0 tt (tests_joined id_dt f start _ (λ j. ltb (length j) (k * size + size)) (λ j. tests_less (length j) (k * size + size)) bs e)))))))))
+      (last_tested _ 16 0 tt (tests_joined id_dt f start _ (λ j. ltb (length j) (k * size + size)) (λ j. Decides-ltb (length j) (k * size + size)) bs e)))))))))
 
   -- ---- what is read in the record
 

@@ -43,7 +43,7 @@ module _ (f : List ℕ) (start size : ℕ) (g : Group) (c : Channel) (out : List
 
   pub reported_due : (n t : ℕ) → Due f start size g c out n t → ended ≡ refusing n t
   unfolding reported report_on
-  reported_due n t (wrong_size en et h) = rw ((tests_size size (length out)).shows h, en, et)
+  reported_due n t (wrong_size en et h) = rw ((tests_size size (length out)).1 h, en, et)
   reported_due n t (too_long en et sized h) = rw (size_passes size (length out) sized, lt-ltb _ _ h, en, et)
   reported_due n t (no_chain sized short h) = rw (size_passes size (length out) sized, le-ltb _ _ short, (chain_refused_law id_dt f start).given n t h)
   reported_due n t (no_number en et sized h k) = on_chain sized h ∙ rw (k, en, et)
@@ -82,7 +82,7 @@ module _ (f : List ℕ) (start size : ℕ) (g : Group) (c : Channel) (out : List
         by_number (record { short = ltb-false _ _ l; blocks = bs; accepted = accepted id_dt f start bs e }) (is_fixed_number c) refl
 
   by_size : (b : Bool) → bad_size size (length out) ≡ b → Ends
-  by_size true e = due 15 0 (wrong_size refl refl ((tests_size size (length out)).holds e))
+  by_size true e = due 15 0 (wrong_size refl refl ((tests_size size (length out)).0 e))
   by_size false e = by_chain (size_fits size (length out) e) (chain_of id_dt f start) refl (ltb file_limit (length f)) refl
 
   pub reported_ends : Ends

@@ -8,6 +8,7 @@ use native.Mathlib.Omega.{arith}
 use native.Mathlib.Nat.{eq-or-lt_of_le, eq-zero-or-pos}
 use lib.ListN.{length}
 use borrow.Author.Tests.{le-leb, eq-eqb}
+use Rattle.std.specs.Bool.{Decides}
 use Rattle.definitions.specs.Chain.{Block}
 use Rattle.definitions.specs.Table.{count_of, total_in, address_at, position_at, begin_of, fragment_in, fragments_in, blocks_in, rising, ordered, in_file, sound}
 use Rattle.chain.specs.Walk.{Inside}
@@ -15,7 +16,6 @@ use Rattle.chain.proofs.Chains.{inside_more}
 use Rattle.table.proofs.Ordered.{begin_at, begin_past}
 use Rattle.table.proofs.Fragments as told
 use Rattle.theorems.specs.TableCauses.{InOrder, RightIn}
-use Rattle.theorems.proofs.Calls.TestsInTurn.{Tests}
 
 -- blocks in a file pass its test
 pub inside_tested : (f : List ℕ) (bs : List Block) → Inside f bs → in_file (length f) bs ≡ true
@@ -66,8 +66,8 @@ module _ (w : List ℕ) where
     unfolding ordered
     test_ordered = rw (le-leb _ _ r.few, eq-eqb _ _ first_begin) (all_rise (count_of w) (omega arith))
 
-  pub tests_order : Tests (InOrder w) (ordered w)
-  tests_order = record { holds = λ h. in_order (told.in_order w h); shows = test_ordered }
+  pub tests_order : Decides (ordered w) (InOrder w)
+  tests_order = (λ h. in_order (told.in_order w h), test_ordered)
 
   -- ---- in a file
 
@@ -99,5 +99,5 @@ module _ (w : List ℕ) where
       unfolding sound
       test_sound = rw (test_ordered r.order) (inside_tested f (blocks_in w) (all_lie (count_of w) (omega arith)))
 
-    pub tests_right : Tests (RightIn f w) (sound f w)
-    tests_right = record { holds = right_in; shows = test_sound }
+    pub tests_right : Decides (sound f w) (RightIn f w)
+    tests_right = (right_in, test_sound)

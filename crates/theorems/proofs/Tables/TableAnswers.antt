@@ -56,13 +56,13 @@ module _ (f : List ℕ) (a : ℕ) (w : List ℕ) where
   extend_exactly = record {
     answers = λ h.
         let read : block_at id_dt f a ≡ answer h.block = ap (block_at id_dt f) (sym h.there) ∙ block_taken id_dt f h.block h.stands in
-        (tt, rw (le-ltb _ _ h.short, (tests_right w f).shows h.right, read, lt-leb _ _ h.room) refl);
+        (tt, rw (le-ltb _ _ h.short, (tests_right w f).1 h.right, read, lt-leb _ _ h.room) refl);
     only = λ u e.
         let p = extended_by (ltb file_limit (length f)) (not (sound f w)) (leb table_limit (count_of w)) (block_at id_dt f a) u e in
         let s = block_stands id_dt f a p.3 p.4 in
         record {
           short = ltb-false _ _ p.0;
-          right = (tests_right w f).holds (not-false (sound f w) p.1);
+          right = (tests_right w f).0 (not-false (sound f w) p.1);
           block = p.3;
           there = s.0;
           stands = s.1;
@@ -80,10 +80,10 @@ module _ (w : List ℕ) where
   pub shorten_exactly : Exactly (Shortenable w) (shortened w).reply
   unfolding shortened
   shorten_exactly = record {
-    answers = λ h. let n : count_of w ≡ 0 → ⊥ = λ z. omega (arith, h.some) in (tt, rw ((tests_order w).shows h.order, ne_eqb _ _ n) refl);
+    answers = λ h. let n : count_of w ≡ 0 → ⊥ = λ z. omega (arith, h.some) in (tt, rw ((tests_order w).1 h.order, ne_eqb _ _ n) refl);
     only = λ u e.
         let p = shortened_by (not (ordered w)) (eqb (count_of w) 0) u e in
-        record { order = (tests_order w).holds (not-false (ordered w) p.0); some = omega (arith, eqb-false _ _ p.1) };
+        record { order = (tests_order w).0 (not-false (ordered w) p.0); some = omega (arith, eqb-false _ _ p.1) };
   }
 
 -- ---- a record, and a value in it
@@ -91,7 +91,7 @@ module _ (w : List ℕ) where
 module _ (f w : List ℕ) (k size : ℕ) (out : List ℕ) where
   passed_of : TableFetchable f w k size out → Passed f w k size out
   passed_of h =
-      let s : sound f w ≡ true = (tests_right w f).shows h.right in
+      let s : sound f w ≡ true = (tests_right w f).1 h.right in
       let l : k * size + size ≤ length (joined f (blocks_in w)) = omega (arith, data_long w f s, h.inside) in
       record { sized = size_passes size (length out) (h.some, h.small, h.room); short = le-ltb _ _ h.short; right = s; inside = le-ltb _ _ l }
 
@@ -104,7 +104,7 @@ module _ (f w : List ℕ) (k size : ℕ) (out : List ℕ) where
         small = sized.1;
         room = sized.2;
         short = ltb-false _ _ p.short;
-        right = (tests_right w f).holds p.right;
+        right = (tests_right w f).0 p.right;
         inside = omega (arith, data_long w f p.right, l);
       }
 

@@ -7,6 +7,8 @@ use Prim.Native.Nat.{ℕ, ◌+◌, ◌*◌, ◌≤◌, ◌<◌}
 use lib.ListN.{length, take, drop}
 use lib.Dec.{ltb, leb, eqb}
 use borrow.Author.Tests.{ltb-true, lt-ltb, ltb-false, leb-true, le-leb, not-false}
+use Rattle.std.specs.Bool.{Decides}
+use Rattle.std.proofs.lemmas.Bool.Decides.{Decides-ltb, Decides-eqb, Decides-not}
 use Rattle.definitions.specs.Reply.{Outcome, answer}
 use Rattle.definitions.specs.Bytes.{span}
 use Rattle.definitions.specs.Channel.{Channel, Group, bounded_value_of}
@@ -24,40 +26,40 @@ use Rattle.theorems.proofs.Chains.ListCauses.{block_refused_law}
 use Rattle.theorems.proofs.Fields.Causes.{bounded_value_replies}
 use Rattle.theorems.proofs.Records.RecordCauses.{tests_size}
 use Rattle.theorems.proofs.Tables.RightTables.{tests_order, tests_right}
-use Rattle.theorems.proofs.Calls.TestsInTurn.{Tests, tests_less, tests_equal, tests_not, as_is, tested, tested_else, last_tested, going_on, tested_lent, going_on_lent}
+use Rattle.theorems.proofs.Calls.TestsInTurn.{as_is, tested, tested_else, last_tested, going_on, tested_lent, going_on_lent}
 
 -- ---- a table is changed
 
 module _ (f : List ℕ) (start : ℕ) (w : List ℕ) where
   -- the blocks of an accepted chain are the chain's
-  tests_many : (bs : List Block) → chain_of id_dt f start ≡ answer bs → Tests (TooMany f start) (ltb table_limit (length bs))
-  tests_many bs e = record {
-    holds = λ h. (bs, (accepted id_dt f start bs e, ltb-true table_limit (length bs) h));
-    shows = λ p.
+  tests_many : (bs : List Block) → chain_of id_dt f start ≡ answer bs → Decides (ltb table_limit (length bs)) (TooMany f start)
+  tests_many bs e = (
+    λ h. (bs, (accepted id_dt f start bs e, ltb-true table_limit (length bs) h)),
+    λ p.
         let same : p.0 ≡ bs = answered (sym (accepts id_dt f start p.0 p.1.0) ∙ e) in
-        lt-ltb table_limit (length bs) (subst (λ (x : List Block). table_limit < length x) same p.1.1);
-  }
+        lt-ltb table_limit (length bs) (subst (λ (x : List Block). table_limit < length x) same p.1.1),
+  )
 
   pub open_refused_law : RefusedExactly (open_refused f start) (opened f start w).reply
   unfolding opened
   open_refused_law =
       tested_lent (ltb file_limit (length f)) 7 0 w _
-      (tested (ltb file_limit (length f)) 7 0 _ (tests_less file_limit (length f))
+      (tested (ltb file_limit (length f)) 7 0 _ (Decides-ltb file_limit (length f))
       (going_on_lent (chain_of id_dt f start) _ w
       (going_on (chain_of id_dt f start) _ (chain_refused_law id_dt f start)
       (λ bs e. tested_lent (ltb table_limit (length bs)) 30 0 w _ (last_tested _ 30 0 tt (tests_many bs e))))))
 
 module _ (f : List ℕ) (a : ℕ) (w : List ℕ) where
-  tests_full : Tests (table_limit ≤ count_of w) (leb table_limit (count_of w))
-  tests_full = record { holds = leb-true table_limit (count_of w); shows = le-leb table_limit (count_of w) }
+  tests_full : Decides (leb table_limit (count_of w)) (table_limit ≤ count_of w)
+  tests_full = (leb-true table_limit (count_of w), le-leb table_limit (count_of w))
 
   pub extend_refused_law : RefusedExactly (extend_refused f a w) (extended f a w).reply
   unfolding extended
   extend_refused_law =
       tested_lent (ltb file_limit (length f)) 7 0 w _
-      (tested (ltb file_limit (length f)) 7 0 _ (tests_less file_limit (length f))
+      (tested (ltb file_limit (length f)) 7 0 _ (Decides-ltb file_limit (length f))
       (tested_lent (not (sound f w)) 32 0 w _
-      (tested (not (sound f w)) 32 0 _ (tests_not (sound f w) (tests_right w f))
+      (tested (not (sound f w)) 32 0 _ (Decides-not (sound f w) (tests_right w f))
       (going_on_lent (block_at id_dt f a) _ w
       (going_on (block_at id_dt f a) _ (block_refused_law id_dt f a)
       (λ b e. tested_lent (leb table_limit (count_of w)) 30 0 w _ (last_tested _ 30 0 tt tests_full)))))))
@@ -66,8 +68,8 @@ pub shorten_refused_law : (w : List ℕ) → RefusedExactly (shorten_refused w) 
 unfolding shortened
 shorten_refused_law w =
     tested_lent (not (ordered w)) 32 0 w _
-    (tested (not (ordered w)) 32 0 _ (tests_not (ordered w) (tests_order w))
-    (tested_lent (eqb (count_of w) 0) 31 0 w _ (last_tested _ 31 0 tt (tests_equal (count_of w) 0))))
+    (tested (not (ordered w)) 32 0 _ (Decides-not (ordered w) (tests_order w))
+    (tested_lent (eqb (count_of w) 0) 31 0 w _ (last_tested _ 31 0 tt (Decides-eqb (count_of w) 0))))
 
 -- ---- a record
 
@@ -75,8 +77,8 @@ module _ (f w : List ℕ) (k size : ℕ) (out : List ℕ) where
   abbrev held : List ℕ
   held = joined f (blocks_in w)
 
-  tests_past : sound f w ≡ true → Tests (total_in w < k * size + size) (ltb (length held) (k * size + size))
-  tests_past s = subst (λ (n : ℕ). Tests (n < k * size + size) (ltb (length held) (k * size + size))) (data_long w f s) (tests_less (length held) (k * size + size))
+  tests_past : sound f w ≡ true → Decides (ltb (length held) (k * size + size)) (total_in w < k * size + size)
+  tests_past s = subst (λ (n : ℕ). Decides (ltb (length held) (k * size + size)) (n < k * size + size)) (data_long w f s) (Decides-ltb (length held) (k * size + size))
 
   pub table_record_refused_law : RefusedExactly (table_record_refused f w k size out) (table_fetched f w k size out).reply
   unfolding table_fetched record_of
@@ -84,9 +86,9 @@ module _ (f w : List ℕ) (k size : ℕ) (out : List ℕ) where
       tested_lent (bad_size size (length out)) 15 0 out _
       (tested (bad_size size (length out)) 15 0 _ (tests_size size (length out))
       (tested_lent (ltb file_limit (length f)) 7 0 out _
-      (tested (ltb file_limit (length f)) 7 0 _ (tests_less file_limit (length f))
+      (tested (ltb file_limit (length f)) 7 0 _ (Decides-ltb file_limit (length f))
       (tested_lent (not (sound f w)) 32 0 out _
-      (tested_else (not (sound f w)) 32 0 _ (tests_not (sound f w) (tests_right w f))
+      (tested_else (not (sound f w)) 32 0 _ (Decides-not (sound f w) (tests_right w f))
       (λ right. tested_lent (ltb (length held) (k * size + size)) 16 0 out _
       (last_tested _ 16 0 tt (tests_past (not-false (sound f w) right)))))))))
 
