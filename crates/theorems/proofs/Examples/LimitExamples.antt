@@ -16,7 +16,7 @@ abbrev empty_lists : List ℕ
 empty_lists = le 8 0 ++ list_bytes 48 [] 0 [] ++ list_bytes 0 [] 0 []
 
 -- the number of a refusal, and 0 for an answer
-abbrev refused_with : {A : Type 0} → Reply A → ℕ
+abbrev pub refused_with : {A : Type 0} → Reply A → ℕ
 refused_with (answer a) = 0
 refused_with (refusal n t) = n
 

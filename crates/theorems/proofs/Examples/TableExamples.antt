@@ -4,21 +4,18 @@ use mathlib.Core.Path.{◌≡◌, refl}
 use mathlib.Core.List.{List, [], ◌∷◌, map}
 use Prim.Native.Nat.{ℕ}
 use lib.ListN.{take}
-use Rattle.definitions.specs.Reply.{Reply, Outcome, answer, refusal}
+use Rattle.definitions.specs.Reply.{Outcome}
 use Rattle.definitions.specs.Bytes.{le_of, le, les}
 use Rattle.definitions.specs.Header.{header_of, header_bytes}
 use Rattle.definitions.specs.DataList.{list_of, links_of, rest_of, list_bytes}
 use Rattle.definitions.specs.Chain.{block_at, fragment_of, fragments, list_at, chained_at, lists, chain_of, total, joined, record_of}
 use Rattle.definitions.specs.Table.{begin_of, fragments_in, rising, ordered, in_file, sound, places_of, opened, with_block, extended, without_last, shortened, table_fetched}
 use Rattle.theorems.specs.Examples.{three_blocks}
+use Rattle.theorems.proofs.Examples.LimitExamples.{refused_with}
 
 -- a reply's number, 0 for an answer, and with it the first words, or bytes, that are left
-abbrev number : Reply (Unit {0}) → ℕ
-number (answer u) = 0
-number (refusal k t) = k
-
 abbrev shown : ℕ → Outcome (Unit {0}) → List ℕ
-shown n o = number o.reply ∷ take n o.buffer
+shown n o = refused_with o.reply ∷ take n o.buffer
 
 pub record Row : Type 0 where
   pub given : List ℕ
