@@ -85,10 +85,10 @@ use Rattle.fields.proofs.is_no_float_width.Kinds as no_float_width_kinds
 use Rattle.fields.proofs.is_no_float_width.Reads as no_float_width
 use Rattle.fields.proofs.find_field.Kinds as field_found_kinds
 use Rattle.fields.proofs.find_field.Reads as field_found
-use Rattle.fields.proofs.ends_outside.Kinds as field_outside_kinds
-use Rattle.fields.proofs.ends_outside.Reads as field_outside
-use Rattle.fields.proofs.bytes_needed.Kinds as field_needed_kinds
-use Rattle.fields.proofs.bytes_needed.Reads as field_needed
+use Rattle.fields.proofs.span.FieldStart.ends_outside.Kinds as field_outside_kinds
+use Rattle.fields.proofs.span.FieldStart.ends_outside.Reads as field_outside
+use Rattle.fields.proofs.span.FieldStart.bytes_needed.Kinds as field_needed_kinds
+use Rattle.fields.proofs.span.FieldStart.bytes_needed.Reads as field_needed
 use Rattle.fields.proofs.check_area.Kinds as area_kinds
 use Rattle.fields.proofs.check_area.Reads as area
 use Rattle.fields.proofs.check_bounded_validity.Kinds as bounded_validity_kinds
