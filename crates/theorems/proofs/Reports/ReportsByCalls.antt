@@ -14,7 +14,7 @@ use Rattle.fields.specs.declared.channel.Channel.{Channel}
 use Rattle.fields.specs.declared.group.Group.{Group}
 use Rattle.places.specs.declared.place.FileAddress.{FileAddress}
 use Rattle.report.specs.Meaning.{report_reply, reported_by}
-use Rattle.tally.specs.declared.report.Report.{Report}
+use Rattle.tally.specs.declared.report.Report.{Report as Line}
 use Rattle.mf4.specs.Clauses.{Slice, Room}
 use Rattle.theorems.specs.Clauses.{ReportsChannel}
 use Rattle.theorems.specs.Exactly.{Exactly}
@@ -37,7 +37,7 @@ use Rattle.theorems.proofs.Reports.ReportsOne.{report_one}
 use Rattle.theorems.proofs.Reports.TwoFilesReports.{report_in, report_of_joined}
 
 module _ (κs : Lfts 2) (file : Slice) (start : FileAddress) (size : ℕ) (group : Group) (channel : Channel) (out : Room) where
-  module _ (y : Result Report Refusal) (after : List ℕ) (p : ReportsChannel κs file start size group channel out y after) where
+  module _ (y : Result Line Refusal) (after : List ℕ) (p : ReportsChannel κs file start size group channel out y after) where
     pub channel_report_exactly : Exactly (Reportable file.now start.0 size (group_meant group) (channel_meant channel) out.now) (report_reply y)
     channel_report_exactly = exactly (of_outcome p.0) (reported_exactly file.now start.0 size (group_meant group) (channel_meant channel) out.now)
 
@@ -71,7 +71,7 @@ module _ (κs : Lfts 2) (file : Slice) (start : FileAddress) (size : ℕ) (group
 -- ---- two files
 
 module _ (κs : Lfts 2) (j : List ℕ) (size : ℕ) (group : Group) (channel : Channel) where
-  abbrev pub ReportSays : Slice → FileAddress → Room → Result Report Refusal → List ℕ → Type 0
+  abbrev pub ReportSays : Slice → FileAddress → Room → Result Line Refusal → List ℕ → Type 0
   ReportSays file start buffer = ReportsChannel κs file start size group channel buffer
 
   abbrev report_given : List ℕ → Outcome Report
