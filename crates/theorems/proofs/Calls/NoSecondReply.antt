@@ -35,6 +35,8 @@ use Rattle.refusals.proofs.Refusal.number.Kinds as refusal_number_kinds
 use Rattle.refusals.proofs.Refusal.number.Reads as refusal_number
 use Rattle.refusals.proofs.Refusal.told.Kinds as refusal_told_kinds
 use Rattle.refusals.proofs.Refusal.told.Reads as refusal_told
+use Rattle.words.proofs.swapped.Kinds as word_swapped_kinds
+use Rattle.words.proofs.swapped.Reads as word_swapped
 use Rattle.doubles.proofs.double_of.Kinds as double_unsigned_kinds
 use Rattle.doubles.proofs.double_of.Reads as double_unsigned
 use Rattle.doubles.proofs.double_of_sign.Kinds as double_by_sign_kinds
@@ -180,6 +182,9 @@ refusal_number_settled = settled (λ κs a y z b c p q. (p ∙ sym q, refl))
 
 pub refusal_told_settled : Settled 0 refusal_told_kinds.ps refusal_told_kinds.r refusal_told.Asked refusal_told.ensures refusal_told.Learnt
 refusal_told_settled = settled (λ κs a y z b c p q. (p ∙ sym q, refl))
+
+pub word_swapped_settled : Settled 0 word_swapped_kinds.ps word_swapped_kinds.r word_swapped.Asked word_swapped.ensures word_swapped.Learnt
+word_swapped_settled = settled (λ κs a y z b c p q. (p ∙ sym q, refl))
 
 pub double_unsigned_settled : Settled 0 double_unsigned_kinds.ps double_unsigned_kinds.r double_unsigned.Asked double_unsigned.ensures double_unsigned.Learnt
 double_unsigned_settled = settled (λ κs a y z b c p q. (p ∙ sym q, refl))
