@@ -8,7 +8,7 @@ use Rattle.definitions.specs.Reply.{Reply}
 use Rattle.definitions.specs.Report as defined
 use Rattle.refusals.specs.declared.Refusal.{Refusal}
 use Rattle.refusals.proofs.Back.{result_of, back}
-use Rattle.tally.specs.Meaning.{outermost_meant, report_meant}
+use Rattle.tally.specs.Meaning.{outermost_meant, sum_meant, report_meant}
 use Rattle.tally.specs.declared.report.Point.{Point}
 use Rattle.tally.specs.declared.report.Outermost.{Outermost}
 use Rattle.tally.specs.declared.report.Report.{Report}
@@ -51,7 +51,7 @@ line_back r = line_with r (outermost_back r.doubles) (high_of r.sum) (low_of r.s
 
 report_back : (y : Result Report Refusal) → InWords y → result_of line_back (report_reply y) ≡ y
 report_back (Ok r) h =
-    ap (λ (o : Option Outermost). Ok (line_with (report_meant r) o _ _)) (outermost_back_law r.doubles)
+    ap (λ (o : Option Outermost). Ok (line_with (report_meant r) o (high_of (sum_meant r.sum)) (low_of (sum_meant r.sum)))) (outermost_back_law r.doubles)
     ∙ ap₂ (λ (high : ℤ) (low : ℕ). Ok (line_with (report_meant r) r.doubles high low))
     (high_back r.sum.high r.sum.low (omega (arith, h))) (low_back r.sum.high r.sum.low (omega (arith, h)))
 report_back (Err why) h = ap Err (back why)
