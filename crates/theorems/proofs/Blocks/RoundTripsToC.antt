@@ -11,7 +11,7 @@ use Rattle.definitions.specs.DataType.{type_of, code_of}
 use Rattle.definitions.specs.ChannelBlock.{channel_written}
 use Rattle.definitions.specs.DataList.{DataList, Lengths, equal, variable, flags_for, rest_for, list_written}
 use Rattle.words.proofs.Numbers.{Bytes}
-use Rattle.block_replies.specs.Replies.{Returned, returned, returned_by, written_c, header_given, header_c, list_c}
+use Rattle.block_replies.specs.Replies.{returned, returned_by, written_c, header_given, header_c, list_c}
 use Rattle.block_replies.specs.Channels.{block_given, channel_c}
 use Rattle.block_replies.specs.declared.channel_block.Mf4ChannelBlock.{Mf4ChannelBlock}
 use Rattle.block_replies.specs.declared.channel_block.Mf4ChannelReply.{Mf4ChannelReply}

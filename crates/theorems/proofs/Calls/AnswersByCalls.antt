@@ -1,6 +1,6 @@
 -- When each call answers, exactly, and that a buffer of a known room always suffices for a text: about each call's own clause. Of
 -- payloads `PayloadsByCalls` has it, of a number that is written `WrittenValuesByCalls`.
-use mathlib.Core.Path.{◌≡◌, sym, ap, ◌∙◌}
+use mathlib.Core.Path.{◌≡◌, sym, ◌∙◌}
 use mathlib.Core.Bool.{Bool}
 use mathlib.Core.List.{List}
 use Prim.Native.Nat.{ℕ, ◌≤◌}
@@ -8,7 +8,7 @@ use native.Mathlib.Omega.{arith}
 use contract.Lifetimes.{Lfts}
 use lib.ListN.{length}
 use Rattle.std.specs.Prelude.{Result}
-use Rattle.definitions.specs.Reply.{Reply, Outcome, answer}
+use Rattle.definitions.specs.Reply.{Reply, answer}
 use Rattle.definitions.specs.Unicode.{TextWritten, text_of}
 use Rattle.definitions.specs.DataList.{equal, variable}
 use Rattle.refusals.specs.declared.Refusal.{Refusal}

@@ -1,7 +1,7 @@
 -- What each call that is lent a buffer leaves there: where it refuses, every byte; where it answers, every byte behind those that
 -- it reports. Each theorem is about the call's own clause. Of a fetched record's field `FetchEnds` has it, of payloads
 -- `PayloadsByCalls`, of a report `ReportsByCalls`, of a number that is written `WrittenValuesByCalls`.
-use mathlib.Core.Path.{◌≡◌, sym, ap, ◌∙◌, subst}
+use mathlib.Core.Path.{◌≡◌, sym, ◌∙◌, subst}
 use mathlib.Core.List.{List}
 use Prim.Native.Nat.{ℕ}
 use contract.Lifetimes.{Lfts}

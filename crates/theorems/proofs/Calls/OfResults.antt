@@ -3,7 +3,6 @@
 use mathlib.Core.Path.{◌≡◌, refl, sym, ap}
 use Prim.Native.Nat.{ℕ}
 use Rattle.std.specs.Prelude.{Result, Ok, Err}
-use Rattle.definitions.specs.Reply.{refusal}
 use Rattle.definitions.proofs.Replies.{not_answered}
 use Rattle.refusals.specs.Meaning.{refusal_number, told_of, replied}
 use Rattle.refusals.specs.declared.Refusal.{Refusal}

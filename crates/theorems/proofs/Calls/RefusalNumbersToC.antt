@@ -9,7 +9,7 @@ use Rattle.definitions.specs.Unicode.{Encoding}
 use Rattle.definitions.specs.DataList.{equal, variable}
 use Rattle.definitions.specs.Channel.{Channel, ValidValue}
 use Rattle.definitions.specs.Overlap.{Overlap, pair, none}
-use Rattle.block_replies.specs.Replies.{Returned, returned, returned_by, header_given, header_c, list_c, written_c, ReturnedBoth}
+use Rattle.block_replies.specs.Replies.{returned, returned_by, header_given, header_c, list_c, written_c, ReturnedBoth}
 use Rattle.replies.specs.Replies.{text_c, done_c}
 use Rattle.block_replies.specs.Channels.{block_given, channel_c, channel_given}
 use Rattle.replies.specs.Overlaps.{overlap_c}

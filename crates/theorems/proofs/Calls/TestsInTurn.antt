@@ -8,11 +8,11 @@ use Prim.Native.Nat.{ℕ, zero, suc, ◌+◌, ◌≤◌, ◌<◌}
 use native.Mathlib.Omega.{arith}
 use lib.Dec.{ltb, leb, eqb}
 use borrow.Author.Count.{below_more}
-use borrow.Author.Tests.{ltb-true, ltb-false, lt-ltb, le-ltb, leb-false, lt-leb, eqb-true, eq-eqb, eqb-false}
+use borrow.Author.Tests.{eqb-true, eqb-false}
 use Rattle.std.specs.Bool.{Decides}
 use Rattle.std.proofs.lemmas.Bool.Decides.{Decides-like, Decides-not, Decides-or, nat_tests}
 use Rattle.definitions.specs.Reply.{Reply, Outcome, answer, refusal, and_then, on_answer}
-use Rattle.definitions.proofs.Replies.{not_answered, both}
+use Rattle.definitions.proofs.Replies.{not_answered}
 use Rattle.theorems.specs.Exactly.{Exactly}
 use Rattle.theorems.specs.Causes.{Not}
 use Rattle.theorems.specs.Refused.{Cause, refused, Absent, ◌or_else◌, first_of, RefusedExactly, ToldExactly}

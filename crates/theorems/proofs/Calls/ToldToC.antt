@@ -17,7 +17,7 @@ use Rattle.definitions.specs.Bytes.{twos_complement, u64_at}
 use Rattle.definitions.specs.Unicode.{Encoding, text_written}
 use Rattle.definitions.specs.Header.{header_of, header_written}
 use Rattle.definitions.specs.DataType.{DataType, unsigned_integer, signed_integer, float, complex, string, byte_array, mime_sample, mime_stream, can_open_date, can_open_time, unknown, code_of, owns_code, kind_of}
-use Rattle.definitions.specs.Channel.{Channel, Group, Value, ValidValue, signed, decoded, start_of, span_of, number_in, is_number, is_integer, is_floating, value_by, value_of, valid_of, valid_value_of, bounded_valid_of, bounded_value_of}
+use Rattle.definitions.specs.Channel.{Channel, Group, ValidValue, signed, decoded, start_of, span_of, number_in, is_number, is_integer, is_floating, value_by, value_of, valid_value_of, bounded_valid_of, bounded_value_of}
 use Rattle.definitions.specs.ChannelBlock.{ChannelBlock, fields_at, described, channel_block_of, channel_written}
 use Rattle.definitions.specs.DataList.{list_of, list_written, equal, variable}
 use Rattle.definitions.specs.WrittenValue.{value_written}

@@ -1,14 +1,13 @@
 -- When each of 18 to 22 is given, and of 28 and 29, exactly: about each call's own clause.
-use mathlib.Core.Path.{◌≡◌, sym, ap, ◌∙◌, subst}
+use mathlib.Core.Path.{◌≡◌, sym, ◌∙◌, subst}
 use mathlib.Core.Bool.{Bool}
 use mathlib.Core.List.{List}
 use Prim.Native.Nat.{ℕ, ◌*◌}
 use contract.Lifetimes.{Lfts}
 use lib.ListN.{length}
 use Rattle.std.specs.Prelude.{Result}
-use Rattle.definitions.specs.Reply.{Reply, Outcome}
+use Rattle.definitions.specs.Reply.{Reply}
 use Rattle.definitions.specs.Bytes.{span}
-use Rattle.definitions.specs.Channel.{ValidValue}
 use Rattle.definitions.specs.Chain.{joined}
 use Rattle.refusals.specs.declared.Refusal.{Refusal}
 use Rattle.fields.specs.Meaning.{channel_meant, group_meant, value_reply, valid_value_reply, validity_reply}

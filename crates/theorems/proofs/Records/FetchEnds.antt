@@ -17,7 +17,6 @@ use Rattle.fields.specs.declared.group.Group.{Group as Grouped}
 use Rattle.fields.specs.declared.value.DecodedChannelValue.{DecodedChannelValue}
 use Rattle.places.specs.declared.place.FileAddress.{FileAddress}
 use Rattle.records.specs.Meaning.{value_fetched_by}
-use Rattle.block_replies.specs.Replies.{Returned}
 use Rattle.block_replies.specs.Channels.{channel_given}
 use Rattle.replies.specs.Values.{group_given}
 use Rattle.block_replies.specs.declared.channel.Mf4Channel.{Mf4Channel}

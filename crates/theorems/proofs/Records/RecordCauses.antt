@@ -46,8 +46,7 @@ tests_joined id f start P test t bs e = (
 
 pub tests_size : (size room : ℕ) → Decides (bad_size size room) (BadSize size room)
 tests_size size room =
-    let t = Decides-or (eqb size 0 || ltb record_limit size) (ltb room size) (Decides-or (eqb size 0) (ltb record_limit size) (Decides-eqb size 0) (Decides-ltb record_limit size)) (Decides-ltb room size) in
-    (
+    let t = Decides-or (eqb size 0 || ltb record_limit size) (ltb room size) (Decides-or (eqb size 0) (ltb record_limit size) (Decides-eqb size 0) (Decides-ltb record_limit size)) (Decides-ltb room size) in (
       λ h. ⊎_elim (⊎_elim inl (λ x. inr (inl x))) (λ x. inr (inr x)) (t.0 h),
       λ p. t.1 (⊎_elim (λ x. inl (inl x)) (⊎_elim (λ x. inl (inr x)) inr) p),
     )

@@ -16,7 +16,6 @@ use Rattle.fields.specs.declared.channel.Channel.{Channel as Description}
 use Rattle.fields.specs.declared.group.Group.{Group as Grouped}
 use Rattle.fields.specs.declared.value.DecodedChannelValue.{DecodedChannelValue}
 use Rattle.places.specs.declared.place.FileAddress.{FileAddress}
-use Rattle.block_replies.specs.Replies.{Returned}
 use Rattle.block_replies.specs.Channels.{channel_given}
 use Rattle.replies.specs.Values.{group_given, valid_value_c}
 use Rattle.block_replies.specs.declared.channel.Mf4Channel.{Mf4Channel}

@@ -1,11 +1,11 @@
 -- What every report that is made tells: the records that there are, each counted once, and so on.
-use mathlib.Core.Path.{◌≡◌, sym, ap, ◌∙◌, subst}
+use mathlib.Core.Path.{◌≡◌, sym, ◌∙◌, subst}
 use mathlib.Core.List.{List}
 use Prim.Native.Nat.{ℕ, ◌^◌, ◌<◌}
 use native.Mathlib.Nat.{div-le_self}
 use native.Mathlib.Omega.{arith}
 use lib.ListN.{length}
-use Rattle.definitions.specs.Reply.{Outcome, answer}
+use Rattle.definitions.specs.Reply.{answer}
 use Rattle.definitions.specs.Channel.{Channel, Group, area_of}
 use Rattle.definitions.specs.Chain.{id_dt, joined}
 use Rattle.definitions.specs.Report.{Report, first_records, record_count, readings, reported}

@@ -10,7 +10,6 @@ use Rattle.definitions.specs.Chain.{id_dt, chain_of}
 use Rattle.definitions.specs.Table.{opened, extended, shortened}
 use Rattle.refusals.specs.declared.Refusal.{Refusal}
 use Rattle.table.specs.Meaning.{change_reply}
-use Rattle.block_replies.specs.Replies.{Returned}
 use Rattle.replies.specs.declared.done.Mf4DoneReply.{Mf4DoneReply}
 use Rattle.replies.proofs.ToldToC.{done_again}
 use Rattle.mf4.specs.Clauses.{Slice, Room}

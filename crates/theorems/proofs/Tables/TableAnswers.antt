@@ -8,7 +8,7 @@ use native.Mathlib.Omega.{arith}
 use lib.ListN.{length}
 use lib.Dec.{ltb, leb, eqb}
 use borrow.Author.Tests.{le-ltb, lt-leb, leb-false, ltb-false, ne_eqb, eqb-false, not-false}
-use Rattle.definitions.specs.Reply.{Reply, Outcome, answer, refusal, on_answer}
+use Rattle.definitions.specs.Reply.{Reply, answer, refusal, on_answer}
 use Rattle.definitions.specs.Bytes.{span}
 use Rattle.definitions.specs.Channel.{Channel, Group, ValidValue, bounded_value_of}
 use Rattle.definitions.specs.Chain.{Block, id_dt, file_limit, joined, block_at}

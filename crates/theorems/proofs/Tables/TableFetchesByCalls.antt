@@ -5,8 +5,7 @@ use Prim.Native.Nat.{ℕ, ◌≤◌}
 use contract.Lifetimes.{Lfts}
 use lib.ListN.{length}
 use Rattle.std.specs.Prelude.{Result}
-use Rattle.definitions.specs.Reply.{Outcome, answer}
-use Rattle.definitions.specs.Channel.{ValidValue}
+use Rattle.definitions.specs.Reply.{answer}
 use Rattle.definitions.specs.Chain.{file_limit, joined}
 use Rattle.refusals.specs.declared.Refusal.{Refusal}
 use Rattle.fields.specs.Meaning.{channel_meant, group_meant}

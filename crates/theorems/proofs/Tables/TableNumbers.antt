@@ -1,6 +1,6 @@
 -- Which numbers the refusals of a table have: 30 to 32 and those of blocks, chains and records, and of a value through it also the
 -- field's; so a reply of 0 is an answer. About the definitions, and about the clauses of the calls; and what C is told.
-use mathlib.Core.Path.{◌≡◌, refl, sym, ap}
+use mathlib.Core.Path.{◌≡◌, refl, sym}
 use mathlib.Core.Logic.{◌⊎◌, inl, inr, ⊎_elim}
 use mathlib.Core.Bool.{true, not, ◌&&◌, true≢false}
 use mathlib.Core.List.{List}
@@ -9,8 +9,8 @@ use contract.Lifetimes.{Lfts}
 use lib.ListN.{length, take}
 use lib.Dec.{ltb, leb, eqb}
 use Rattle.std.specs.Prelude.{Result}
-use Rattle.definitions.specs.Reply.{Reply, Outcome, answer, refusal, and_then, on_answer}
-use Rattle.definitions.specs.Channel.{Channel, Group, bounded_value_of}
+use Rattle.definitions.specs.Reply.{Reply}
+use Rattle.definitions.specs.Channel.{Channel, Group}
 use Rattle.definitions.specs.Chain.{id_dt, file_limit, joined, block_at, chain_of, bad_size, record_of}
 use Rattle.definitions.specs.Table.{table_limit, count_of, blocks_in, ordered, sound, opened, extended, shortened, table_fetched, table_value_fetched}
 use Rattle.refusals.specs.declared.Refusal.{Refusal}
@@ -21,7 +21,6 @@ use Rattle.fields.specs.declared.value.DecodedChannelValue.{DecodedChannelValue}
 use Rattle.places.specs.declared.place.FileAddress.{FileAddress}
 use Rattle.records.specs.Meaning.{record_reply}
 use Rattle.table.specs.Meaning.{change_reply}
-use Rattle.block_replies.specs.Replies.{Returned}
 use Rattle.block_replies.specs.Channels.{channel_given}
 use Rattle.replies.specs.Replies.{done_c}
 use Rattle.replies.specs.Values.{group_given, valid_value_c}

@@ -5,7 +5,7 @@ use mathlib.Core.List.{List}
 use Prim.Native.Nat.{ℕ, ◌+◌, ◌*◌}
 use contract.Lifetimes.{Lfts}
 use Rattle.std.specs.Prelude.{Result, Ok}
-use Rattle.definitions.specs.Reply.{Reply, Outcome, answer}
+use Rattle.definitions.specs.Reply.{Reply, answer}
 use Rattle.definitions.specs.DataType.{kind_of, order_of}
 use Rattle.definitions.specs.Channel.{Value, variable_length, start_of, number_in, is_number, is_floating, value_of, double_in, record_double, valid_of, bounded_valid_of, bit_place}
 use Rattle.definitions.specs.Overlap.{share_a_bit}
