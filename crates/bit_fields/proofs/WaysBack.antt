@@ -34,13 +34,7 @@ pub low_cut : (offset x : ℕ) {r : ℕ} → r ≡ bits x 0 (64 - offset) → r 
 low_cut offset x e = e ∙ ap (λ (y : ℕ). y % 2 ^ (64 - offset)) (div-one x)
 
 module _ (o : Order) (s : List ℕ) (at offset count x : ℕ) where
-  -- the span's number read, x put into it, and the bytes stored
-  pub near : {word r : ℕ} {t : List ℕ} → word ≡ number_of o (span s at (bytes_for offset count)) → r ≡ with_bits word offset count x
-      → t ≡ sets s at (bytes_of o (bytes_for offset count) r) → t ≡ field_set o s at offset count x
-  near ew er et =
-      et ∙ ap (λ (y : ℕ). sets s at (bytes_of o (bytes_for offset count) y)) (er ∙ ap (λ (y : ℕ). with_bits y offset count x) ew)
-
-  -- what is stored then fits into the bytes
+  -- what is stored of the span's number with x put into it fits into the bytes
   pub near_below : {word r : ℕ} → Bytes s → at + bytes_for offset count ≤ length s → x < 2 ^ count → word ≡ number_of o (span s at (bytes_for offset count))
       → r ≡ with_bits word offset count x → r < 2 ^ (8 * bytes_for offset count)
   near_below {word} bs room fits ew er =

@@ -2,11 +2,6 @@
 use Rattle.bit_fields.proofs.Replaced.{machine}
 use Rattle.bit_fields.proofs.replace.with_bits.Goals as goal
 
-pub overflow_sub-result : goal.overflow_sub-result
-overflow_sub-result c =
-    let a = c.args in
-    (machine a.word a.offset a.count a.x c.requires.3 c.cut.ensures c.requires.2 c.ranges.word.fits).0
-
 pub overflow_add-result : goal.overflow_add-result
 overflow_add-result c =
     let a = c.args in
