@@ -15,23 +15,23 @@ use crate::alike::{decoding_code, placed_channel};
 use crate::near::{FieldWord, NumberForm, channel_word, number_form};
 use bit_fields::{Big, Little};
 use fields::{
-    Channel, DecodedChannelValue, DecodedValue, FieldStart, Form, Group, Number,
+    Channel, DecodedChannelValue, DecodedValue, FieldSpan, FieldStart, Form, Group, Number,
     check_bounded_validity, check_value_validity, content_at, find_field, form_of, number_at,
     number_value,
 };
 use refusals::Refusal;
 
-fn value_at(record: &[u8], at: usize, size: usize, form: Form, channel: Channel) -> DecodedValue
-    requires { Sound (form_kind form) «record».now at size (channel_meant channel) }
-    ensures { value_meant result ≡ form_value form «record».now at size (channel_meant channel) }
+fn value_at(record: &[u8], field: FieldSpan, form: Form, channel: Channel) -> DecodedValue
+    requires { Sound (form_kind form) «record».now field.at field.length (channel_meant channel) }
+    ensures { value_meant result ≡ form_value form «record».now field.at field.length (channel_meant channel) }
 {
     match form {
         Form::Number(number, big_endian) => {
             let offset = channel.bit_offset as u32;
-            let x = number_at(record, at, big_endian, offset, channel.bit_count);
+            let x = number_at(record, field.at, big_endian, offset, channel.bit_count);
             number_value(number, channel.bit_count, x)
         }
-        Form::Other(content) => content_at(record, at, size, content),
+        Form::Other(content) => content_at(record, field, content),
     }
 }
 
@@ -54,7 +54,7 @@ fn far_value(
         byte_offset,
     };
     let field = find_field(record, start, payload, form, channel)?;
-    Ok(value_at(record, field.at, field.length, form, channel))
+    Ok(value_at(record, field, form, channel))
 }
 
 // The value of any field, by the general way. A payload has no record id, and its field no offset.

@@ -7,43 +7,35 @@ ghost use Rattle.encodings.specs.Meaning.{encoding_of};
 ghost use Rattle.fields.specs.Meaning.{value_meant};
 ghost use Rattle.fields.specs.Form.{content_value};
 
+use crate::field::FieldSpan;
 use crate::form::Content;
 use crate::value::DecodedValue;
 use encodings::{Encoding, text_end};
 
 // A text ends where it stops.
-fn text_at(record: &[u8], at: usize, size: usize, encoding: Encoding) -> DecodedValue
-    requires { at + size ≤ length «record».now }
-    ensures { value_meant result ≡ text at (length (stopped (encoding_of encoding) (span «record».now at size))) }
+fn text_at(record: &[u8], field: FieldSpan, encoding: Encoding) -> DecodedValue
+    requires { field.at + field.length ≤ length «record».now }
+    ensures { value_meant result ≡ text field.at (length (stopped (encoding_of encoding) (span «record».now field.at field.length))) }
 {
-    let end = at + size;
-    let stop = text_end(encoding, &record[at..end]);
+    let end = field.at + field.length;
+    let stop = text_end(encoding, &record[field.at..end]);
     DecodedValue::String {
-        at: at as u64,
+        at: field.at as u64,
         length: stop as u64,
     }
 }
 
-pub fn content_at(record: &[u8], at: usize, size: usize, content: Content) -> DecodedValue
-    requires { at + size ≤ length «record».now }
-    ensures { value_meant result ≡ content_value content «record».now at size }
+pub fn content_at(record: &[u8], field: FieldSpan, content: Content) -> DecodedValue
+    requires { field.at + field.length ≤ length «record».now }
+    ensures { value_meant result ≡ content_value content «record».now field.at field.length }
 {
-    let place = at as u64;
-    let bytes = size as u64;
+    let at = field.at as u64;
+    let length = field.length as u64;
     match content {
-        Content::Text(encoding) => text_at(record, at, size, encoding),
-        Content::ByteArray => DecodedValue::ByteArray {
-            at: place,
-            length: bytes,
-        },
-        Content::MimeSample => DecodedValue::MimeSample {
-            at: place,
-            length: bytes,
-        },
-        Content::MimeStream => DecodedValue::MimeStream {
-            at: place,
-            length: bytes,
-        },
+        Content::Text(encoding) => text_at(record, field, encoding),
+        Content::ByteArray => DecodedValue::ByteArray { at, length },
+        Content::MimeSample => DecodedValue::MimeSample { at, length },
+        Content::MimeStream => DecodedValue::MimeStream { at, length },
         Content::Undecoded => DecodedValue::Unknown,
     }
 }
