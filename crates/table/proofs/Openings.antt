@@ -6,7 +6,7 @@ use Prim.Native.Nat.{ℕ, ◌+◌, ◌≤◌, ◌<◌}
 use native.Mathlib.Omega.{arith}
 use lib.ListN.{length, replicate, length-append}
 use borrow.Author.Tests.{lt-ltb, le-ltb}
-use Rattle.definitions.specs.Chain.{Block, file_limit, id_dt, total}
+use Rattle.definitions.specs.Chain.{Block, file_limit, total}
 use Rattle.definitions.specs.Table.{table_limit, count_of, total_in, places_of, table_of, with_block, opened}
 use Rattle.definitions.proofs.Replies.{not_answered}
 use Rattle.refusals.specs.declared.Refusal.{Refusal}
@@ -44,8 +44,8 @@ module _ (most : ℕ) (bs : List Block) (w v : List ℕ) (fill : Filled most bs 
 
 -- ---- the second walk meets what the first did
 
-module _ (f : List ℕ) (start : ℕ) (w v : List ℕ) (n : ℕ) (h : Lists (Ok n) id_dt f start 0 w v) where
-  pub open_done : length f ≤ file_limit → (k : ℕ) (e x : List ℕ) → n ≤ table_limit → Lists (Ok k) id_dt f start table_limit e x → changed_by (Ok tt) x ≡ opened f start w
+module _ (f : List ℕ) (start : ℕ) (w v : List ℕ) (n : ℕ) (h : Lists (Ok n) f start 0 w v) where
+  pub open_done : length f ≤ file_limit → (k : ℕ) (e x : List ℕ) → n ≤ table_limit → Lists (Ok k) f start table_limit e x → changed_by (Ok tt) x ≡ opened f start w
   unfolding opened
   open_done l k e x m g =
       let few : length h.0 ≤ table_limit = omega (arith, h.2) in
@@ -54,5 +54,5 @@ module _ (f : List ℕ) (start : ℕ) (w v : List ℕ) (n : ℕ) (h : Lists (Ok 
       ap (changed_by (Ok tt)) again ∙ sym (rw (le-ltb _ _ l, h.1, le-ltb _ _ few) refl)
 
   -- so it is not refused
-  pub open_again : {A : Type 0} (r : Refusal) (e x : List ℕ) → Lists (Err r) id_dt f start table_limit e x → A
+  pub open_again : {A : Type 0} (r : Refusal) (e x : List ℕ) → Lists (Err r) f start table_limit e x → A
   open_again r e x g = not_answered h.0 _ _ (sym g.0 ∙ h.1)

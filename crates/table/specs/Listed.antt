@@ -1,7 +1,7 @@
 -- The first fragments of a chain, listed in a table.
 use Rattle.std.specs.Prelude.{◌≡◌, ℕ, ◌+◌, ◌≤◌, ◌<◌, List, length, ltb, if◌then◌else◌, Result, Ok, Err}
 use Rattle.definitions.specs.Reply.{answer}
-use Rattle.definitions.specs.Chain.{Block, chain_of}
+use Rattle.definitions.specs.Chain.{Block, id_dt, chain_of}
 use Rattle.definitions.specs.Table.{table_limit, count_of, total_in, with_block, table_of}
 use Rattle.refusals.specs.Meaning.{refused}
 use Rattle.refusals.specs.declared.Refusal.{Refusal}
@@ -19,7 +19,7 @@ pub record Filled (most : ℕ) (bs : List Block) (w v : List ℕ) : Type 0 where
   pub none : most ≡ 0 → v ≡ w
   pub all : 0 < most → length bs ≤ most → v ≡ table_of bs
 
--- what a walk along a chain says of it, and what it leaves of a table; id is that of its data blocks
-abbrev pub Lists : Result ℕ Refusal → List ℕ → List ℕ → ℕ → ℕ → List ℕ → List ℕ → Type 0
-Lists (Ok n) id f start most w v = (bs : List Block) × (chain_of id f start ≡ answer bs) × (length bs ≡ n) × Filled most bs w v
-Lists (Err r) id f start most w v = (chain_of id f start ≡ refused r) × (most ≡ 0 → v ≡ w)
+-- what a walk along a chain says of it, and what it leaves of a table
+abbrev pub Lists : Result ℕ Refusal → List ℕ → ℕ → ℕ → List ℕ → List ℕ → Type 0
+Lists (Ok n) f start most w v = (bs : List Block) × (chain_of id_dt f start ≡ answer bs) × (length bs ≡ n) × Filled most bs w v
+Lists (Err r) f start most w v = (chain_of id_dt f start ≡ refused r) × (most ≡ 0 → v ≡ w)

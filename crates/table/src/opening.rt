@@ -23,18 +23,12 @@ fn add_within(table: &mut Table, index: u64, most: u64, block: DataBlock)
 
 // Walks all of a chain, and lists the first `most` of its fragments: none, or as many as an empty table holds. Tells how many
 // there are in all.
-fn list_chain(
-    file: &[u8],
-    start: FileAddress,
-    id: &[u8; 4],
-    most: u64,
-    table: &mut Table,
-) -> Result<u64, Refusal>
+fn list_chain(file: &[u8], start: FileAddress, most: u64, table: &mut Table) -> Result<u64, Refusal>
     requires { (length file.now ≤ file_limit) × (most ≤ table_limit) × (0 < most → table.old ≡ table_of []) }
-    ensures { Lists result id.now file.now start.0 most table.old table.new }
+    ensures { Lists result file.now start.0 most table.old table.new }
 {
     let mut place = Place::start(start);
-    while let Some(fragment) = next_fragment(file, &mut place, id)? {
+    while let Some(fragment) = next_fragment(file, &mut place, &DataBlock::ID)? {
         let before = fragment.before;
         add_within(table, before.fragments + before.index, most, fragment.block);
     }
@@ -60,11 +54,11 @@ pub fn open_table(file: &[u8], start: FileAddress, table: &mut Table) -> Result<
     if FILE_LIMIT < file.len() {
         return Err(Refusal::FileTooLong);
     }
-    let fragments = list_chain(file, start, &DataBlock::ID, 0, table)?;
+    let fragments = list_chain(file, start, 0, table)?;
     if TABLE_LIMIT < fragments {
         return Err(Refusal::TableFull);
     }
     clear(table);
-    list_chain(file, start, &DataBlock::ID, TABLE_LIMIT, table)?;
+    list_chain(file, start, TABLE_LIMIT, table)?;
     Ok(())
 }

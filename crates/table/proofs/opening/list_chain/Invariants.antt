@@ -1,13 +1,13 @@
 -- The loop keeps where it stands in the chain, and the table that lists the first fragments.
 use mathlib.Core.List.{List}
-use Rattle.definitions.specs.Chain.{Block}
+use Rattle.definitions.specs.Chain.{Block, id_dt}
 use Rattle.chain.specs.Walk.{At, turns_left}
 use Rattle.table.specs.Listed.{Filled}
 use Rattle.table.proofs.opening.list_chain.Given as goal
 
 abbrev pub invariant-loop-fragment : goal.invariant-loop-fragment
 invariant-loop-fragment l =
-    (before : List Block) × At l.id l.file l.fn.start.0 l.place before × Filled l.most before l.initial.table l.table
+    (before : List Block) × At id_dt l.file l.fn.start.0 l.place before × Filled l.most before l.initial.table l.table
 
 abbrev pub decreases-loop-fragment : goal.decreases-loop-fragment
 decreases-loop-fragment l = turns_left l.place
