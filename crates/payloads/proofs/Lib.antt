@@ -1,5 +1,4 @@
 -- The laws of payloads, in the order of the ways through a call.
 pub mod Found
 pub mod Stored
-pub mod Fetches
 pub mod Back

@@ -39,6 +39,7 @@ fn payload_value(
 }
 
 // A record, and a payload, that is fetched stays in its buffer, whatever is refused then.
+#[tactic(auto, unfolding(definitions::specs::Payload::payload_fetched))]
 pub fn read_payload(
     file: &[u8],
     start: FileAddress,
