@@ -84,6 +84,7 @@ fn find_number(
 }
 
 // What is no number has only to end inside the slice.
+#[tactic(auto, using(crate::proofs::Fields::content_outside, crate::proofs::Fields::content_there), unfolding(definitions::specs::Channel::value_by))]
 fn find_content(
     record: &[u8],
     start: FieldStart,
