@@ -1,13 +1,8 @@
 -- The record that is lent stands for all of its length.
 use native.Mathlib.Omega.{arith}
 use Rattle.fields.specs.Meaning.{channel_meant, group_meant}
-use Rattle.slots.proofs.Numbers.{not_other}
 use Rattle.slots.proofs.OneSize.{none_has, invalid_in_all, flag_asked, slot_found}
 use Rattle.slots.proofs.slot.find_slot.Goals as goal
-
-pub returns-in_default : goal.returns-in_default
-returns-in_default c =
-    absurd (not_other (channel_meant c.args.channel) c.form_of-form.ensures c.in_default.is c.requires.0)
 
 pub returns-in_default-find_field : goal.returns-in_default-find_field
 returns-in_default-find_field c =
