@@ -36,6 +36,7 @@ fn value_at(record: &[u8], field: FieldSpan, form: Form, channel: Channel) -> De
 }
 
 // The value of the field at a place
+#[tactic(auto, using(crate::proofs::LaidAnew::value_placed, fields::proofs::Values::valued))]
 fn far_value(
     record: &[u8],
     skipped: usize,
