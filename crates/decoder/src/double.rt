@@ -27,8 +27,8 @@ fn number_double(number: Number, bit_count: u32, x: u64) -> u64
     }
 }
 
-// The double of any field in the record itself, kept apart so that its registers stay off the short way. The record lies in memory for it too, so it is lent as a part of itself, which is
-// laid down on this way alone.
+// The double of any field in the record itself, kept apart so that its registers stay off the short way. The record lies in memory
+// for it too, so it is lent as a part of itself, which is laid down on this way alone.
 #[inline(never)]
 fn far_double(
     record: &[u8],
