@@ -38,7 +38,8 @@ fn payload_value(
     })
 }
 
-// A record, and a payload, that is fetched stays in its buffer, whatever is refused then.
+// A record, and a payload, that is fetched stays in its buffer, whatever is refused then. What is asked for stands apart, as C
+// gives it.
 #[tactic(auto, unfolding(definitions::specs::Payload::payload_fetched))]
 pub fn read_payload(
     file: &[u8],

@@ -35,6 +35,7 @@ fn window(file: &[u8], table: &Table, from: DataPosition, out: &mut [u8])
     }
 }
 
+// The number and the size stand apart, as C gives them.
 #[tactic(auto, using(crate::proofs::Ordered::with_file), unfolding(definitions::specs::Table::table_fetched, definitions::specs::Chain::record_of))]
 pub fn fetch_record(
     file: &[u8],

@@ -6,7 +6,8 @@ ghost use Rattle.table.specs.Holds.{Places};
 
 use chain::{DataBlock, DataPosition, FileAddress};
 
-// How many fragments, the length of their data, then an address and a position in each of 512 places
+// How many fragments, the length of their data, then an address and a position in each of 512 places. An array, and no struct,
+// since C lends it.
 pub type Table = [u64; 1026];
 
 // the fragments of a table

@@ -9,7 +9,7 @@ use crate::layout::Table;
 use decoder::{Channel, DecodedChannelValue, Group, any_bounded_value};
 use refusals::Refusal;
 
-// A field that is refused leaves the record in the buffer.
+// A field that is refused leaves the record in the buffer. What is asked for stands apart, as C gives it.
 pub fn fetch_value(
     file: &[u8],
     table: &Table,
