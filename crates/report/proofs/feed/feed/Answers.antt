@@ -1,24 +1,14 @@
 -- What waits and the part behind it are read as one.
 use native.Mathlib.Omega.{arith}
 use Rattle.report.specs.Visits.{visited}
-use Rattle.report.proofs.Seen.{seen_one, none_waits, more_fed, cut_fed, rest_is}
+use Rattle.report.proofs.Seen.{seen_one, more_fed, cut_fed, rest_is}
 use Rattle.report.proofs.Visiting.{fewer_left}
 use Rattle.report.proofs.feed.feed.Goals as goal
-
-pub returns-then-fill-eq0 : goal.returns-then-fill-eq0
-returns-then-fill-eq0 c =
-    let a = c.args in
-    (none_waits (visited a.layout.slot) a.layout.size a.before _ a.buffer.now _ a.part.now a.fill _ c.if-fill-eq0.true c.feed_whole.ensures.0, c.feed_whole.ensures.1)
 
 pub returns-then-part-missing : goal.returns-then-part-missing
 returns-then-part-missing c =
     let a = c.args in
     (more_fed (visited a.layout.slot) a.layout.size a.before a.buffer.now _ a.part.now a.fill c.requires.2 c.requires.3 c.if-part-missing.true c.copy_over.ensures, c.requires.0)
-
-pub run-tally-requires : goal.run-tally-requires
-run-tally-requires c =
-    let a = c.args in
-    (c.requires.0, omega (arith, c.requires.1), omega (arith, c.copy_over.auto, c.requires.2))
 
 pub feed_whole-requires-2 : goal.feed_whole-requires-2
 feed_whole-requires-2 c =

@@ -53,16 +53,7 @@ returns-in_err-check_area c =
       tt,
     )
 
-pub nonzero_div-asked : goal.nonzero_div-asked
-nonzero_div-asked c = (size_good c.args.record_size (length c.args.buffer.now) (sym c.bad_size.ensures ∙ c.if-bad_size.false)).0
-
-pub slice_bounds-line_and_last-end : goal.slice_bounds-line_and_last-end
-slice_bounds-line_and_last-end c = (size_good c.args.record_size (length c.args.buffer.now) (sym c.bad_size.ensures ∙ c.if-bad_size.false)).1
-
 -- the front of the buffer is as long as a record
-pub slice_bounds-line_and_last-end-2 : goal.slice_bounds-line_and_last-end-2
-slice_bounds-line_and_last-end-2 c = sym (length-take-le _ _ (size_good c.args.record_size (length c.args.buffer.now) (sym c.bad_size.ensures ∙ c.if-bad_size.false)).1)
-
 -- the walk begins where the data does, with so many whole records; 28 and 29 are passed
 pub line_and_last-report-requires : goal.line_and_last-report-requires
 unfolding data_length

@@ -1,22 +1,9 @@
 -- After each record the tally is what the records so far make of the first one.
-use mathlib.Core.Path.{sym, subst, ◌∙◌}
-use Prim.Native.Nat.{ℕ}
+use mathlib.Core.Path.{sym, ◌∙◌}
 use native.Mathlib.Omega.{arith}
-use Rattle.slots.specs.Slots.{Within, ShiftTold}
 use Rattle.report.proofs.Rows.{row_valid, row_invalid}
 use Rattle.report.proofs.in_place.Rows.row.Goals as goal
 use Rattle.report.proofs.in_place.Rows.row.Goals.{then-is_valid_by+in-Some, else-is_valid_by}
-
-pub word_at-word-requires : goal.word_at-word-requires
-word_at-word-requires g c =
-    let a = c.args in
-    let rows = a.self.now in
-    let long = sym c.record-record.ensures.1 in (
-      subst (λ (m : ℕ). Within m rows.layout.slot) long rows.layout.within,
-      subst (λ (m : ℕ). ShiftTold m rows.layout.slot a.at a.shift) long c.requires.0.place,
-      c.requires.2,
-      c.requires.3,
-    )
 
 -- whichever way, the tally has one record more
 pub loop-i-preserved : goal.loop-i-preserved

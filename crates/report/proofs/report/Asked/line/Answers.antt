@@ -8,13 +8,6 @@ use Rattle.report.proofs.Walking.{joined_bytes}
 use Rattle.report.proofs.Lines.{readings_length, all_line, invalid_line, valueless_line, n_inside}
 use Rattle.report.proofs.report.Asked.line.Goals as goal
 
-pub invariant_of-layout : goal.invariant_of-layout
-invariant_of-layout c =
-    let a = c.args in
-    record {
-      within = (subst (SlotTold (length a.buffer.now) (group_meant a.self.group) (channel_meant a.self.channel)) c.in-Found.is c.find_slot.ensures).within;
-    }
-
 pub returns-in-NoValue : goal.returns-in-NoValue
 returns-in-NoValue c = λ w en.
     let a = c.args in
