@@ -13,10 +13,7 @@ use Rattle.definitions.specs.Ieee754.{unit, double_of}
 use Rattle.doubles.proofs.Pattern.{size_is}
 use Rattle.doubles.proofs.Whole.{dropped, kept, of_positive, pattern_kept}
 
-module _ (n h : ℕ) (small : h < 64) (lo : 2 ^ h ≤ n) (next : n < 2 * 2 ^ h) where
-  hi : n < 2 ^ (h + 1)
-  hi = let e : 2 ^ (h + 1) ≡ 2 ^ h * 2 = pow-add 2 h 1 in omega arith
-
+module _ (n h : ℕ) (small : h < 64) (lo : 2 ^ h ≤ n) (hi : n < 2 ^ (h + 1)) where
   aligned_ge : 2 ^ 63 ≤ n * 2 ^ (63 - h)
   aligned_ge =
       let all : 63 ≡ h + (63 - h) = omega arith in

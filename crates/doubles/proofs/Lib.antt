@@ -4,7 +4,6 @@ pub mod Whole
 pub mod Ties
 pub mod Aligned
 pub mod SignBit
-pub mod Negative
 pub mod Nan
 pub mod Widened
 pub mod WidenedCases

@@ -11,6 +11,14 @@ const LAST_KEPT: u64 = 1 << (64 - 53);
 
 const HALF: u64 = LAST_KEPT / 2;
 
+// The place of the highest set bit, counted from 0
+fn highest_set_bit(n: u64) -> u32
+    requires { 0 < n }
+    ensures { (result < 64) × (2 ^ result ≤ n) × (n < 2 ^ (result + 1)) }
+{
+    63 - n.leading_zeros()
+}
+
 // What is kept, to the nearest: over half goes up, under half stays, and half goes to the even one.
 fn rounded(kept: u64, dropped: u64) -> u64
     requires { kept < 2 ^ 53 }
@@ -33,8 +41,8 @@ pub fn double_of(n: u64) -> u64
     if n == 0 {
         return 0;
     }
-    let highest = n.ilog2();
-    // With the highest set bit on top every number is split at one place. One of up to 53 bits drops only zeros there: it is exact.
+    let highest = highest_set_bit(n);
+    // With that bit on top every number is split at one place. One of up to 53 bits drops only zeros there: it is exact.
     let aligned = n << (63 - highest);
     let kept = aligned / LAST_KEPT;
     let dropped = aligned % LAST_KEPT;

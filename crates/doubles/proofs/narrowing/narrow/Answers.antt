@@ -1,7 +1,7 @@
 -- `narrowing::narrow` meets its contract: the only pattern that can widen to the double's is tried.
 use mathlib.Core.Path.{sym, ap, ◌∙◌, subst}
 use Prim.Native.Nat.{ℕ}
-use lib.Bits.{and_mask, mask_lt}
+use lib.Bits.{and_mask}
 use Rattle.definitions.specs.Ieee754.{narrowed, narrows}
 use Rattle.definitions.specs.WrittenValue.{fitting}
 use Rattle.doubles.specs.Meaning.{OnlyOne}
@@ -10,9 +10,6 @@ use Rattle.doubles.proofs.narrowing.narrow.Goals as goal
 
 pub returns-then-bits-eq-NAN : goal.returns-then-bits-eq-NAN
 returns-then-bits-eq-NAN c = nan_way ∙ ap (λ (b : ℕ). fitting (narrows b) (narrowed b)) (sym c.if-bits-eq-NAN.true)
-
-pub narrow_magnitude-magnitude-requires : goal.narrow_magnitude-magnitude-requires
-narrow_magnitude-magnitude-requires c = mask_lt c.args.bits 63
 
 pub returns-then-widen-bits : goal.returns-then-widen-bits
 returns-then-widen-bits c =
