@@ -43,17 +43,12 @@ pub struct FieldStart {
 
 impl FieldStart {
     // How many bytes of a slice stand from there on, where it is inside or at the end
-    pub(crate) fn left_in(self, length: usize) -> Option<usize>
+    fn left_in(self, length: usize) -> Option<usize>
         ensures { SomeIff result (self.skipped + self.byte_offset ≤ length) (length - (self.skipped + self.byte_offset)) }
     {
-        if length < self.skipped {
-            return None;
-        }
-        let left = length - self.skipped;
-        if left < self.byte_offset {
-            return None;
-        }
-        Some(left - self.byte_offset)
+        length
+            .checked_sub(self.skipped)?
+            .checked_sub(self.byte_offset)
     }
 
     pub fn ends_outside(self, length: usize, span: usize) -> bool
