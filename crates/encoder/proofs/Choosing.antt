@@ -135,7 +135,10 @@ module _ (s : List ℕ) (id_size : ℕ) (c : Channel) where
         let holds : is_readable (length s) id_size number c ≡ true = rw (t.0, t.1, t.2, t.4, end) in
         absurd (true≢false (sym holds ∙ e))
 
-    module _ (valued : Valued k (value_of s id_size c) s at (bit_span c) c) (v : Given) where
+    module _ (readable : is_readable (length s) id_size number c ≡ true) (v : Given) where
+      valued : Valued k (value_of s id_size c) s at (bit_span c) c
+      valued = reads readable
+
       bounds : FieldBounds s at c.bit_offset c.bit_count
       bounds = bounded number s at (bit_span c) c valued.sound
 

@@ -4,7 +4,7 @@ use mathlib.Core.Path.{sym, ◌∙◌}
 use native.Mathlib.Omega.{arith}
 use Rattle.fields.specs.Meaning.{channel_meant}
 use Rattle.encoder.specs.Meaning.{given_meant}
-use Rattle.encoder.proofs.Choosing.{payload_takes_none, other_takes_none, in_bounds, reads, reads_none, bits_refused, bits_chosen}
+use Rattle.encoder.proofs.Choosing.{payload_takes_none, other_takes_none, in_bounds, reads_none, bits_refused, bits_chosen}
 use borrow.Author.Rules.{rules}
 use Rattle.encoder.proofs.encode.choose_field.Goals as goal
 
@@ -36,12 +36,9 @@ returns-in_err-bits c =
     let n = c.in-Number in
     let fixed = sym c.is_variable_length.ensures ∙ c.if-is_variable_length.false in
     let form = sym c.form_of-form.ensures ∙ n.is in
-    let standing =
-    reads a.«record».now a.record_id_size (channel_meant a.channel) n.number n.big_endian fixed form
-    (sym c.is_readable.ensures ∙ c.if-not-is_readable.false) in
     let p = err_from_is_err_and c.from_residual.result c.from_residual.ensures.1 in
     rw (p.1, p.2)
-    (bits_refused a.«record».now a.record_id_size (channel_meant a.channel) n.number n.big_endian fixed form standing (given_meant a.given) _ c.in_err-bits.ensures)
+    (bits_refused a.«record».now a.record_id_size (channel_meant a.channel) n.number n.big_endian fixed form (sym c.is_readable.ensures ∙ c.if-not-is_readable.false) (given_meant a.given) _ c.in_err-bits.ensures)
 
 pub overflow_add-result : goal.overflow_add-result
 overflow_add-result c =
@@ -59,7 +56,4 @@ returns c =
     let n = c.in-Number in
     let fixed = sym c.is_variable_length.ensures ∙ c.if-is_variable_length.false in
     let form = sym c.form_of-form.ensures ∙ n.is in
-    let standing =
-    reads a.«record».now a.record_id_size (channel_meant a.channel) n.number n.big_endian fixed form
-    (sym c.is_readable.ensures ∙ c.if-not-is_readable.false) in
-    bits_chosen a.«record».now a.record_id_size (channel_meant a.channel) n.number n.big_endian fixed form standing (given_meant a.given) _ c.in_ok-bits.ensures (search rules)
+    bits_chosen a.«record».now a.record_id_size (channel_meant a.channel) n.number n.big_endian fixed form (sym c.is_readable.ensures ∙ c.if-not-is_readable.false) (given_meant a.given) _ c.in_ok-bits.ensures (search rules)
