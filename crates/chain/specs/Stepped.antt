@@ -10,13 +10,6 @@ use Rattle.places.specs.declared.place.Place.{Place}
 use Rattle.chain.specs.Walk.{At, turns_left}
 use Rattle.chain.specs.declared.walk.Fragment.{Fragment}
 
--- from p over the lists that end before the next fragment, to the place before it; behind the last one the chain is done
-abbrev pub Reached : List ℕ → List ℕ → ℕ → Place → List Block → Result (Option Place) Refusal → Type 0
-Reached id f start p before (Err r) = chain_of id f start ≡ refused r
-Reached id f start p before (Ok None) = chain_of id f start ≡ answer before
-Reached id f start p before (Ok (Some q)) =
-    At id f start q before × (q.index < q.list.links) × (turns_left q ≤ turns_left p)
-
 -- a fragment of the chain: the walk stood before it, it lies in the file, and the walk is behind it at q
 pub record Met (id f : List ℕ) (start : ℕ) (p : Place) (before : List Block) (x : Fragment) (q : Place) : Type 0 where
   pub here : At id f start x.before before

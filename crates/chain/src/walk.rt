@@ -2,7 +2,7 @@
 ghost use Rattle.std.specs.Prelude.{ℕ, List};
 ghost use Rattle.definitions.specs.Chain.{Block};
 ghost use Rattle.chain.specs.Walk.{At};
-ghost use Rattle.chain.specs.Stepped.{Reached, Stepped};
+ghost use Rattle.chain.specs.Stepped.{Stepped};
 
 use places::{DataBlock, Place};
 use refusals::Refusal;
@@ -14,35 +14,6 @@ pub struct Fragment {
     // the place before it
     pub before: Place,
     pub block: DataBlock,
-}
-
-// Behind a list's last fragment: over the lists that end there, to the place before the next fragment; none behind the last one.
-// Never inlined, so that a reader's loop keeps its place in registers from fragment to fragment.
-#[inline(never)]
-fn over_lists(file: &[u8], from: Place) -> Result<Option<Place>, Refusal>
-    requires { (id : List ℕ) × (start : ℕ) × (before : List Block) × At id file.now start from before }
-    ensures { (id : List ℕ) (start : ℕ) (before : List Block) → At id file.now start from before → Reached id file.now start from before result }
-{
-    let mut place = from;
-    while place.list.links <= place.index {
-        match next_list(file, place)? {
-            Next::List(entered) => place = entered,
-            Next::End(_) => return Ok(None),
-        }
-    }
-    Ok(Some(place))
-}
-
-// The place before the next fragment, which nearly always is in the same list
-#[inline(always)]
-fn next_place(file: &[u8], place: Place) -> Result<Option<Place>, Refusal>
-    requires { (id : List ℕ) × (start : ℕ) × (before : List Block) × At id file.now start place before }
-    ensures { (id : List ℕ) (start : ℕ) (before : List Block) → At id file.now start place before → Reached id file.now start place before result }
-{
-    if place.index < place.list.links {
-        return Ok(Some(place));
-    }
-    over_lists(file, place)
 }
 
 // The fragment behind the place, which then is behind that fragment; none behind the last one. The compiler puts it into every
@@ -59,9 +30,13 @@ pub fn next_fragment(
     requires { (start : ℕ) × (before : List Block) × At id.now file.now start place.old before }
     ensures { (start : ℕ) (before : List Block) → At id.now file.now start place.old before → Stepped id.now file.now start place.old before result place.new }
 {
-    let Some(before) = next_place(file, *place)? else {
-        return Ok(None);
-    };
+    while place.list.links <= place.index {
+        match next_list(file, *place)? {
+            Next::List(entered) => *place = entered,
+            Next::End(_) => return Ok(None),
+        }
+    }
+    let before = *place;
     let block = fragment_at(file, before, id)?;
     *place = before.behind(block.size);
     Ok(Some(Fragment { before, block }))

@@ -46,7 +46,9 @@ fn keeps_to(file: &[u8], earlier: OpenList, list: OpenList) -> bool
 }
 
 // The next list is read here, once, and its fragments then by index. Each list but the last declares what the first does, so
-// the list before stands for the first one, of which the place keeps nothing.
+// the list before stands for the first one, of which the place keeps nothing. A function apart: put into the readers' loops with
+// the step, it took four instructions more a fragment.
+#[inline(never)]
 #[tactic(auto, unfolding(crate::specs::Steps::next_of))]
 pub fn next_list(file: &[u8], place: Place) -> Result<Next, Refusal>
     requires { ListKnown file.now place }

@@ -3,12 +3,12 @@ use mathlib.Core.List.{List}
 use Prim.Native.Nat.{ℕ, ◌≤◌}
 use Rattle.definitions.specs.Chain.{Block}
 use Rattle.chain.specs.Walk.{At, turns_left}
-use Rattle.chain.proofs.walk.over_lists.Given as goal
+use Rattle.chain.proofs.walk.next_fragment.Given as goal
 
 abbrev pub invariant-loop-place : goal.invariant-loop-place
 invariant-loop-place l =
-    (id : List ℕ) (start : ℕ) (before : List Block) → At id l.file start l.fn.from before
-    → At id l.file start l.place before × (turns_left l.place ≤ turns_left l.fn.from)
+    (start : ℕ) (before : List Block) → At l.id l.file start l.initial.place before
+    → At l.id l.file start l.place before × (turns_left l.place ≤ turns_left l.initial.place)
 
 abbrev pub decreases-loop-place : goal.decreases-loop-place
 decreases-loop-place l = turns_left l.place
