@@ -3,7 +3,7 @@ use Rattle.std.specs.Prelude.{if◌then◌else◌}
 use mathlib.Core.Path.{◌≡◌, sym, ap, subst, ◌∙◌}
 use mathlib.Core.Bool.{Bool, true, false}
 use mathlib.Core.List.{List}
-use Prim.Native.Nat.{ℕ, ◌+◌, ◌-◌, ◌*◌, ◌^◌, ◌<◌}
+use Prim.Native.Nat.{ℕ, ◌+◌, ◌*◌, ◌^◌, ◌<◌}
 use native.Mathlib.Omega.{arith}
 use Rattle.definitions.specs.Bytes.{span}
 use Rattle.fields.specs.declared.form.Number.{Number}
@@ -12,8 +12,8 @@ use Rattle.tally.specs.declared.tally.Tally.{Tally}
 use Rattle.tally.proofs.Tallying.{sane_skip, sane_count, marks_count}
 use Rattle.slots.specs.Slots.{slot_word, slot_valid}
 use Rattle.slots.specs.declared.slot.Slot.{Slot}
-use Rattle.report.specs.Visits.{visited, few_records}
-use Rattle.report.specs.Rows.{RowSo, RowTo}
+use Rattle.report.specs.Visits.{visited}
+use Rattle.report.specs.Rows.{RowSo}
 use Rattle.report.proofs.Seen.{seen_turn}
 use Rattle.report.proofs.Visiting.{visited_records}
 
@@ -30,17 +30,7 @@ module _ (w : Slot) (t u : Tally) (r : List ℕ) where
 -- ---- a row
 
 module _ (size : ℕ) (w : Slot) (t : Tally) (l : List ℕ) (first : ℕ) where
-  pub row_start : Sane t → RowSo size w t l first first t
-  row_start sane = record { behind = omega arith; records = omega arith; sane = sane; seen_to = λ s e. e }
-
-  pub row_none : (n : ℕ) → first < n → Sane t → RowTo size w t l first n (record { next = first; tally = t })
-  row_none n h sane = record { inside = omega arith; so = row_start sane }
-
   module _ (i : ℕ) (u : Tally) (so : RowSo size w t l first i u) where
-    -- so no count wraps
-    pub row_few : (n : ℕ) → i < n → t.records + (n - first) < few_records → u.records < few_records
-    row_few n h few = omega (arith, so.behind, so.records)
-
     row_turn : (v : Tally) (r : List ℕ) → r ≡ span l (i * size) size → v ≡ visited w u r → Sane v → RowSo size w t l first (i + 1) v
     row_turn v r er e sane = record {
       behind = omega (arith, so.behind);

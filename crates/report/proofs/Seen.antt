@@ -178,10 +178,6 @@ module _ {S : Type 0} (v : S → List ℕ → S) (size : ℕ) where
       held_turn v size s t u buf₁ [] rest buf₂ 0 fill' (held_one v size z s t buf₁ [] e l₁) g in
       rw whole at r
 
-  -- nothing waits
-  pub none_waits : (s t : S) (buf buf' part : List ℕ) (fill fill' : ℕ) → fill ≡ 0 → Held v size s part buf' t fill' → Held v size s (take fill buf ++ part) buf' t fill'
-  none_waits s t buf buf' part fill fill' e h = rw e h
-
 -- what a slice from `at` on has
 pub rest_is : (l : List ℕ) (at : ℕ) → take (length l - at) (drop at l) ≡ drop at l
 rest_is l at = take_all (length l - at) (drop at l) (omega (arith, length-drop at l))

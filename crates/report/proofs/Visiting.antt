@@ -53,9 +53,6 @@ module _ (w : Slot) (size : ℕ) (t u : Tally) (l : List ℕ) (i n : ℕ) where
       let r : u.records ≡ t.records + i = ap (λ (x : Tally). x.records) e ∙ seen_records w size t l i in
       omega arith
 
-  pub all_seen : i ≤ n → n ≤ i → u ≡ seen (visited w) size t l i → u ≡ seen (visited w) size t l n
-  all_seen a b e = let d : i ≡ n = omega arith in e ∙ ap (seen (visited w) size t l) d
-
 -- behind a record that was cut
 pub fewer_left : (w : Slot) (t u : Tally) (s l : List ℕ) (at : ℕ) → u ≡ visited w t s → t.records + 1 + length l < few_records
     → u.records + length (take (length l - at) (drop at l)) < few_records

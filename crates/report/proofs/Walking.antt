@@ -20,11 +20,6 @@ nil_of_length : (l : List ℕ) → length l ≡ 0 → l ≡ []
 nil_of_length [] e = refl
 nil_of_length (x ∷ l) e = let no : ⊥ = omega arith in absurd no
 
--- the blocks by another name
-pub held_at : {S : Type 0} {visit : S → List ℕ → S} {size : ℕ} {s t : S} {buf : List ℕ} {fill : ℕ} (f : List ℕ) {bs cs : List Block} → cs ≡ bs
-    → Held visit size s (joined f bs) buf t fill → Held visit size s (joined f cs) buf t fill
-held_at f e h = rw e h
-
 -- the joined data has nothing but bytes
 pub joined_bytes : (f : List ℕ) (bs : List Block) → Bytes f → Bytes (joined f bs)
 unfolding joined

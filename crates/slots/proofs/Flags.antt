@@ -4,7 +4,6 @@ use mathlib.Core.Path.{◌≡◌, refl, sym, ◌∙◌}
 use mathlib.Core.Bool.{Bool, true, false, not, ◌&&◌}
 use Prim.Native.Nat.{ℕ, ◌+◌, ◌*◌, ◌/◌, ◌%◌, ◌^◌, ◌<◌}
 use native.Mathlib.Omega.{arith}
-use mathlib.Core.List.{List}
 use lib.ListN.{get_or}
 use lib.Dec.{ltb, eqb}
 use borrow.Author.Tests.{eqb-true, eq-eqb, ltb-true, not-false}
@@ -13,21 +12,11 @@ use Rattle.definitions.specs.Bytes.{bit}
 use Rattle.definitions.specs.Channel.{Channel, Group, record_length, has_invalidation_bit, area_of}
 use Rattle.definitions.proofs.Replies.{not_answered}
 use Rattle.fields.proofs.Invalidation.{all_valid, by_bit}
-use Rattle.slots.specs.Slots.{slot_valid}
 use Rattle.slots.specs.Known.{FlagAsked, FlagOf}
-use Rattle.slots.specs.declared.slot.Slot.{Slot}
 
 -- bit 8 of a byte
 no_ninth : (x : ℕ) → x < 256 → bit x 8 ≡ 0
 no_ninth x h = let e : x / 256 ≡ 0 = omega arith in rw e
-
--- so where it is the one that tells, every record is valid
-pub no_flag : (w : Slot) (s : List ℕ) → get_or s w.flag_at 0 < 256 → w.flag_bit ≡ 8 → true ≡ slot_valid w s
-no_flag w s h e = rw e (sym (eq-eqb (bit (get_or s w.flag_at 0) 8) 0 (no_ninth (get_or s w.flag_at 0) h)))
-
--- and a program that asks for it is told
-pub no_flag_told : (w : Slot) {b : Bool} → b ≡ not (eqb w.flag_bit 8) → b ≡ false → w.flag_bit ≡ 8
-no_flag_told w e h = eqb-true w.flag_bit 8 (not-false _ (sym e ∙ h))
 
 module _ (g : Group) (c : Channel) (h : FlagAsked g c) {b : ℕ} (eb : b ≡ bit c.flags 1) where
   pub always : b ≡ 0 → FlagOf g c 0 8

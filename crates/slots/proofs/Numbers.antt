@@ -1,6 +1,6 @@
 -- What the word of a number's field stands for, and which channels are such numbers.
 use mathlib.Core.Path.{◌≡◌, refl, sym, ap, ◌∙◌}
-use mathlib.Core.Bool.{Bool, true, false, not, ◌&&◌, true≢false}
+use mathlib.Core.Bool.{Bool, true, false, not, ◌&&◌}
 use mathlib.Core.List.{List}
 use Prim.Native.Nat.{ℕ}
 use Rattle.definitions.specs.Bytes.{Order, number_of, span, bytes_for, field_at}
@@ -16,8 +16,8 @@ use Rattle.fields.specs.declared.form.Number.{Number}
 use Rattle.fields.specs.declared.form.Number.TheVariants.{Unsigned, Signed, Float}
 use Rattle.fields.specs.declared.form.Content.{Content}
 use Rattle.fields.specs.declared.form.Form.{Form}
-use Rattle.fields.specs.declared.form.Form.TheVariants.{Number as numbered, Other}
-use Rattle.fields.proofs.Forms.{kind_form, is_number_law, other_number}
+use Rattle.fields.specs.declared.form.Form.TheVariants.{Other}
+use Rattle.fields.proofs.Forms.{kind_form, other_number}
 use Rattle.tally.specs.Words.{Words}
 use Rattle.slots.specs.Slots.{word_of, Within}
 use Rattle.slots.specs.declared.slot.Slot.{Slot}
@@ -52,9 +52,3 @@ module _ (c : Channel) where
     -- what is no number is none
     pub other_fixed : {content : Content} → form ≡ Other content → false ≡ is_fixed_number c
     other_fixed {content} e = sym (other_number content (not (variable_length c))) ∙ ap (λ (t : Bool). t && not (variable_length c)) (sym (kind e))
-
-    pub not_other : {content : Content} → form ≡ Other content → is_fixed_number c ≡ true → ⊥
-    not_other e h = true≢false (sym h ∙ sym (other_fixed e))
-
-    pub number_fixed : {number : Number} {order v : Bool} → form ≡ numbered number order → v ≡ variable_length c → not v ≡ is_fixed_number c
-    number_fixed {number} e ev = ap not ev ∙ ap (λ (t : Bool). t && not (variable_length c)) (sym (kind e ∙ is_number_law number))

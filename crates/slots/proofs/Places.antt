@@ -2,7 +2,7 @@
 use mathlib.Core.Path.{◌≡◌, refl, sym, ap, ap₂, subst, ◌∙◌}
 use mathlib.Core.Bool.{Bool, true, false}
 use mathlib.Core.List.{List}
-use Prim.Native.Nat.{ℕ, ◌+◌, ◌*◌, ◌/◌, ◌%◌, ◌≤◌, ◌<◌}
+use Prim.Native.Nat.{ℕ, ◌+◌, ◌*◌, ◌/◌, ◌%◌, ◌≤◌}
 use native.Mathlib.Omega.{arith}
 use lib.ListN.{length}
 use Rattle.definitions.specs.Bytes.{Order, little, big, number_of, le, u64_at, bits, field_at}
@@ -33,17 +33,9 @@ shifted true word from count es to e =
 shifted false word from count es to e =
     near little word from count (e ∙ ap (λ (n : ℕ). bits (number_of little (le 8 word)) n count) (es ∙ whole_bytes from ∙ low little from count to refl)) refl to
 
-shift_below : (b : Bool) (from count : ℕ) → 1 ≤ count → from + count ≤ 64 → shift_in b from count < 64
-shift_below true from count some to = omega arith
-shift_below false from count some to = omega arith
-
 module _ {size : ℕ} {w : Slot} (p : ℕ) {shift : ℕ} (h : Within size w) (told : ShiftTold size w p shift) where
   abbrev from : ℕ
   from = told.from
-
-  -- what is asked of the bits and of the number
-  pub place_low : shift < 64
-  place_low = subst (λ (n : ℕ). n < 64) (sym told.is) (shift_below w.big_endian from w.count h.some told.place.2)
 
   place_word : InWord w.number from w.count
   place_word = record { some = h.some; ends = told.place.2; width = h.width }

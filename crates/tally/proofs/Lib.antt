@@ -1,9 +1,8 @@
--- Laws over plain numbers. For crates above: Kept, Tallying.
+-- Laws over plain numbers. For crates above: Ordered, Tallying.
 pub mod Ordered
 pub mod Patterns
 pub mod Exactly
 pub mod Sums
-pub mod Kept
 pub mod Foremost
 pub mod Outermosts
 pub mod Counts

@@ -92,16 +92,7 @@ float_below n a b v w e f g = same_order f g ∙ ap (λ (m : Number). lt (value_
 
 -- ---- the double of a word, by what kind of number it is
 
-pub value_as : (n m : Number) (word p : ℕ) (v : Float) → n ≡ m → p ≡ pattern_of m word → v ≡ of_bits binary64 p → v ≡ value_at n word
-value_as n m word p v e f g = g ∙ ap (of_bits binary64) f ∙ ap (λ (k : Number). value_at k word) (sym e)
-
 -- ---- a number between two others
-
--- a float is its pattern
-pub float_between : (n : Number) (smallest word largest : ℕ) {s v l : Float} → n ≡ float → s ≡ of_bits binary64 smallest → v ≡ of_bits binary64 word → l ≡ of_bits binary64 largest
-    → (is_nan v ≡ false) × (lt v s ≡ false) × (lt l v ≡ false)
-    → (is_nan (value_at n word) ≡ false) × (lt (value_at n word) (value_at n smallest) ≡ false) × (lt (value_at n largest) (value_at n word) ≡ false)
-float_between n smallest word largest e f g h b = rw e (rw (f, g, h) at b)
 
 pub integer_between : (n : Number) (smallest word largest : ℕ) → OneOf (0 ∷ 1 ∷ []) (tag_of the_type n) → smallest ≤ word → word ≤ largest
     → (is_nan (value_at n word) ≡ false) × (lt (value_at n word) (value_at n smallest) ≡ false) × (lt (value_at n largest) (value_at n word) ≡ false)

@@ -1,37 +1,18 @@
 -- The line of a channel: of a tally, and of records none of which is valid.
-use Rattle.std.proofs.Common.{◌≡◌, ℕ, ◌+◌, ◌-◌, true, Bool, false, not, ◌==◌, List, [], length, pos, ◌+ℤ◌, sym, refl, ap, ◌∙◌, arith, eq-eqb, ne_eqb}
-use Rattle.std.specs.Prelude.{Option, Some, None}
-use lib.Ieee.{Float}
+use Rattle.std.proofs.Common.{◌≡◌, ℕ, ◌+◌, ◌-◌, List, [], length, pos, ◌+ℤ◌, sym, refl, ap, ◌∙◌, arith}
+use Rattle.std.specs.Prelude.{Option, None}
 use Rattle.definitions.specs.Reply.{Reply}
 use Rattle.definitions.specs.Channel.{ValidValue}
 use Rattle.definitions.specs.Report.{count, is_valid, is_invalid, has_no_value, is_valid_nan, points, outermost, sum_of, report_of}
 use Rattle.fields.specs.declared.form.Number.{Number}
-use Rattle.tally.specs.Words.{value_at}
-use Rattle.tally.specs.declared.report.Point.{Point}
 use Rattle.tally.specs.declared.report.Outermost.{Outermost}
 use Rattle.tally.specs.declared.report.Report.{Report}
 use Rattle.tally.specs.declared.sum.Sum.{Sum}
-use Rattle.tally.specs.declared.tally.Mark.{Mark}
 use Rattle.tally.specs.declared.tally.Tally.{Tally}
-use Rattle.tally.specs.Tallies.{total_of, excess_of, no_outermost, point_at, outermost_in, Tallied}
-use Rattle.tally.specs.Meaning.{point_meant, outermost_meant, sum_meant, report_meant}
-use Rattle.tally.proofs.Kept.{some_marks, no_marks}
+use Rattle.tally.specs.Tallies.{total_of, excess_of, no_outermost, outermost_in, Tallied}
+use Rattle.tally.specs.Meaning.{outermost_meant, sum_meant, report_meant}
 use Rattle.tally.proofs.Sums.{same_more}
 use Rattle.tally.proofs.Counts.{each_once, no_nan, no_points, no_sum}
-
--- ---- the doubles of a tally
-
-pub point_told : (n : Number) (m : Mark) (v : Float) → v ≡ value_at n m.word → point_meant (record { number = m.number; value = v }) ≡ point_at n m
-point_told n m v e = rw e refl
-
-module _ (n : Number) (t : Tally) {marks : Bool} (em : marks ≡ not (t.valid == t.nan)) where
-  pub no_doubles_told : marks ≡ false → no_outermost ≡ outermost_in n t
-  no_doubles_told h = rw (eq-eqb t.valid t.nan (no_marks t em h)) refl
-
-  pub doubles_told : (first last smallest largest : Point) → marks ≡ true → point_meant first ≡ point_at n t.first
-      → point_meant last ≡ point_at n t.last → point_meant smallest ≡ point_at n t.smallest → point_meant largest ≡ point_at n t.largest
-      → outermost_meant (Some (record { first = first; last = last; smallest = smallest; largest = largest })) ≡ outermost_in n t
-  doubles_told first last smallest largest h e f g i = rw (ne_eqb t.valid t.nan (some_marks t em h), e, f, g, i) refl
 
 -- ---- the whole line
 
