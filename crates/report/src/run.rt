@@ -15,7 +15,7 @@ pub(crate) fn run(records: &[u8], n: usize, layout: Layout, before: Tally) -> Ta
     let rows = Rows::new(records, n, layout);
     let mut tally = before;
     let mut i = 0;
-    // not a `for`: a row goes over as many as it can
+    // no `for`, since a row goes over as many records as it can
     while i < n {
         let row = rows.read(i, tally);
         tally = row.tally;

@@ -9,6 +9,7 @@ ghost use Rattle.slots.specs.Known.{FlagAsked, FlagOf};
 use bit_fields::cut;
 use fields::{Channel, FieldStart, Form, Group, Number, find_field, form_of};
 
+// Whether it lies in a record is asked where it is read and no invariant: what `has_flag` promises holds of any slot.
 #[derive(Clone, Copy)]
 pub struct Slot {
     pub number: Number,
@@ -16,7 +17,8 @@ pub struct Slot {
     pub at: usize,
     pub offset: u32,
     pub count: u32,
-    // the byte and its bit that is set in a record whose value is invalid
+    // the byte and its bit that is set in a record whose value is invalid; bit 8 where none tells. That is no Option, since it would
+    // take a test more a record, and `slot_valid` asks one bit
     pub flag_at: usize,
     pub flag_bit: u32,
 }

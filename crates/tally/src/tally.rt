@@ -15,6 +15,7 @@ pub struct Mark {
     pub word: u64,
 }
 
+// Whether it is sane is asked where it matters and no invariant: what `has_marks`, `is_inner` and `is_clear` promise holds of any.
 #[derive(Clone, Copy, Debug, Default, PartialEq, Eq)]
 pub struct Tally {
     // of all of which `valid` are valid, and of these `nan` are NaN
@@ -30,6 +31,7 @@ pub struct Tally {
     pub largest: Mark,
 }
 
+// The default, under the name by which it is settled in the theorems
 pub fn empty_tally() -> Tally
     ensures { result ≡ empty_tally }
 {
