@@ -1,165 +1,154 @@
 // Values, validity and doubles of channels.
-use crate::answers::{no_value, same_field_reply, same_number, same_reply, same_value};
-use crate::kinds::{BOTH, BOUNDED_BOTH, BOUNDED_VALIDITY, VALIDITY, VALUE};
-use crate::line_words::{SmallRead, byte, bytes, next_if, number, sign, small};
+use crate::answers::{Value, field_reply, reply};
+use crate::line_words::Words;
 use mf4::{
-    Mf4Channel, Mf4Group, Mf4ValidValueReply, Mf4ValidityReply, mf4_check_validity,
-    mf4_check_validity_unbounded, mf4_decode_double_bits, mf4_decode_valid_value,
-    mf4_decode_valid_value_unbounded, mf4_decode_value,
+    Mf4Channel, Mf4DoneReply, Mf4Group, Mf4ValidValueReply, Mf4ValidityReply, Mf4ValueReply,
+    mf4_check_validity, mf4_check_validity_unbounded, mf4_decode_double_bits,
+    mf4_decode_valid_value, mf4_decode_valid_value_unbounded, mf4_decode_value,
 };
 
-// A field's words behind its record; `next` is where the answer begins
+// A field's words behind its record
 #[derive(Clone, Copy)]
-pub(crate) struct FieldWords {
+pub(crate) struct Field {
     pub group: Mf4Group,
     pub channel: Mf4Channel,
-    pub next: usize,
 }
 
-#[derive(Clone, Copy)]
-struct GroupWords {
-    pub group: Mf4Group,
-    pub next: usize,
+pub(crate) fn channel(words: &mut Words) -> Option<Mf4Channel> {
+    Some(Mf4Channel {
+        data_type: words.byte()?,
+        channel_type: words.byte()?,
+        bit_offset: words.byte()?,
+        byte_offset: words.small()?,
+        bit_count: words.small()?,
+        flags: words.small()?,
+        pos_invalidation_bit: words.small()?,
+        data_addr: words.number()?,
+    })
 }
 
-#[derive(Clone, Copy)]
-pub(crate) struct ChannelWords {
-    pub channel: Mf4Channel,
-    pub next: usize,
+// Only a bounded kind has the word for the invalidation bytes: in any other these have no end, and how many there are plays no
+// part
+fn group(words: &mut Words, is_bounded: bool) -> Option<Mf4Group> {
+    Some(Mf4Group {
+        record_id_size: words.number()?,
+        data_bytes: words.small()?,
+        invalidation_bytes: if is_bounded { words.small()? } else { 0 },
+    })
 }
 
-pub(crate) fn channel_words(line: &[u8], at: usize) -> ChannelWords {
-    let data_type = byte(line, at);
-    let channel_type = byte(line, data_type.next);
-    let bit_offset = byte(line, channel_type.next);
-    let byte_offset = small(line, bit_offset.next);
-    let bit_count = small(line, byte_offset.next);
-    let flags = small(line, bit_count.next);
-    let pos_invalidation_bit = small(line, flags.next);
-    let data = number(line, pos_invalidation_bit.next);
-    let channel = Mf4Channel {
-        data_type: data_type.value,
-        channel_type: channel_type.value,
-        bit_offset: bit_offset.value,
-        byte_offset: byte_offset.value,
-        bit_count: bit_count.value,
-        flags: flags.value,
-        pos_invalidation_bit: pos_invalidation_bit.value,
-        data_addr: data.value,
+impl Field {
+    // The field, and the sign that ends the question
+    pub(crate) fn of(words: &mut Words, is_bounded: bool) -> Option<Field> {
+        let field = Field {
+            group: group(words, is_bounded)?,
+            channel: channel(words)?,
+        };
+        words.sign(b'=')?;
+        Some(field)
+    }
+}
+
+// What stands behind the reply; beside a refusal every other field is 0
+fn judged(words: &mut Words, answer: Mf4DoneReply) -> Option<Mf4ValidValueReply> {
+    if answer.reply != 0 {
+        return Some(Mf4ValidValueReply {
+            reply: answer.reply,
+            told: answer.told,
+            ..Mf4ValidValueReply::default()
+        });
+    }
+    let value = Value::of(words)?;
+    Some(Mf4ValidValueReply {
+        reply: answer.reply,
+        told: answer.told,
+        kind: value.kind,
+        is_valid: words.byte()?,
+        number: value.number,
+        at: value.at,
+        length: value.length,
+    })
+}
+
+pub(crate) fn same_valid_value(words: &mut Words, given: Mf4ValidValueReply) -> Option<()> {
+    let answer = reply(words)?;
+    (given == judged(words, answer)?).then_some(())
+}
+
+pub(crate) fn decode_value(words: &mut Words) -> Option<()> {
+    let mut space = [0u8; 512];
+    let record = words.bytes(&mut space)?;
+    let asked = Field::of(words, false)?;
+    let given = mf4_decode_value(record, asked.group.record_id_size, asked.channel);
+    let told = Mf4DoneReply {
+        reply: given.reply,
+        told: given.told,
     };
-    ChannelWords {
-        channel,
-        next: data.next,
-    }
-}
-
-// Only a bounded kind has the word: in any other the invalidation bytes have no end, and how many there are plays no part
-fn invalidation_word(line: &[u8], at: usize, is_bounded: bool) -> SmallRead {
-    if is_bounded {
-        small(line, at)
+    let answer = field_reply(words, told)?;
+    let value = if answer.reply == 0 {
+        Value::of(words)?
     } else {
-        SmallRead { value: 0, next: at }
-    }
-}
-
-fn group_words(line: &[u8], at: usize, is_bounded: bool) -> GroupWords {
-    let id_size = number(line, at);
-    let data_bytes = small(line, id_size.next);
-    let invalidation_bytes = invalidation_word(line, data_bytes.next, is_bounded);
-    let group = Mf4Group {
-        record_id_size: id_size.value,
-        data_bytes: data_bytes.value,
-        invalidation_bytes: invalidation_bytes.value,
+        Value::default()
     };
-    GroupWords {
-        group,
-        next: invalidation_bytes.next,
-    }
+    let due = Mf4ValueReply {
+        reply: answer.reply,
+        told: answer.told,
+        kind: value.kind,
+        number: value.number,
+        at: value.at,
+        length: value.length,
+    };
+    (given == due).then_some(())
 }
 
-pub(crate) fn field_words(line: &[u8], at: usize, is_bounded: bool) -> FieldWords {
-    let read = group_words(line, at, is_bounded);
-    let words = channel_words(line, read.next);
-    let group = read.group;
-    let channel = words.channel;
-    FieldWords {
-        group,
-        channel,
-        next: sign(line, words.next, b'='),
-    }
-}
-
-fn same_decoded(line: &[u8], at: usize, record: &[u8], id_size: u64, channel: Mf4Channel) -> usize {
-    let given = mf4_decode_value(record, id_size, channel);
-    let next = same_field_reply(line, at, given.reply, given.told);
-    if given.reply == 0 {
-        same_value(line, next, given.kind, given.number, given.at, given.length)
-    } else {
-        no_value(next, given.kind, given.number, given.at, given.length)
-    }
-}
-
-fn same_validity(line: &[u8], at: usize, given: Mf4ValidityReply) -> usize {
-    let next = same_reply(line, at, given.reply, given.told);
-    if given.reply == 0 {
-        same_number(line, next, given.is_valid as u64)
-    } else {
-        next_if(given.is_valid == 0, next)
-    }
-}
-
-// What stands behind the reply
-fn same_judged(line: &[u8], at: usize, given: Mf4ValidValueReply) -> usize {
-    if given.reply == 0 {
-        let next = same_value(line, at, given.kind, given.number, given.at, given.length);
-        same_number(line, next, given.is_valid as u64)
-    } else {
-        next_if(
-            given.is_valid == 0,
-            no_value(at, given.kind, given.number, given.at, given.length),
-        )
-    }
-}
-
-pub(crate) fn same_valid_value(line: &[u8], at: usize, given: Mf4ValidValueReply) -> usize {
-    let next = same_reply(line, at, given.reply, given.told);
-    same_judged(line, next, given)
+pub(crate) fn check_validity(words: &mut Words) -> Option<()> {
+    let mut space = [0u8; 512];
+    let record = words.bytes(&mut space)?;
+    let asked = Field::of(words, false)?;
+    let given = mf4_check_validity_unbounded(record, asked.group, asked.channel);
+    (given == words.byte()?).then_some(())
 }
 
 // The kind that the crate answers too
-fn same_both(line: &[u8], at: usize, given: Mf4ValidValueReply) -> usize {
-    let next = same_field_reply(line, at, given.reply, given.told);
-    same_judged(line, next, given)
+pub(crate) fn decode_both(words: &mut Words) -> Option<()> {
+    let mut space = [0u8; 512];
+    let record = words.bytes(&mut space)?;
+    let asked = Field::of(words, false)?;
+    let given = mf4_decode_valid_value_unbounded(record, asked.group, asked.channel);
+    let told = Mf4DoneReply {
+        reply: given.reply,
+        told: given.told,
+    };
+    let answer = field_reply(words, told)?;
+    (given == judged(words, answer)?).then_some(())
 }
 
-fn same_answer(line: &[u8], kind: usize, record: &[u8], asked: FieldWords) -> usize {
-    let at = asked.next;
-    let group = asked.group;
-    let id_size = group.record_id_size;
-    let channel = asked.channel;
-    match kind {
-        VALUE => same_decoded(line, at, record, id_size, channel),
-        VALIDITY => same_number(
-            line,
-            at,
-            mf4_check_validity_unbounded(record, group, channel) as u64,
-        ),
-        BOTH => same_both(
-            line,
-            at,
-            mf4_decode_valid_value_unbounded(record, group, channel),
-        ),
-        BOUNDED_VALIDITY => same_validity(line, at, mf4_check_validity(record, group, channel)),
-        BOUNDED_BOTH => same_valid_value(line, at, mf4_decode_valid_value(record, group, channel)),
-        _ => same_number(line, at, mf4_decode_double_bits(record, id_size, channel)),
-    }
+pub(crate) fn decode_double(words: &mut Words) -> Option<()> {
+    let mut space = [0u8; 512];
+    let record = words.bytes(&mut space)?;
+    let asked = Field::of(words, false)?;
+    let given = mf4_decode_double_bits(record, asked.group.record_id_size, asked.channel);
+    (given == words.number()?).then_some(())
 }
 
-pub(crate) fn replay_field(line: &[u8], kind: usize, at: usize) -> usize {
-    let mut record = [0u8; 512];
-    let read = bytes(line, at, &mut record);
-    let count = read.count;
-    let is_bounded = kind == BOUNDED_VALIDITY || kind == BOUNDED_BOTH;
-    let asked = field_words(line, read.next, is_bounded);
-    same_answer(line, kind, &record[..count], asked)
+pub(crate) fn check_bounded_validity(words: &mut Words) -> Option<()> {
+    let mut space = [0u8; 512];
+    let record = words.bytes(&mut space)?;
+    let asked = Field::of(words, true)?;
+    let given = mf4_check_validity(record, asked.group, asked.channel);
+    let answer = reply(words)?;
+    let due = Mf4ValidityReply {
+        reply: answer.reply,
+        told: answer.told,
+        is_valid: if answer.reply == 0 { words.byte()? } else { 0 },
+    };
+    (given == due).then_some(())
+}
+
+pub(crate) fn decode_bounded_both(words: &mut Words) -> Option<()> {
+    let mut space = [0u8; 512];
+    let record = words.bytes(&mut space)?;
+    let asked = Field::of(words, true)?;
+    let given = mf4_decode_valid_value(record, asked.group, asked.channel);
+    same_valid_value(words, given)
 }

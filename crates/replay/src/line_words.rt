@@ -1,247 +1,120 @@
-// The words of a line, one after the other.
-//
-// Each reader takes the place where its word begins and answers the place of the next word. There is no word at the place
-// WRONG, and a reader that finds no such word as it reads answers WRONG: so one wrong word makes the rest of its line wrong.
-ghost use Rattle.std.specs.Prelude.{◌≤◌};
-ghost use Rattle.io.specs.Counts.{IsPrefixLen};
+// The words of a line, one after the other. A reader gives none where the next word is no such word, or where no word is left.
 
-pub(crate) const WRONG: usize = usize::MAX;
-
-#[derive(Clone, Copy)]
-pub(crate) struct NumberRead {
-    pub value: u64,
-    pub next: usize,
+// A line from its next word on, or none behind its last one
+#[derive(Clone, Copy, PartialEq, Eq)]
+pub(crate) struct Words<'a> {
+    rest: Option<&'a [u8]>,
 }
 
-#[derive(Clone, Copy)]
-pub(crate) struct SmallRead {
-    pub value: u32,
-    pub next: usize,
-}
-
-#[derive(Clone, Copy)]
-pub(crate) struct ShortRead {
-    pub value: u16,
-    pub next: usize,
-}
-
-#[derive(Clone, Copy)]
-pub(crate) struct ByteRead {
-    pub value: u8,
-    pub next: usize,
-}
-
-// how many bytes or numbers were read, or how many bytes are lent
-#[derive(Clone, Copy)]
-pub(crate) struct Counted {
-    pub count: usize,
-    pub next: usize,
-}
-
-// 16 where the byte is no digit
-fn digit(byte: u8) -> u64 {
+fn digit(byte: u8) -> Option<u8> {
     match byte {
-        b'0'..=b'9' => wide(byte - b'0'),
-        b'a'..=b'f' => wide(byte - b'a' + 10),
-        _ => 16,
+        b'0'..=b'9' => Some(byte - b'0'),
+        b'a'..=b'f' => Some(byte - b'a' + 10),
+        _ => None,
     }
 }
 
-fn wide(byte: u8) -> u64 {
-    byte as u64
+fn is_sign(word: &[u8], sign: u8) -> bool {
+    matches!(word, [only] if *only == sign)
 }
 
-// 0, which no word has, behind the line's end
-pub(crate) fn byte_at(line: &[u8], at: usize) -> u8 {
-    if at < line.len() { line[at] } else { 0 }
-}
-
-fn digit_at(line: &[u8], at: usize) -> u64 {
-    digit(byte_at(line, at))
-}
-
-// The place of the word behind one that ends here: one past the line's end is the place where no word should follow
-fn after(line: &[u8], end: usize) -> usize {
-    if end < line.len() {
-        if line[end] == b' ' { end + 1 } else { WRONG }
-    } else if end == line.len() {
-        end + 1
-    } else {
-        WRONG
+// At most 16 digits, the highest first
+fn number(word: &[u8]) -> Option<u64> {
+    if word.is_empty() || 16 < word.len() {
+        return None;
     }
-}
-
-// The place behind the next blank
-pub(crate) fn past_blank(line: &[u8], from: usize) -> usize {
-    let mut at = from;
-    while at < line.len() {
-        if line[at] == b' ' {
-            return at + 1;
-        }
-        at += 1;
+    let mut number: u64 = 0;
+    for byte in word {
+        number = number << 4 | digit(*byte)? as u64;
     }
-    at
+    Some(number)
 }
 
-pub(crate) fn next_if(is_same: bool, next: usize) -> usize {
-    if is_same { next } else { WRONG }
-}
-
-pub(crate) fn is_end(line: &[u8], at: usize) -> bool {
-    at == line.len() + 1
-}
-
-pub(crate) fn sign(line: &[u8], at: usize, sign: u8) -> usize {
-    if at < line.len() {
-        if line[at] == sign {
-            return after(line, at + 1);
-        }
+// Two digits a byte, and `-` for no bytes
+fn bytes<'b>(word: &[u8], space: &'b mut [u8]) -> Option<&'b mut [u8]> {
+    if is_sign(word, b'-') {
+        return space.get_mut(..0);
     }
-    WRONG
-}
-
-// Digits that fall out at the top do so only in a word of over 16 digits, which is no number
-fn appended(value: u64, digit: u64) -> u64 {
-    value << 4 | digit
-}
-
-pub(crate) fn number(line: &[u8], at: usize) -> NumberRead {
-    let mut value: u64 = 0;
-    let mut end = at;
-    while end < line.len() {
-        let digit = digit_at(line, end);
-        if digit > 15 {
-            break;
-        }
-        value = appended(value, digit);
-        end += 1;
+    let (pairs, odd) = word.as_chunks::<2>();
+    if pairs.is_empty() || !odd.is_empty() {
+        return None;
     }
-    ended(line, at, end, value)
+    let read = space.get_mut(..pairs.len())?;
+    for (byte, pair) in read.iter_mut().zip(pairs) {
+        *byte = digit(pair[0])? << 4 | digit(pair[1])?;
+    }
+    Some(read)
 }
 
-fn ended(line: &[u8], from: usize, end: usize, value: u64) -> NumberRead {
-    if from < end {
-        if end - from <= 16 {
-            return NumberRead {
-                value,
-                next: after(line, end),
-            };
+impl<'a> Words<'a> {
+    pub(crate) fn of(line: &'a [u8]) -> Words<'a> {
+        Words { rest: Some(line) }
+    }
+
+    pub(crate) fn is_done(&self) -> bool {
+        self.rest.is_none()
+    }
+
+    // What stands before the next blank, or in the rest of the line
+    pub(crate) fn word(&mut self) -> Option<&'a [u8]> {
+        let rest = self.rest?;
+        match rest.iter().position(|byte| *byte == b' ') {
+            Some(end) => {
+                self.rest = Some(&rest[end + 1..]);
+                Some(&rest[..end])
+            }
+            None => {
+                self.rest = None;
+                Some(rest)
+            }
         }
     }
-    NumberRead {
-        value: 0,
-        next: WRONG,
-    }
-}
 
-fn up_to(line: &[u8], at: usize, most: u64) -> NumberRead
-    ensures { result.value ≤ most }
-{
-    let read = number(line, at);
-    if read.value <= most {
-        return read;
+    pub(crate) fn sign(&mut self, sign: u8) -> Option<()> {
+        is_sign(self.word()?, sign).then_some(())
     }
-    NumberRead {
-        value: 0,
-        next: WRONG,
-    }
-}
 
-pub(crate) fn small(line: &[u8], at: usize) -> SmallRead {
-    let read = up_to(line, at, 0xffffffff);
-    SmallRead {
-        value: read.value as u32,
-        next: read.next,
-    }
-}
-
-pub(crate) fn short(line: &[u8], at: usize) -> ShortRead {
-    let read = up_to(line, at, 0xffff);
-    ShortRead {
-        value: read.value as u16,
-        next: read.next,
-    }
-}
-
-pub(crate) fn byte(line: &[u8], at: usize) -> ByteRead {
-    let read = up_to(line, at, 0xff);
-    ByteRead {
-        value: read.value as u8,
-        next: read.next,
-    }
-}
-
-// How many bytes of a buffer to lend. It takes the buffer so that its part needs no proof where it is lent.
-pub(crate) fn room(line: &[u8], at: usize, out: &[u8]) -> Counted
-    ensures { IsPrefixLen result.count out.now }
-{
-    let read = up_to(line, at, out.len() as u64);
-    Counted {
-        count: read.value as usize,
-        next: read.next,
-    }
-}
-
-// 256 where there are no two digits
-fn pair(line: &[u8], at: usize) -> u64 {
-    if at < line.len() {
-        let high = digit_at(line, at);
-        let low = digit_at(line, at + 1);
-        if high < 16 && low < 16 {
-            return appended(high, low);
+    // The same, where the word may be another, which is then still the next
+    pub(crate) fn has_sign(&mut self, sign: u8) -> bool {
+        let mut ahead = *self;
+        let has = ahead.sign(sign).is_some();
+        if has {
+            *self = ahead;
         }
+        has
     }
-    256
-}
 
-fn pair_on(at: usize) -> usize {
-    if at < WRONG - 2 { at + 2 } else { WRONG }
-}
+    pub(crate) fn number(&mut self) -> Option<u64> {
+        number(self.word()?)
+    }
 
-pub(crate) fn bytes(line: &[u8], at: usize, out: &mut [u8]) -> Counted
-    ensures { IsPrefixLen result.count out.new }
-{
-    let mut count: usize = 0;
-    let mut end = at;
-    while count < out.len() {
-        let byte = pair(line, end);
-        if byte > 255 {
-            break;
+    pub(crate) fn small(&mut self) -> Option<u32> {
+        u32::try_from(self.number()?).ok()
+    }
+
+    pub(crate) fn short(&mut self) -> Option<u16> {
+        u16::try_from(self.number()?).ok()
+    }
+
+    pub(crate) fn byte(&mut self) -> Option<u8> {
+        u8::try_from(self.number()?).ok()
+    }
+
+    // The part of a buffer that is lent: so many of its bytes
+    pub(crate) fn room<'b>(&mut self, out: &'b mut [u8]) -> Option<&'b mut [u8]> {
+        out.get_mut(..self.number()? as usize)
+    }
+
+    pub(crate) fn bytes<'b>(&mut self, space: &'b mut [u8]) -> Option<&'b mut [u8]> {
+        bytes(self.word()?, space)
+    }
+
+    // A count and then that many numbers
+    pub(crate) fn numbers<'b>(&mut self, space: &'b mut [u64]) -> Option<&'b [u64]> {
+        let read = space.get_mut(..self.number()? as usize)?;
+        for number in read.iter_mut() {
+            *number = self.number()?;
         }
-        out[count] = byte as u8;
-        count += 1;
-        end = pair_on(end);
-    }
-    Counted {
-        count,
-        next: bytes_end(line, at, end),
-    }
-}
-
-fn bytes_end(line: &[u8], from: usize, end: usize) -> usize {
-    if from < end {
-        after(line, end)
-    } else {
-        sign(line, from, b'-')
-    }
-}
-
-// A count and then that many numbers
-pub(crate) fn numbers(line: &[u8], at: usize, out: &mut [u64]) -> Counted
-    ensures { IsPrefixLen result.count out.new }
-{
-    let told = number(line, at);
-    let mut next = told.next;
-    let mut count: usize = 0;
-    while count < out.len() && (count as u64) < told.value {
-        let read = number(line, next);
-        out[count] = read.value;
-        next = read.next;
-        count += 1;
-    }
-    let is_whole = count as u64 == told.value;
-    Counted {
-        count,
-        next: next_if(is_whole, next),
+        Some(read)
     }
 }

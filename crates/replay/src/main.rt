@@ -30,26 +30,28 @@
 #![tactic(auto)]
 
 mod answers;
-mod blocks_read;
-mod blocks_written;
 mod chains;
 mod channel_blocks;
 mod field_reads;
-mod kinds;
+mod kind;
 mod line_words;
-mod lines;
+mod list_blocks;
 mod payload_reads;
+mod run;
 mod texts;
 mod types;
 mod written;
 
-use lines::{Run, replay_file, report};
+use run::Run;
 use std::io;
 
 fn main(rt: HostRuntime) -> io::Result<()> {
-    let run = replay_file(&rt, "sample.txt", Run::new())?;
-    let run = replay_file(&rt, "vectors.txt", run)?;
-    report(&rt, run)?;
+    let mut right = Run::new();
+    right.take_file(&rt, "sample.txt")?;
+    right.take_file(&rt, "vectors.txt")?;
+    right.report(&rt)?;
     // wrong on purpose: all of them must be told
-    report(&rt, replay_file(&rt, "wrong.txt", Run::new())?)
+    let mut wrong = Run::new();
+    wrong.take_file(&rt, "wrong.txt")?;
+    wrong.report(&rt)
 }

@@ -1,11 +1,10 @@
 // Data types, by their codes.
-use crate::answers::same_number;
-use crate::line_words::{byte, sign};
+use crate::line_words::Words;
 use mf4::{mf4_default_bits, mf4_type_code};
 
-pub(crate) fn replay_type(line: &[u8], at: usize) -> usize {
-    let code = byte(line, at);
-    let next = sign(line, code.next, b'=');
-    let next = same_number(line, next, mf4_type_code(code.value) as u64);
-    same_number(line, next, mf4_default_bits(code.value) as u64)
+pub(crate) fn type_by_code(words: &mut Words) -> Option<()> {
+    let code = words.byte()?;
+    words.sign(b'=')?;
+    let is_same = mf4_type_code(code) == words.byte()? && mf4_default_bits(code) == words.small()?;
+    is_same.then_some(())
 }

@@ -19,6 +19,7 @@ pub fn utf8_width(value: u32) -> usize
     }
 }
 
+// For each length a function: they differ in every line, so a common one would need a loop and a table.
 fn put_two(out: &mut [u8], at: usize, value: u32)
     requires { (0x80 ≤ value) × (value < 0x800) × (at + 2 ≤ length out.old) }
     ensures { out.new ≡ sets out.old at (utf8_of value) }

@@ -60,7 +60,8 @@ fn char_at(text: &[u8], at: usize, big_endian: bool) -> Option<Scalar>
     inside(utf16_char(unit, unit_at(text, at + 2, big_endian)), left)
 }
 
-// what a sound text takes as UTF-8: a unit below the surrogates decides alone; half a unit at the end is damage
+// What a sound text takes as UTF-8: a unit below the surrogates decides alone; half a unit at the end is damage. A turn goes as far
+// as its character, here and where it is written: an iterator would keep the same place, and say no less.
 fn measure(text: &[u8], big_endian: bool) -> Option<usize>
     ensures { result ≡ size_of (chars (utf16 (order_meant big_endian)) 0 text.now) }
 {

@@ -29,6 +29,8 @@ fn is_scalar(value: u32) -> bool
     matches!(value, 0..=0xD7FF | 0xE000..=0x10FFFF)
 }
 
+// For each length a function: they differ in the bits of the first byte, the least value and the surrogates, so a common one would
+// take all these as arguments.
 #[tactic(auto, unfolding(definitions::specs::Unicode::utf8_two))]
 fn two_bytes(a: u32, b: u32) -> Option<Scalar>
     requires { (0xC0 ≤ a) × (a < 0xE0) }
@@ -96,7 +98,7 @@ fn utf8_char(a: u32, b: u32, c: u32, d: u32) -> Option<Scalar>
 fn byte_at(text: &[u8], at: usize) -> u32
     ensures { result ≡ get_or text.now at 0 }
 {
-    if at < text.len() { text[at] as u32 } else { 0 }
+    text.get(at).map_or(0, |byte| *byte as u32)
 }
 
 // by four bytes, which is as long as a character can be
@@ -111,7 +113,7 @@ fn char_at(text: &[u8], at: usize) -> Option<Scalar>
     inside(utf8_char(a, b, c, d), text.len() - at)
 }
 
-// an ASCII byte decides alone
+// An ASCII byte decides alone. How far a turn goes depends on what it reads: an iterator would keep the same place, and say no less.
 fn is_sound(text: &[u8]) -> bool
     ensures { result ≡ all_sound (chars utf8 0 text.now) }
 {
