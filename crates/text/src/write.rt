@@ -11,6 +11,8 @@ use crate::utf16::write_utf16;
 use encodings::{Encoding, text_end};
 use refusals::Refusal;
 
+// Each call for C knows its encoding, so it stands inlined there: a function apart would give its answer through memory.
+#[inline(always)]
 pub fn write_text(encoding: Encoding, bytes: &[u8], out: &mut [u8]) -> Result<TextWritten, Refusal>
     ensures { wrote result out.new ≡ text_written out.old (encoding_of encoding) bytes.now }
 {
