@@ -82,7 +82,7 @@ impl DataListBlock {
         list_rest(bytes, header)
     }
 
-    // A list with one length for every fragment
+    // A list with one length for every fragment. Two calls and no third over both: they are given different things, and C has each.
     pub fn write_equal(
         next: u64,
         links: &[u64],

@@ -48,11 +48,7 @@ pub fn size_with_links(fixed: u64, links: u64) -> u64
     requires { fixed < 256 }
     ensures { result ≡ told (fixed + links * 8) }
 {
-    if links <= (18446744073709551615 - fixed) / 8 {
-        fixed + links * 8
-    } else {
-        18446744073709551615
-    }
+    links.saturating_mul(8).saturating_add(fixed)
 }
 
 // The 24 bytes, where there is room for them

@@ -111,7 +111,8 @@ fn short_value(record: &[u8], record_id_size: usize, channel: Channel) -> Option
     Some(near_value(form, field, count))
 }
 
-// It stands inlined in the reading with bounded validity too.
+// The value of a channel in a record, by the short way where a word holds the field. It stands inlined in the reading with bounded
+// validity too.
 #[inline(always)]
 pub fn decode_channel_value(
     record: &[u8],

@@ -18,6 +18,7 @@ fn exact_double(n: i64) -> u64
     f64::to_bits(n as f64)
 }
 
+// One for each sign: a trait of how a field is read and rounded would be longer than the two.
 pub(crate) fn unsigned_double(bit_count: u32, x: u64) -> u64
     requires { Fitting Number.Unsigned bit_count x }
     ensures { result ≡ number_double Number.Unsigned bit_count x }

@@ -12,6 +12,7 @@ const LAST_KEPT: u64 = 1 << (64 - 53);
 const HALF: u64 = LAST_KEPT / 2;
 
 // The place of the highest set bit, counted from 0
+// By the count of leading zeros, as the rules want it, and not by the library's `ilog2`.
 fn highest_set_bit(n: u64) -> u32
     requires { 0 < n }
     ensures { (result < 64) × (2 ^ result ≤ n) × (n < 2 ^ (result + 1)) }

@@ -24,7 +24,7 @@ pub enum Content {
 
 #[derive(Clone, Copy, Debug, PartialEq, Eq)]
 pub enum Form {
-    // whether its bytes are big-endian
+    // and whether its bytes are big-endian: a flag, since that is known only when it runs
     Number(Number, bool),
     Other(Content),
 }

@@ -1,4 +1,5 @@
 // The calls for C, one thin function each; include/mf4.h says what they take, answer and refuse.
+// Calls that are alike stay apart: each is a name that C has.
 #![tactic(auto)]
 
 mod channel_block;

@@ -6,7 +6,8 @@ ghost use Rattle.records.specs.Window.{overwritten, laid, ReadsOn};
 
 use chain::{DataPosition, Place, data_of, next_fragment};
 
-// The bytes over `out` from `at` on, as far as out goes
+// The bytes over `out` from `at` on, as far as out goes. By index: of what an iterator over `out` is given nothing is known here,
+// and the library's copy would be memcpy, which the archive may not import.
 pub fn copy_over(bytes: &[u8], out: &mut [u8], at: usize)
     requires { at ≤ length out.old }
     ensures { out.new ≡ overwritten out.old at bytes.now }

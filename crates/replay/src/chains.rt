@@ -26,44 +26,38 @@ impl<'a> Fetch<'a> {
         })
     }
 
-    // Where opening refuses, the table stays one of zeros, which stands for none
-    fn opened(&self) -> [u64; 1026] {
+    // None where opening refuses, or lists nothing: the table is one of zeros then
+    fn opened(&self) -> Option<[u64; 1026]> {
         let mut table = [0u64; 1026];
         mf4_open_table(self.file, self.start, &mut table);
-        table
+        (table[0] != 0).then_some(table)
     }
 
     // By the table, if there is one, else by the walk
-    fn record(&self, table: &[u64; 1026], out: &mut [u8]) -> Mf4DoneReply {
-        if table[0] == 0 {
-            return mf4_read_record(self.file, self.start, self.number, self.size, out);
+    fn record(&self, table: Option<&[u64; 1026]>, out: &mut [u8]) -> Mf4DoneReply {
+        match table {
+            Some(table) => mf4_table_record(self.file, table, self.number, self.size, out),
+            None => mf4_read_record(self.file, self.start, self.number, self.size, out),
         }
-        mf4_table_record(self.file, table, self.number, self.size, out)
     }
 
-    fn value(&self, table: &[u64; 1026], asked: Field, out: &mut [u8]) -> Mf4ValidValueReply {
-        let group = asked.group;
-        let channel = asked.channel;
-        if table[0] == 0 {
-            return mf4_record_value(
-                self.file,
-                self.start,
-                self.number,
-                self.size,
-                group,
-                channel,
-                out,
-            );
+    fn value(
+        &self,
+        table: Option<&[u64; 1026]>,
+        asked: Field,
+        out: &mut [u8],
+    ) -> Mf4ValidValueReply {
+        let Fetch {
+            file,
+            start,
+            number,
+            size,
+        } = *self;
+        let Field { group, channel } = asked;
+        match table {
+            Some(table) => mf4_table_value(file, table, number, size, group, channel, out),
+            None => mf4_record_value(file, start, number, size, group, channel, out),
         }
-        mf4_table_value(
-            self.file,
-            table,
-            self.number,
-            self.size,
-            group,
-            channel,
-            out,
-        )
     }
 }
 
@@ -75,14 +69,24 @@ pub(crate) enum Asked {
     BoundedValue,
 }
 
-fn same_record(words: &mut Words, by: Fetch, table: &[u64; 1026], out: &mut [u8]) -> Option<()> {
+fn same_record(
+    words: &mut Words,
+    by: Fetch,
+    table: Option<&[u64; 1026]>,
+    out: &mut [u8],
+) -> Option<()> {
     let given = by.record(table, out);
     words.sign(b'=')?;
     (given == reply(words)?).then_some(())
 }
 
 // Without a bound the value is read from the fetched record by a call of its own
-fn same_value(words: &mut Words, by: Fetch, table: &[u64; 1026], out: &mut [u8]) -> Option<()> {
+fn same_value(
+    words: &mut Words,
+    by: Fetch,
+    table: Option<&[u64; 1026]>,
+    out: &mut [u8],
+) -> Option<()> {
     let asked = Field::of(words, false)?;
     let fetched = by.record(table, out);
     if fetched.reply != 0 {
@@ -96,7 +100,7 @@ fn same_value(words: &mut Words, by: Fetch, table: &[u64; 1026], out: &mut [u8])
 fn same_bounded_value(
     words: &mut Words,
     by: Fetch,
-    table: &[u64; 1026],
+    table: Option<&[u64; 1026]>,
     out: &mut [u8],
 ) -> Option<()> {
     let asked = Field::of(words, true)?;
@@ -109,15 +113,12 @@ fn fetched_by(words: &mut Words, asked: Asked, is_by_table: bool) -> Option<()> 
     let mut out = [FILL; 512];
     let by = Fetch::of(words, &mut space)?;
     let lent = words.room(&mut out)?;
-    let table = if is_by_table {
-        by.opened()
-    } else {
-        [0u64; 1026]
-    };
+    let opened = if is_by_table { by.opened() } else { None };
+    let table = opened.as_ref();
     match asked {
-        Asked::Record => same_record(words, by, &table, lent)?,
-        Asked::Value => same_value(words, by, &table, lent)?,
-        Asked::BoundedValue => same_bounded_value(words, by, &table, lent)?,
+        Asked::Record => same_record(words, by, table, lent)?,
+        Asked::Value => same_value(words, by, table, lent)?,
+        Asked::BoundedValue => same_bounded_value(words, by, table, lent)?,
     }
     left(words, &out)?;
     Some(())

@@ -43,7 +43,7 @@ pub(crate) enum Kind {
 impl Kind {
     pub(crate) const COUNT: usize = 21;
 
-    pub(crate) const ALL: [Kind; 21] = [
+    pub(crate) const ALL: [Kind; Kind::COUNT] = [
         Kind::Type,
         Kind::HeaderRead,
         Kind::HeaderWrite,

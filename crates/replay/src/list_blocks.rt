@@ -53,6 +53,8 @@ fn list_due(words: &mut Words) -> Option<Mf4ListReply> {
     })
 }
 
+// The three that read a block, and the two that write a struct, are alike but for the call and the struct: as one they would take
+// both as closures.
 pub(crate) fn read_header(words: &mut Words) -> Option<()> {
     let mut space = [0u8; 512];
     let given = mf4_read_header(words.bytes(&mut space)?);

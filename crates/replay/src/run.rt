@@ -8,7 +8,8 @@ use std::{fs, io};
 // Enough to see what is wrong without drowning in it
 const MOST_SHOWN: u64 = 20;
 
-// The present line of a file, as far as it was read. One that does not fit, or that the file's end cuts off, is lost.
+// The present line of a file, as far as it was read. One that does not fit, or that the file's end cuts off, is lost. Its bytes are
+// kept in place, since no line that is known is longer, and nothing is allocated.
 #[derive(Drop)]
 struct Line {
     number: u64,

@@ -79,7 +79,8 @@ impl<'a> Rows<'a> {
         }
     }
 
-    // With a loop for records of which none can be invalid
+    // With a loop for records of which none can be invalid. Where the word stands and how far it is shifted are handed on as they
+    // are: a struct for the two would be made in one place and taken apart in the next.
     fn kind_row<K: Kind>(&self, at: usize, shift: u32, first: usize, before: Tally) -> Row
         requires { RowAsked self.now.layout.size self.now.layout.slot at shift before first self.now.n × (K.number ≡ self.now.layout.slot.number) × K.has self.now.layout.slot.count }
         ensures { RowTo self.now.layout.size self.now.layout.slot before self.now.records.now first self.now.n result }

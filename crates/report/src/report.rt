@@ -63,7 +63,7 @@ impl Asked {
     }
 }
 
-// The line as it is; the low word of its sum is one word
+// The line as an answer. A function apart, since that the low word of its sum is one word is known of a line that is handed in.
 fn lined(report: Report) -> Result<Report, Refusal>
     ensures { (result ≡ Ok report) × InWords result }
 {

@@ -75,7 +75,7 @@ fn word_of(number: Number, count: u32, x: u64) -> u64
     }
 }
 
-// How far below the field those bytes are read
+// How far below the field the eight bytes of `find_place` are read
 pub fn shift_of(from: u32, slot: Slot) -> u32
     requires { from + slot.count ≤ 64 }
     ensures { result ≡ shift_in slot.big_endian from slot.count }
@@ -86,7 +86,7 @@ pub fn shift_of(from: u32, slot: Slot) -> u32
     from
 }
 
-// The field in them
+// The field in such eight bytes
 pub(crate) fn near_field(word: u64, shift: u32, big_endian: bool, count: u32) -> u64
     requires { (shift < 64) × (1 ≤ count) × (count ≤ 64) }
     ensures { result ≡ bits (number_of (order_meant big_endian) (le 8 word)) shift count }
@@ -98,7 +98,7 @@ pub(crate) fn near_field(word: u64, shift: u32, big_endian: bool, count: u32) ->
     }
 }
 
-// Of the record, which need not have eight bytes; nor need they hold the field
+// The word of the number in a record, by the general way: it need not have eight bytes, nor need eight hold the field
 pub fn far_word(record: &[u8], slot: Slot) -> u64
     requires { Within (length «record».now) slot }
     ensures { result ≡ slot_word slot «record».now }

@@ -32,6 +32,7 @@ pub(crate) fn places(table: &Table) -> &[[u64; 2]]
     table[2..].as_chunks::<2>().0
 }
 
+// Two readers of a word, since an address and a position are two kinds of number.
 pub(crate) fn address_at(table: &Table, place: u64) -> FileAddress
     requires { place < table_limit }
     ensures { result.0 ≡ address_at table.now place }

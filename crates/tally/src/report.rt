@@ -78,7 +78,7 @@ pub fn report_of(number: Number, tally: Tally) -> Report
     }
 }
 
-// None of the records has a value.
+// None of the records has a value. This line and the next say two things, and differ in more than the count that is not 0.
 pub fn valueless_report(records: u64) -> Report
     ensures { (xs : List (Reply ValidValue)) → length xs ≡ records → count has_no_value xs ≡ records → report_meant result ≡ report_of xs }
 {

@@ -164,7 +164,8 @@ pub fn counted(number: Number, tally: Tally, word: u64) -> Tally
     with_mark(number, tally, word)
 }
 
-// Whether an integer takes the place of no extreme
+// Whether an integer takes the place of no extreme. The sign is a flag here and in the two below, which docs/CALLS.md names so;
+// `Integer<SIGNED>` of `slots` hands on a constant.
 pub fn is_inner(signed: bool, tally: Tally, word: u64) -> bool
     ensures { result ≡ true → Inner (integer_kind signed) tally word }
 {

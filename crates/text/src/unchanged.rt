@@ -8,6 +8,8 @@ ghost use Rattle.text.specs.Parts.{as_is};
 use crate::answer::TextWritten;
 use refusals::Refusal;
 
+// By index: of what an iterator over `out` is given nothing is known here, and the library's copy would be memcpy, which the
+// archive may not import.
 fn copy(from: &[u8], out: &mut [u8])
     requires { length from.now ≤ length out.old }
     ensures { out.new ≡ sets out.old 0 from.now }

@@ -108,6 +108,7 @@ fn put_utf16(text: &[u8], big_endian: bool, out: &mut [u8])
     }
 }
 
+// The byte order is a flag, and no type parameter: of that the archive would hold the loops twice.
 pub fn write_utf16(text: &[u8], big_endian: bool, out: &mut [u8]) -> Result<TextWritten, Refusal>
     ensures { wrote result out.new ≡ written_text out.old (whole_text (utf16 (order_meant big_endian)) text.now) }
 {
