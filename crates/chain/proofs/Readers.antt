@@ -9,7 +9,7 @@ use Rattle.definitions.proofs.Replies.{not_answered}
 use Rattle.refusals.specs.declared.Refusal.{Refusal}
 use Rattle.chain.specs.Walk.{At, Walked}
 use Rattle.chain.specs.Stepped.{Stepped}
-use Rattle.chain.specs.declared.walk.Fragment.{Fragment}
+use Rattle.chain.specs.declared.walk.Step.{Step}
 use Rattle.places.specs.declared.place.Place.{Place}
 use Rattle.places.proofs.Answers.{answered}
 use Rattle.chain.proofs.Begun.{Begins, from_begin}
@@ -29,6 +29,6 @@ module _ (id f : List ℕ) (p : Place) (w : Walked id f p) where
   all_met e = answered (sym e ∙ w.whole)
 
   -- no step is refused
-  pub step_answers : (r : Result (Option Fragment) Refusal) (q : Place) → Stepped id f w.start p w.before r q → IsOk r
+  pub step_answers : (r : Result (Option Step) Refusal) (q : Place) → Stepped id f w.start p w.before r q → IsOk r
   step_answers (Ok x) q s = refl
   step_answers (Err why) q s = not_refused _ _ s

@@ -4,7 +4,7 @@ ghost use Rattle.definitions.specs.Chain.{file_limit, length_by, data_length};
 ghost use Rattle.chain.specs.Meaning.{chain_reply};
 ghost use Rattle.chain.specs.Located.{Locates};
 
-use crate::walk::next_fragment;
+use crate::walk::{Step, next_step};
 use places::{DataBlock, DataPosition, FILE_LIMIT, FileAddress, Place};
 use refusals::Refusal;
 
@@ -30,11 +30,13 @@ fn locate(
 {
     let mut place = Place::start(start);
     let mut kept = place;
-    while let Some(fragment) = next_fragment(file, &mut place, id)? {
-        let first = fragment.before.position;
-        let end = place.position;
-        if wanted.stands_in(first, end) {
-            kept = fragment.before;
+    while let Some(step) = next_step(file, &mut place, id)? {
+        if let Step::OverFragment(fragment) = step {
+            let first = fragment.before.position;
+            let end = place.position;
+            if wanted.stands_in(first, end) {
+                kept = fragment.before;
+            }
         }
     }
     Ok(Located {

@@ -4,7 +4,7 @@ ghost use Rattle.definitions.specs.Chain.{joined};
 ghost use Rattle.chain.specs.Walk.{Walked};
 ghost use Rattle.records.specs.Window.{overwritten, laid, ReadsOn};
 
-use chain::{DataPosition, Place, data_of, next_fragment};
+use chain::{DataPosition, Place, Step, data_of, next_step};
 
 // The bytes over `out` from `at` on, as far as out goes. By index: of what an iterator over `out` is given nothing is known here,
 // and the library's copy would be memcpy, which the archive may not import.
@@ -43,15 +43,17 @@ pub fn window(file: &[u8], begin: Place, id: &[u8; 4], from: DataPosition, out: 
     ensures { (w : Walked id.now file.now begin) → (out.new ≡ laid out.old from.0 0 (joined file.now w.blocks)) × ReadsOn id.now file.now w.blocks (from.0 + length out.old) result }
 {
     let mut place = begin;
-    while let Some(fragment) = next_fragment(file, &mut place, id).unwrap() {
-        lay(
-            data_of(file, fragment.block),
-            fragment.before.position,
-            from,
-            out,
-        );
-        if place.position.is_behind(from, out.len() as u64) {
-            return fragment.before;
+    while let Some(step) = next_step(file, &mut place, id).unwrap() {
+        if let Step::OverFragment(fragment) = step {
+            lay(
+                data_of(file, fragment.block),
+                fragment.before.position,
+                from,
+                out,
+            );
+            if place.position.is_behind(from, out.len() as u64) {
+                return fragment.before;
+            }
         }
     }
     place

@@ -7,7 +7,7 @@ ghost use Rattle.report.specs.Visits.{seen, visited, few_records};
 
 use crate::feed::feed;
 use crate::layout::Layout;
-use chain::{DataBlock, Place, data_of, next_fragment};
+use chain::{DataBlock, Place, Step, data_of, next_step};
 use tally::{Tally, empty_tally};
 
 // The buffer, of one record, takes those that are cut. An accepted chain refuses nothing on the way, so each step may be
@@ -19,11 +19,13 @@ pub(crate) fn tally_records(file: &[u8], begin: Place, layout: Layout, buffer: &
     let mut place = begin;
     let mut tally = empty_tally();
     let mut fill = 0;
-    while let Some(fragment) = next_fragment(file, &mut place, &DataBlock::ID).unwrap() {
-        let data = data_of(file, fragment.block);
-        let fed = feed(data, layout, tally, buffer, fill);
-        tally = fed.tally;
-        fill = fed.fill;
+    while let Some(step) = next_step(file, &mut place, &DataBlock::ID).unwrap() {
+        if let Step::OverFragment(fragment) = step {
+            let data = data_of(file, fragment.block);
+            let fed = feed(data, layout, tally, buffer, fill);
+            tally = fed.tally;
+            fill = fed.fill;
+        }
     }
     tally
 }

@@ -7,7 +7,7 @@ ghost use Rattle.table.specs.Listed.{Lists, added_within, AddsWithin};
 ghost use Rattle.places.specs.Meaning.{block_meant};
 
 use crate::layout::{TABLE_LIMIT, Table, add};
-use chain::{DataBlock, FileAddress, Place, next_fragment};
+use chain::{DataBlock, FileAddress, Place, Step, next_step};
 use places::FILE_LIMIT;
 use refusals::Refusal;
 
@@ -28,9 +28,11 @@ fn list_chain(file: &[u8], start: FileAddress, most: u64, table: &mut Table) -> 
     ensures { Lists result file.now start.0 most table.old table.new }
 {
     let mut place = Place::start(start);
-    while let Some(fragment) = next_fragment(file, &mut place, &DataBlock::ID)? {
-        let before = fragment.before;
-        add_within(table, before.fragments + before.index, most, fragment.block);
+    while let Some(step) = next_step(file, &mut place, &DataBlock::ID)? {
+        if let Step::OverFragment(fragment) = step {
+            let before = fragment.before;
+            add_within(table, before.fragments + before.index, most, fragment.block);
+        }
     }
     Ok(place.fragments + place.index)
 }

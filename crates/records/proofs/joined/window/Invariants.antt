@@ -8,10 +8,10 @@ use Rattle.chain.specs.Walk.{Walked, turns_left}
 use Rattle.records.specs.Window.{laid}
 use Rattle.records.proofs.joined.window.Given as goal
 
-abbrev pub invariant-loop-fragment : goal.invariant-loop-fragment
-invariant-loop-fragment l =
+abbrev pub invariant-loop-step : goal.invariant-loop-step
+invariant-loop-step l =
     (l.place.position.0 ≤ l.from.0 + length l.initial.out)
     × ((w : Walked l.id l.file l.fn.begin) → (v : Walked l.id l.file l.place) × (v.blocks ≡ w.blocks) × (l.out ≡ laid l.initial.out l.from.0 0 (joined l.file v.before)))
 
-abbrev pub decreases-loop-fragment : goal.decreases-loop-fragment
-decreases-loop-fragment l = turns_left l.place
+abbrev pub decreases-loop-step : goal.decreases-loop-step
+decreases-loop-step l = turns_left l.place

@@ -5,9 +5,9 @@ use Rattle.chain.specs.Walk.{At, turns_left}
 use Rattle.table.specs.Listed.{Filled}
 use Rattle.table.proofs.opening.list_chain.Given as goal
 
-abbrev pub invariant-loop-fragment : goal.invariant-loop-fragment
-invariant-loop-fragment l =
+abbrev pub invariant-loop-step : goal.invariant-loop-step
+invariant-loop-step l =
     (before : List Block) × At id_dt l.file l.fn.start.0 l.place before × Filled l.most before l.initial.table l.table
 
-abbrev pub decreases-loop-fragment : goal.decreases-loop-fragment
-decreases-loop-fragment l = turns_left l.place
+abbrev pub decreases-loop-step : goal.decreases-loop-step
+decreases-loop-step l = turns_left l.place
