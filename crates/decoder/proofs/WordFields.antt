@@ -7,22 +7,24 @@ use Prim.Native.Nat.{ℕ, ◌+◌, ◌*◌, ◌/◌, ◌%◌, ◌^◌, ◌≤◌
 use native.Mathlib.Omega.{arith}
 use lib.ListN.{length}
 use lib.Dec.{ltb, eqb}
-use borrow.Author.Tests.{le-ltb, ne_eqb}
+use borrow.Author.Tests.{le-ltb, eq-eqb, ne_eqb}
 use Rattle.definitions.specs.Reply.{answer, refusal}
 use Rattle.definitions.specs.Bytes.{Order, le_of, le, span, bits, bytes_for, number_of, field_at}
 use Rattle.definitions.specs.Ieee754.{nan_pattern}
-use Rattle.definitions.specs.Channel.{Channel, Value, variable_length, bit_span, float_bits, is_number, is_integer, is_floating, value_by, value_of, double_in, record_double}
+use Rattle.definitions.specs.DataType.{Kind}
+use Rattle.definitions.specs.Channel.{Channel, Value, variable_length, bit_span, span_in, float_bits, is_number, is_integer, is_floating, value_by, value_of, double_in, record_double}
 use Rattle.fields.specs.Form.{order_meant, form_of, number_kind, number_value}
 use Rattle.fields.specs.Known.{value_at, FieldTold, Fitting}
 use Rattle.fields.specs.declared.form.Number as numbers
 use Rattle.fields.specs.declared.form.Number.TheVariants.{Float}
-use Rattle.fields.specs.declared.form.Form.TheVariants.{Number}
+use Rattle.fields.specs.declared.form.Form.{Form}
+use Rattle.fields.specs.declared.form.Form.TheVariants.{Number, Other}
 use Rattle.decoder.specs.Meaning.{number_double}
 use Rattle.decoder.specs.Known.{Held, HeldOf, Near, Sized, InWord}
-use Rattle.fields.proofs.Forms.{number_kinds, number_span}
-use Rattle.fields.proofs.Fields.{no_float_width, found}
+use Rattle.fields.proofs.Forms.{number_kinds, number_span, is_number_law}
+use Rattle.fields.proofs.Fields.{no_bits, no_float_width, found}
 use Rattle.fields.proofs.Values.{looked_for, valued}
-use Rattle.decoder.proofs.Doubles.{double_found, double_fixed}
+use Rattle.decoder.proofs.Doubles.{double_found, double_fixed, double_other, double_number}
 use Rattle.bit_fields.proofs.Bits.{field_below}
 use Rattle.words.proofs.Numbers.{Bytes}
 use Rattle.words.proofs.Loads.{in_word}
@@ -147,3 +149,19 @@ module _ (s : List ℕ) (id_size : ℕ) (c : Channel) {word from : ℕ} (near : 
       go : (t : Bool) → not (eqb c.bit_count 32 || eqb c.bit_count 64) ≡ t → r ≡ (if t then nan_pattern else float_bits c.bit_count x) → r ≡ record_double s id_size c
       go true w eq = eq ∙ sym (ap double_in (near_refused s id_size c near Float big e w)) ∙ double_fixed s id_size c near.fixed
       go false w eq = number_double_law Float e w eq
+
+-- ---- in no word
+
+-- a number that no field can be has no double, and what is no number has none either
+module _ (s : List ℕ) (id_size : ℕ) (c : Channel) (fixed : variable_length c ≡ false) where
+  by_refusal : ((k : Kind) (at n : ℕ) → is_number k ≡ true → value_by k at n s c ≡ refusal 18 0) → nan_pattern ≡ record_double s id_size c
+  by_refusal h = go (form_of c.data_type) refl
+    where
+      go : (f : Form) → form_of c.data_type ≡ f → nan_pattern ≡ record_double s id_size c
+      go (Number number big) e =
+          double_number s id_size c fixed e
+          (sym (ap double_in (h (number_kind number) (id_size + c.byte_offset) (span_in false (number_kind number) (length s) c) (is_number_law number))))
+      go (Other content) e = double_other s id_size c fixed e
+
+  pub without_bits : c.bit_count ≡ 0 → nan_pattern ≡ record_double s id_size c
+  without_bits z = by_refusal (λ k at n e. no_bits k at n s c (rw (e, eq-eqb _ _ z)))

@@ -96,6 +96,10 @@ pub fn decode_f64_from_record(record: &[u8], record_id_size: usize, channel: Cha
         return NAN;
     }
     let Some(field) = channel_word(record, record_id_size, channel) else {
+        // asked here, since the general way would take three times as long to say so
+        if channel.bit_count == 0 {
+            return NAN;
+        }
         return far_double(
             &record[0..],
             record_id_size,

@@ -15,3 +15,4 @@ pub use double::decode_f64_from_record;
 pub use fields::{
     Channel, DecodedChannelValue, DecodedValue, Group, check_bounded_validity, check_value_validity,
 };
+pub use refusals::Refusal;
