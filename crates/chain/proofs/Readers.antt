@@ -8,7 +8,8 @@ use Rattle.definitions.specs.Chain.{Block, chain_of}
 use Rattle.definitions.proofs.Replies.{not_answered}
 use Rattle.refusals.specs.declared.Refusal.{Refusal}
 use Rattle.chain.specs.Walk.{At, Walked}
-use Rattle.chain.specs.Stepped.{Stepped}
+use Rattle.chain.specs.Stepped.{Stepped, OneStep}
+use Rattle.chain.specs.declared.walk.Fragment.{Fragment}
 use Rattle.chain.specs.declared.walk.Step.{Step}
 use Rattle.places.specs.declared.place.Place.{Place}
 use Rattle.places.proofs.Answers.{answered}
@@ -28,7 +29,12 @@ module _ (id f : List ℕ) (p : Place) (w : Walked id f p) where
   pub all_met : chain_of id f w.start ≡ answer w.before → w.before ≡ w.blocks
   all_met e = answered (sym e ∙ w.whole)
 
-  -- no step is refused
-  pub step_answers : (r : Result (Option Step) Refusal) (q : Place) → Stepped id f w.start p w.before r q → IsOk r
+  -- no walk to the next fragment is refused
+  pub step_answers : (r : Result (Option Fragment) Refusal) (q : Place) → Stepped id f w.start p w.before r q → IsOk r
   step_answers (Ok x) q s = refl
   step_answers (Err why) q s = not_refused _ _ s
+
+  -- nor is a step
+  pub one_step_answers : (r : Result (Option Step) Refusal) (q : Place) → OneStep id f w.start p w.before r q → IsOk r
+  one_step_answers (Ok x) q s = refl
+  one_step_answers (Err why) q s = not_refused _ _ s

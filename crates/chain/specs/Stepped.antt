@@ -1,4 +1,4 @@
--- What a step of a walk may answer.
+-- What a step of a walk may answer, and a walk to the next fragment.
 use Rattle.std.specs.Prelude.{◌≡◌, ℕ, ◌+◌, ◌≤◌, ◌<◌, List, [], ◌∷◌, ◌++◌, length, Result, Ok, Err, Option, Some, None}
 use Rattle.definitions.specs.Reply.{answer}
 use Rattle.definitions.specs.Chain.{Block, chain_of}
@@ -26,9 +26,15 @@ pub record Entered (id f : List ℕ) (start : ℕ) (p : Place) (before : List Bl
   pub there : At id f start q before
   pub nearer : turns_left q < turns_left p
 
--- from p, behind the blocks `before` of the chain from `start` on, to q
-abbrev pub Stepped : List ℕ → List ℕ → ℕ → Place → List Block → Result (Option Step) Refusal → Place → Type 0
+-- to the next fragment, over the lists that end before it: from p, behind the blocks `before` of the chain from `start` on, to q
+abbrev pub Stepped : List ℕ → List ℕ → ℕ → Place → List Block → Result (Option Fragment) Refusal → Place → Type 0
 Stepped id f start p before (Err r) q = chain_of id f start ≡ refused r
 Stepped id f start p before (Ok None) q = (chain_of id f start ≡ answer before) × At id f start q before
-Stepped id f start p before (Ok (Some (OverFragment x))) q = Met id f start p before x q
-Stepped id f start p before (Ok (Some IntoList)) q = Entered id f start p before q
+Stepped id f start p before (Ok (Some x)) q = Met id f start p before x q
+
+-- by one step, over a fragment or into a list, from p to q
+abbrev pub OneStep : List ℕ → List ℕ → ℕ → Place → List Block → Result (Option Step) Refusal → Place → Type 0
+OneStep id f start p before (Err r) q = chain_of id f start ≡ refused r
+OneStep id f start p before (Ok None) q = (chain_of id f start ≡ answer before) × At id f start q before
+OneStep id f start p before (Ok (Some (OverFragment x))) q = Met id f start p before x q
+OneStep id f start p before (Ok (Some IntoList)) q = Entered id f start p before q

@@ -1,8 +1,9 @@
-// One step of a walk along a chain: over the next fragment of a list, or behind its last into the next list.
+// One step of a walk along a chain: over the next fragment of a list, or behind its last into the next list; and a walk to the
+// next fragment.
 ghost use Rattle.std.specs.Prelude.{ℕ, List};
 ghost use Rattle.definitions.specs.Chain.{Block};
 ghost use Rattle.chain.specs.Walk.{At};
-ghost use Rattle.chain.specs.Stepped.{Stepped};
+ghost use Rattle.chain.specs.Stepped.{Stepped, OneStep};
 
 use places::{DataBlock, Place};
 use refusals::Refusal;
@@ -33,7 +34,7 @@ pub enum Step {
 #[inline(always)]
 pub fn next_step(file: &[u8], place: &mut Place, id: &[u8; 4]) -> Result<Option<Step>, Refusal>
     requires { (start : ℕ) × (before : List Block) × At id.now file.now start place.old before }
-    ensures { (start : ℕ) (before : List Block) → At id.now file.now start place.old before → Stepped id.now file.now start place.old before result place.new }
+    ensures { (start : ℕ) (before : List Block) → At id.now file.now start place.old before → OneStep id.now file.now start place.old before result place.new }
 {
     if place.index < place.list.links {
         let before = *place;
@@ -48,4 +49,24 @@ pub fn next_step(file: &[u8], place: &mut Place, id: &[u8; 4]) -> Result<Option<
         }
         Next::End(_) => Ok(None),
     }
+}
+
+// The fragment behind the place, which then is behind that fragment; none behind the last one. The lists that end before it are
+// gone over here, for whoever wants fragments alone. The readers in this library are loops over `next_step`, for the reason that
+// stands there.
+#[inline(always)]
+pub fn next_fragment(
+    file: &[u8],
+    place: &mut Place,
+    id: &[u8; 4],
+) -> Result<Option<Fragment>, Refusal>
+    requires { (start : ℕ) × (before : List Block) × At id.now file.now start place.old before }
+    ensures { (start : ℕ) (before : List Block) → At id.now file.now start place.old before → Stepped id.now file.now start place.old before result place.new }
+{
+    while let Some(step) = next_step(file, place, id)? {
+        if let Step::OverFragment(fragment) = step {
+            return Ok(Some(fragment));
+        }
+    }
+    Ok(None)
 }

@@ -9,7 +9,7 @@ use lib.ListN.{length}
 use borrow.Author.Tests.{leb-true, leb-false}
 use Rattle.definitions.specs.Chain.{Block, joined}
 use Rattle.records.specs.Window.{laid}
-use Rattle.chain.proofs.Readers.{blocks_begin, still, step_answers, all_met}
+use Rattle.chain.proofs.Readers.{blocks_begin, still, one_step_answers, all_met}
 use Rattle.records.proofs.Laying.{lay_start, lay_turn, lay_full}
 use Rattle.records.proofs.joined.window.Goals as goal
 
@@ -25,7 +25,7 @@ next_step-requires c = let v = (c.loop-step.invariant.1 c.requires.0).0 in (v.st
 pub unwrap-requires : goal.unwrap-requires
 unwrap-requires c =
     let v = (c.loop-step.invariant.1 c.requires.0).0 in
-    step_answers _ _ _ v _ _ (c.next_step.ensures v.start v.before v.at)
+    one_step_answers _ _ _ v _ _ (c.next_step.ensures v.start v.before v.at)
 
 pub data_of-requires : goal.data_of-requires
 data_of-requires c =

@@ -8,7 +8,7 @@ use native.Mathlib.Omega.{arith}
 use lib.ListN.{length}
 use Rattle.definitions.specs.Chain.{Block, id_dt, joined}
 use Rattle.places.specs.Meaning.{block_meant}
-use Rattle.chain.proofs.Readers.{still, step_answers, all_met}
+use Rattle.chain.proofs.Readers.{still, one_step_answers, all_met}
 use Rattle.tally.specs.declared.tally.Tally.{Tally}
 use Rattle.report.specs.Visits.{seen, visited}
 use Rattle.report.proofs.Seen.{held_end}
@@ -33,7 +33,7 @@ next_step-requires c = let v = (c.loop-step.invariant.3 c.requires.0).0 in (v.st
 pub unwrap-requires : goal.unwrap-requires
 unwrap-requires c =
     let v = (c.loop-step.invariant.3 c.requires.0).0 in
-    step_answers _ _ _ v _ _ (c.next_step.ensures v.start v.before v.at)
+    one_step_answers _ _ _ v _ _ (c.next_step.ensures v.start v.before v.at)
 
 pub data_of-data-requires : goal.data_of-data-requires
 data_of-data-requires c = (rw (c.unwrap.ensures ∙ ap Ok (c.in-Some.is ∙ ap Some c.in-OverFragment.is)) at c.next_step.ensures _ _ (c.loop-step.invariant.3 c.requires.0).0.at).inside
